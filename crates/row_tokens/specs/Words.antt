@@ -1,0 +1,176 @@
+-- The tokens of a text, by recursion over its bytes.
+use Rattle.std.specs.Prelude.{ℕ, zero, suc, ◌+◌, ◌-◌, ◌*◌, ◌^◌, ◌==◌, nat_lt, Bool, true, false, not, ◌&&◌, ◌||◌, if◌then◌else◌, List, [], ◌∷◌, ◌++◌, length, map, drop, take, Option, Some, None, codes}
+use Rattle.std.specs.Str.{bytes_eq}
+use Rattle.std.specs.Str.Parse.{digits_value}
+use Rattle.std.specs.Char.{to_ascii_lowercase}
+use Rattle.row_tokens.specs.declared.token.Kind.{Kind}
+use Rattle.row_tokens.specs.declared.token.Kind.TheVariants as k
+
+-- a token without its place in memory
+pub record Word : Type 0 where
+  pub kind : Kind
+  -- the bytes of the source that it takes
+  pub bytes : List ℕ
+  -- of a number its value, else 0
+  pub number : ℕ
+  -- the byte at which it begins
+  pub at : ℕ
+
+-- ---- bytes
+
+-- space, tab, CR and LF
+abbrev pub is_space : ℕ → Bool
+is_space b = (b == 32) || (b == 9) || (b == 13) || (b == 10)
+
+-- an ASCII letter or an underscore
+abbrev pub is_letter : ℕ → Bool
+is_letter b = (nat_lt 64 b && nat_lt b 91) || (nat_lt 96 b && nat_lt b 123) || (b == 95)
+
+abbrev pub is_digit : ℕ → Bool
+is_digit b = nat_lt 47 b && nat_lt b 58
+
+abbrev pub goes_on : ℕ → Bool
+goes_on b = is_letter b || is_digit b
+
+-- the bytes at the front that pass a test
+abbrev pub front_run : (ℕ → Bool) → List ℕ → List ℕ
+front_run p [] = []
+front_run p (b ∷ bs) = if p b then b ∷ front_run p bs else []
+
+-- the first byte passes a test
+abbrev pub begins : (ℕ → Bool) → List ℕ → Bool
+begins p [] = false
+begins p (b ∷ bs) = p b
+
+-- ---- words
+
+-- an ASCII letter in lower case, any other byte as it is
+abbrev pub lower : ℕ → ℕ
+lower b = if nat_lt 64 b && nat_lt b 91 then b + 32 else b
+
+abbrev pub folded : List ℕ → List ℕ
+folded word = map lower word
+
+-- the words that are more than names
+abbrev pub keywords : List (List ℕ × Kind)
+keywords =
+    (codes "select", k.Select) ∷ (codes "from", k.From) ∷ (codes "on", k.On) ∷ (codes "to", k.To) ∷ (codes "using", k.Using)
+    ∷ (codes "current_user", k.CurrentUser) ∷ (codes "true", k.True) ∷ (codes "false", k.False) ∷ (codes "null", k.Null)
+    ∷ (codes "create", k.Create) ∷ (codes "role", k.Role) ∷ (codes "table", k.Table) ∷ (codes "policy", k.Policy)
+    ∷ (codes "alter", k.Alter) ∷ (codes "owner", k.Owner) ∷ (codes "enable", k.Enable) ∷ (codes "row", k.Row)
+    ∷ (codes "level", k.Level) ∷ (codes "security", k.Security) ∷ (codes "grant", k.Grant)
+    ∷ (codes "bigint", k.Bigint) ∷ (codes "text", k.Text) ∷ []
+
+-- the reserved words that no rule uses
+abbrev pub reserved : List (List ℕ)
+reserved =
+    codes "all" ∷ codes "and" ∷ codes "asc" ∷ codes "as" ∷ codes "between" ∷ codes "by" ∷ codes "case" ∷ codes "cast" ∷ codes "cross"
+    ∷ codes "desc" ∷ codes "distinct" ∷ codes "else" ∷ codes "end" ∷ codes "except" ∷ codes "exists" ∷ codes "fetch" ∷ codes "for"
+    ∷ codes "full" ∷ codes "group" ∷ codes "having" ∷ codes "in" ∷ codes "inner" ∷ codes "intersect" ∷ codes "is" ∷ codes "join"
+    ∷ codes "left" ∷ codes "like" ∷ codes "limit" ∷ codes "natural" ∷ codes "not" ∷ codes "offset" ∷ codes "or" ∷ codes "order"
+    ∷ codes "outer" ∷ codes "right" ∷ codes "then" ∷ codes "union" ∷ codes "when" ∷ codes "where" ∷ codes "window" ∷ codes "with" ∷ []
+
+abbrev pub among : List ℕ → List (List ℕ) → Bool
+among w [] = false
+among w (x ∷ xs) = bytes_eq w x || among w xs
+
+abbrev pub keyword_in : List (List ℕ × Kind) → Kind → List ℕ → Kind
+keyword_in [] other w = other
+keyword_in (e ∷ es) other w = if bytes_eq w e.0 then e.1 else keyword_in es other w
+
+-- the kind of a word, folded
+unfoldable pub kind_of_word : List ℕ → Kind
+kind_of_word w = keyword_in keywords (if among w reserved then k.Reserved else k.Name) w
+
+-- ---- one token
+
+-- what stands at the front of a text: its kind, how many bytes it takes, and its number
+pub record Lexeme : Type 0 where
+  pub kind : Kind
+  pub size : ℕ
+  pub number : ℕ
+
+abbrev pub bad : Lexeme
+bad = record { kind = k.Bad; size = 0; number = 0 }
+
+abbrev pub plain : Kind → ℕ → Lexeme
+plain kind size = record { kind = kind; size = size; number = 0 }
+
+-- a name has at most 63 bytes
+abbrev pub word_lexeme : List ℕ → Lexeme
+word_lexeme w = if nat_lt 63 (length w) then bad else plain (kind_of_word (folded w)) (length w)
+
+-- a number, and whether a letter follows; at most 9223372036854775808
+abbrev pub number_lexeme : List ℕ → Bool → Lexeme
+number_lexeme ds follows =
+    if follows then bad
+    else if nat_lt (digits_value 10 ds) (2 ^ 63) then record { kind = k.Number; size = length ds; number = digits_value 10 ds }
+    else if digits_value 10 ds == (2 ^ 63) then record { kind = k.Greatest; size = length ds; number = digits_value 10 ds }
+    else bad
+
+abbrev pub one_more : Option ℕ → Option ℕ
+one_more None = None
+one_more (Some n) = Some (n + 1)
+
+-- how many bytes a text takes behind its opening quote, the closing one with them: the first quote that is not doubled
+abbrev pub closing : List ℕ → Option ℕ
+closing [] = None
+closing (b ∷ []) = if b == 39 then Some 1 else None
+closing (b ∷ c ∷ bs) = if b == 39 then (if c == 39 then one_more (one_more (closing bs)) else Some 1) else one_more (closing (c ∷ bs))
+
+-- the value \N stands for null, so no text in quotes has it
+abbrev pub quoted_lexeme : List ℕ → Option ℕ → Lexeme
+quoted_lexeme bs None = bad
+quoted_lexeme bs (Some n) = if bytes_eq (take n bs) (92 ∷ 78 ∷ 39 ∷ []) then bad else plain k.Quoted (n + 1)
+
+-- the signs, the longest first; -- and /* would begin a comment
+abbrev pub sign_lexeme : ℕ → List ℕ → Lexeme
+sign_lexeme b bs =
+    if b == 40 then plain k.Open 1
+    else if b == 41 then plain k.Close 1
+    else if b == 44 then plain k.Comma 1
+    else if b == 46 then plain k.Dot 1
+    else if b == 59 then plain k.Semicolon 1
+    else if b == 61 then plain k.Equal 1
+    else if b == 42 || b == 37 || b == 43 then plain k.Sign 1
+    else if b == 45 then (if begins (λ c. c == 45) bs then bad else plain k.Minus 1)
+    else if b == 47 then (if begins (λ c. c == 42) bs then bad else plain k.Sign 1)
+    else if b == 60 then (if begins (λ c. c == 61 || c == 62) bs then plain k.Sign 2 else plain k.Sign 1)
+    else if b == 62 then (if begins (λ c. c == 61) bs then plain k.Sign 2 else plain k.Sign 1)
+    else bad
+
+-- the token at the front of a text whose first byte is no white space
+abbrev pub lexeme : ℕ → List ℕ → Lexeme
+lexeme b bs =
+    if is_letter b then word_lexeme (b ∷ front_run goes_on bs)
+    else if is_digit b then number_lexeme (b ∷ front_run is_digit bs) (begins is_letter (drop (length (front_run is_digit bs)) bs))
+    else if b == 39 then quoted_lexeme bs (closing bs)
+    else sign_lexeme b bs
+
+-- ---- the tokens
+
+abbrev pub word_at : ℕ → Lexeme → List ℕ → Word
+word_at at l text = record { kind = l.kind; bytes = take l.size text; number = l.number; at = at }
+
+-- The tokens of the text from a place on, of whose bytes the first belong to the token before. A bad token is the last.
+unfoldable pub words_from : ℕ → ℕ → List ℕ → List Word
+words_from skip at [] = []
+words_from (suc n) at (b ∷ bs) = words_from n (at + 1) bs
+words_from zero at (b ∷ bs) =
+    if is_space b then words_from zero (at + 1) bs
+    else word_at at (lexeme b bs) (b ∷ bs)
+      ∷ (if (lexeme b bs).size == 0 then [] else words_from ((lexeme b bs).size - 1) (at + 1) bs)
+
+abbrev pub words : List ℕ → List Word
+words text = words_from 0 0 text
+
+-- ---- what tokens stand for
+
+-- the value of a text in quotes: without them, and each doubled quote once
+abbrev pub undoubled : List ℕ → List ℕ
+undoubled [] = []
+undoubled (b ∷ []) = b ∷ []
+undoubled (b ∷ c ∷ bs) = if (b == 39) && (c == 39) then 39 ∷ undoubled bs else b ∷ undoubled (c ∷ bs)
+
+abbrev pub quoted_value : List ℕ → List ℕ
+quoted_value bytes = undoubled (take (length bytes - 2) (drop 1 bytes))

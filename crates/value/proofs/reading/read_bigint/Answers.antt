@@ -1,0 +1,7 @@
+use Rattle.std.proofs.Common.{sym, ◌∙◌, ap, rules}
+use Rattle.value.specs.Texts.{is_spelled}
+use Rattle.value.proofs.Spelling.{parsed_err}
+use Rattle.value.proofs.reading.read_bigint.Goals as goal
+
+pub returns-in-Err : goal.returns-in-Err
+returns-in-Err c = parsed_err c.args.text.now (search rules) c.in-Err.ensures.value.0

@@ -1,0 +1,34 @@
+-- A value without its place in memory.
+use Rattle.std.specs.Prelude.{ℕ, ℤ, Bool, List, map}
+use Rattle.std.specs.Cow.{cow_str_bytes}
+use Rattle.value.specs.declared.types.Value.{Value}
+use Rattle.value.specs.declared.types.Value.TheVariants as owned
+use Rattle.value.specs.declared.types.Val.{Val}
+use Rattle.value.specs.declared.types.Val.TheVariants as lent
+
+-- null, a whole number, the bytes of a text, or a truth value
+pub data Datum : Type 0 where
+  null : Datum
+  int : ℤ → Datum
+  text : List ℕ → Datum
+  bool : Bool → Datum
+
+abbrev pub Row : Type 0
+Row = List Datum
+
+-- what a value of the program is
+abbrev pub datum : {A : Type 0} → Value A → Datum
+datum owned.Null = null
+datum (owned.Int n) = int n
+datum (owned.Text s) = text s
+datum (owned.Bool b) = bool b
+
+-- what a lent value is
+abbrev pub seen : {A : Type 0} → Val A → Datum
+seen lent.Null = null
+seen (lent.Int n) = int n
+seen (lent.Text s) = text (cow_str_bytes s)
+seen (lent.Bool b) = bool b
+
+abbrev pub row_of : {A : Type 0} → List (Value A) → Row
+row_of values = map datum values

@@ -1,0 +1,5 @@
+pub mod Datum
+pub mod Orders
+pub mod Exact
+pub mod Texts
+pub mod Codes

@@ -1,0 +1,59 @@
+-- The texts of values.
+use Rattle.std.specs.Fmt.{signed_decimal}
+use Rattle.std.specs.Prelude.{◌≡◌, ℕ, ℤ, pos, neg_ℤ, Bool, true, false, not, ◌&&◌, ◌==◌, if◌then◌else◌, List, [], ◌∷◌, drop, codes, Result, Ok, Err}
+use Rattle.std.specs.List.{list_all}
+use Rattle.std.specs.Str.{bytes_eq}
+use Rattle.std.specs.Char.{is_ascii_digit}
+use Rattle.std.specs.Str.Parse.{digits_value}
+use Rattle.value.specs.declared.types.Kind.{Kind}
+use Rattle.value.specs.declared.types.Kind.TheVariants.{BadText}
+use Rattle.value.specs.Exact.{in_range, is_bigint, as_number}
+use Rattle.value.specs.Datum.{Datum, text, bool, datum}
+use Rattle.value.specs.declared.types.ColType.{ColType}
+use Rattle.value.specs.declared.types.ColType.TheVariants as types
+use Rattle.value.specs.declared.types.Value.{Value}
+use Rattle.value.specs.declared.reading.ReadError.{ReadError}
+use Rattle.value.specs.declared.reading.ReadError.TheVariants as errors
+
+-- digits that do not begin with 0
+abbrev pub is_positive : List ℕ → Bool
+is_positive [] = false
+is_positive (d ∷ ds) = not (d == 48) && list_all is_ascii_digit (d ∷ ds)
+
+-- an optional minus, and digits that do not begin with 0
+abbrev pub is_spelled : List ℕ → Bool
+is_spelled [] = false
+is_spelled (c ∷ cs) = if c == 45 then is_positive cs else is_positive (c ∷ cs)
+
+-- the number that they spell
+abbrev pub spelled : List ℕ → ℤ
+spelled [] = pos 0
+spelled (c ∷ cs) = if c == 45 then neg_ℤ (pos (digits_value 10 cs)) else pos (digits_value 10 (c ∷ cs))
+
+-- the bigint of a text
+abbrev pub bigint_at : List ℕ → Result ℤ Kind
+bigint_at t = if is_spelled t then in_range (spelled t) else (if bytes_eq t (48 ∷ []) then Ok (pos 0) else Err BadText)
+
+-- what is read as a bigint is its own text
+abbrev pub OneSpelling : Type 0
+OneSpelling = (t : List ℕ) (z : ℤ) → bigint_at t ≡ Ok z → t ≡ signed_decimal z
+
+-- the text of a bigint is read as the bigint
+abbrev pub ReadAgain : Type 0
+ReadAgain = (z : ℤ) → is_bigint z ≡ true → bigint_at (signed_decimal z) ≡ Ok z
+
+-- t or f
+abbrev pub boolean_at : List ℕ → Result Datum Kind
+boolean_at t = if bytes_eq t (codes "t") then Ok (bool true) else if bytes_eq t (codes "f") then Ok (bool false) else Err BadText
+
+-- the value of a type that a text spells
+abbrev pub value_at : ColType → List ℕ → Result Datum Kind
+value_at types.Bigint t = as_number (bigint_at t)
+value_at types.Text t = Ok (text t)
+value_at types.Boolean t = boolean_at t
+
+-- what is read is this, unless memory ran out
+abbrev pub Reads : {A : Type 0} → Result (Value A) ReadError → Result Datum Kind → Type 0
+Reads (Ok v) due = due ≡ Ok (datum v)
+Reads (Err (errors.Kind k)) due = due ≡ Err k
+Reads (Err errors.Memory) due = Unit {0}

@@ -1,0 +1,92 @@
+//! The order of values and of rows, and comparison.
+
+ghost use Rattle.std.specs.Prelude.{◌≡◌, IsTrue, ◌↔◌, List, map, IsPermutation, IsSorted};
+ghost use Rattle.bags.specs.Sorting.{sorted_by};
+ghost use Rattle.value.specs.Datum.{Row, seen, null, row_of};
+ghost use Rattle.value.specs.Orders.{datum_cmp, row_cmp, equal_of, class};
+
+use crate::types::{Val, Value};
+use memory::Heap;
+use std::cmp::Ordering;
+use text::Items;
+
+/// A truth value of three, ordered as false, unknown, true (PostgreSQL: Logical Operators).
+#[derive(Clone, Copy, Debug, PartialEq, Eq, PartialOrd, Ord)]
+pub enum Truth {
+    /// False.
+    False,
+    /// Null.
+    Unknown,
+    /// True.
+    True,
+}
+
+fn class<A: Heap>(a: &Val<'_, A>) -> u8
+    ensures { result ≡ class (seen a.now) }
+{
+    match a {
+        Val::Bool(false) => 0,
+        Val::Bool(true) => 1,
+        Val::Int(_) => 2,
+        Val::Text(_) => 3,
+        Val::Null => 4,
+    }
+}
+
+/// The order of values, ascending with nulls last; texts by their bytes.
+pub fn cmp_values<A: Heap>(a: &Val<'_, A>, b: &Val<'_, A>) -> Ordering
+    ensures { result ≡ datum_cmp (seen a.now) (seen b.now) }
+{
+    match (a, b) {
+        (Val::Int(m), Val::Int(n)) => m.cmp(n),
+        (Val::Text(s), Val::Text(t)) => s.as_str().cmp(t.as_str()),
+        _ => class(a).cmp(&class(b)),
+    }
+}
+
+fn is_null<A: Heap>(a: &Val<'_, A>) -> bool
+    ensures { IsTrue result ↔ (seen a.now ≡ null) }
+{
+    matches!(a, Val::Null)
+}
+
+/// Whether two values are equal; unknown where one is null (PostgreSQL: Comparison Functions and Operators).
+pub fn eq3<A: Heap>(a: &Val<'_, A>, b: &Val<'_, A>) -> Truth
+    ensures { result ≡ equal_of (seen a.now) (seen b.now) }
+{
+    if is_null(a) || is_null(b) {
+        Truth::Unknown
+    } else if cmp_values(a, b).is_eq() {
+        Truth::True
+    } else {
+        Truth::False
+    }
+}
+
+/// The order of rows, by all columns from left to right.
+pub fn cmp_rows<A: Heap>(a: &[Value<A>], b: &[Value<A>]) -> Ordering
+    ensures { result ≡ row_cmp (row_of a.now) (row_of b.now) }
+{
+    match (a.split_first(), b.split_first()) {
+        (None, None) => Ordering::Equal,
+        (None, Some(_)) => Ordering::Less,
+        (Some(_), None) => Ordering::Greater,
+        (Some((x, xs)), Some((y, ys))) => match cmp_values(&x.as_val(), &y.as_val()) {
+            Ordering::Equal => cmp_rows(xs, ys),
+            other => other,
+        },
+    }
+}
+
+/// Puts rows in order, and takes no memory.
+pub fn sort_rows<A: Heap>(rows: &mut Vec<Items<Value<A>, A>, A>)
+    ensures { map (λ r. row_of r) rows.new.items ≡ sorted_by row_cmp (map (λ r. row_of r) rows.old.items) }
+{
+    rows.sort_unstable_by(|a, b| cmp_rows(a.as_slice(), b.as_slice()));
+}
+
+/// The order of rows is total and tells all rows apart, so a list of rows has one sorted order.
+pub fn sorted_rows()
+    ensures { (rows ys : List Row) → (ys ≡ sorted_by row_cmp rows) ↔ (IsPermutation rows ys × IsSorted row_cmp ys) }
+{
+}
