@@ -1,10 +1,12 @@
 -- The tokens of a text, by recursion over its bytes.
-use Rattle.std.specs.Prelude.{ℕ, zero, suc, ◌+◌, ◌-◌, ◌*◌, ◌^◌, ◌==◌, nat_lt, Bool, true, false, not, ◌&&◌, ◌||◌, if◌then◌else◌, List, [], ◌∷◌, ◌++◌, length, map, drop, take, Option, Some, None, codes}
-use Rattle.std.specs.Str.{bytes_eq}
+use Rattle.std.specs.Prelude.{ℕ, zero, suc, ◌+◌, ◌-◌, ◌^◌, ◌==◌, nat_lt, Bool, true, false, ◌&&◌, ◌||◌, if◌then◌else◌, List, [], ◌∷◌, length, map, drop, take, slice_index, Option, Some, None, codes}
+use Rattle.std.specs.Char.{is_ascii_alphabetic, is_ascii_digit, to_ascii_lowercase}
+use Rattle.std.specs.List.{prefix_len, take_while}
+use Rattle.std.specs.Str.{bytes_eq, str_eq_ignore_ascii_case}
 use Rattle.std.specs.Str.Parse.{digits_value}
-use Rattle.std.specs.Char.{to_ascii_lowercase}
 use Rattle.row_tokens.specs.declared.token.Kind.{Kind}
 use Rattle.row_tokens.specs.declared.token.Kind.TheVariants as k
+use Rattle.row_tokens.specs.declared.lexeme.Lexeme.{Lexeme}
 
 -- a token without its place in memory
 pub record Word : Type 0 where
@@ -24,18 +26,11 @@ is_space b = (b == 32) || (b == 9) || (b == 13) || (b == 10)
 
 -- an ASCII letter or an underscore
 abbrev pub is_letter : ℕ → Bool
-is_letter b = (nat_lt 64 b && nat_lt b 91) || (nat_lt 96 b && nat_lt b 123) || (b == 95)
+is_letter b = is_ascii_alphabetic b || (b == 95)
 
-abbrev pub is_digit : ℕ → Bool
-is_digit b = nat_lt 47 b && nat_lt b 58
-
+-- what may stand in a word behind its first letter
 abbrev pub goes_on : ℕ → Bool
-goes_on b = is_letter b || is_digit b
-
--- the bytes at the front that pass a test
-abbrev pub front_run : (ℕ → Bool) → List ℕ → List ℕ
-front_run p [] = []
-front_run p (b ∷ bs) = if p b then b ∷ front_run p bs else []
+goes_on b = is_letter b || is_ascii_digit b
 
 -- the first byte passes a test
 abbrev pub begins : (ℕ → Bool) → List ℕ → Bool
@@ -44,12 +39,9 @@ begins p (b ∷ bs) = p b
 
 -- ---- words
 
--- an ASCII letter in lower case, any other byte as it is
-abbrev pub lower : ℕ → ℕ
-lower b = if nat_lt 64 b && nat_lt b 91 then b + 32 else b
-
+-- a word in lower case: each ASCII letter, and any other byte as it is
 abbrev pub folded : List ℕ → List ℕ
-folded word = map lower word
+folded word = map to_ascii_lowercase word
 
 -- the words that are more than names
 abbrev pub keywords : List (List ℕ × Kind)
@@ -70,26 +62,22 @@ reserved =
     ∷ codes "left" ∷ codes "like" ∷ codes "limit" ∷ codes "natural" ∷ codes "not" ∷ codes "offset" ∷ codes "or" ∷ codes "order"
     ∷ codes "outer" ∷ codes "right" ∷ codes "then" ∷ codes "union" ∷ codes "when" ∷ codes "where" ∷ codes "window" ∷ codes "with" ∷ []
 
+-- words are compared without regard to case
 abbrev pub among : List ℕ → List (List ℕ) → Bool
 among w [] = false
-among w (x ∷ xs) = bytes_eq w x || among w xs
+among w (x ∷ xs) = str_eq_ignore_ascii_case w x || among w xs
 
 abbrev pub keyword_in : List (List ℕ × Kind) → Kind → List ℕ → Kind
 keyword_in [] other w = other
-keyword_in (e ∷ es) other w = if bytes_eq w e.0 then e.1 else keyword_in es other w
+keyword_in (e ∷ es) other w = if str_eq_ignore_ascii_case w e.0 then e.1 else keyword_in es other w
 
--- the kind of a word, folded
+-- the kind of a word
 unfoldable pub kind_of_word : List ℕ → Kind
 kind_of_word w = keyword_in keywords (if among w reserved then k.Reserved else k.Name) w
 
 -- ---- one token
 
--- what stands at the front of a text: its kind, how many bytes it takes, and its number
-pub record Lexeme : Type 0 where
-  pub kind : Kind
-  pub size : ℕ
-  pub number : ℕ
-
+-- A lexeme is what stands at the front of a text: its kind, how many bytes it takes, and its number.
 abbrev pub bad : Lexeme
 bad = record { kind = k.Bad; size = 0; number = 0 }
 
@@ -98,15 +86,22 @@ plain kind size = record { kind = kind; size = size; number = 0 }
 
 -- a name has at most 63 bytes
 abbrev pub word_lexeme : List ℕ → Lexeme
-word_lexeme w = if nat_lt 63 (length w) then bad else plain (kind_of_word (folded w)) (length w)
+word_lexeme w = if nat_lt 63 (length w) then bad else plain (kind_of_word w) (length w)
 
--- a number, and whether a letter follows; at most 9223372036854775808
-abbrev pub number_lexeme : List ℕ → Bool → Lexeme
-number_lexeme ds follows =
-    if follows then bad
-    else if nat_lt (digits_value 10 ds) (2 ^ 63) then record { kind = k.Number; size = length ds; number = digits_value 10 ds }
-    else if digits_value 10 ds == (2 ^ 63) then record { kind = k.Greatest; size = length ds; number = digits_value 10 ds }
+-- a number by its value and how many digits it has; at most 9223372036854775808
+abbrev pub number_of : ℕ → ℕ → Lexeme
+number_of value size =
+    if nat_lt value (2 ^ 63) then record { kind = k.Number; size = size; number = value }
+    else if value == (2 ^ 63) then record { kind = k.Greatest; size = size; number = value }
     else bad
+
+-- digits are a number unless a letter follows them
+abbrev pub number_lexeme : List ℕ → Bool → Lexeme
+number_lexeme ds follows = if follows then bad else number_of (digits_value 10 ds) (length ds)
+
+-- the number at the front of a text that a digit begins
+abbrev pub first_number : List ℕ → Lexeme
+first_number text = number_lexeme (take_while is_ascii_digit text) (begins is_letter (drop (prefix_len is_ascii_digit text) text))
 
 abbrev pub one_more : Option ℕ → Option ℕ
 one_more None = None
@@ -140,10 +135,11 @@ sign_lexeme b bs =
     else bad
 
 -- the token at the front of a text whose first byte is no white space
-abbrev pub lexeme : ℕ → List ℕ → Lexeme
-lexeme b bs =
-    if is_letter b then word_lexeme (b ∷ front_run goes_on bs)
-    else if is_digit b then number_lexeme (b ∷ front_run is_digit bs) (begins is_letter (drop (length (front_run is_digit bs)) bs))
+unfoldable pub lexeme : List ℕ → Lexeme
+lexeme [] = bad
+lexeme (b ∷ bs) =
+    if is_letter b then word_lexeme (take_while goes_on (b ∷ bs))
+    else if is_ascii_digit b then first_number (b ∷ bs)
     else if b == 39 then quoted_lexeme bs (closing bs)
     else sign_lexeme b bs
 
@@ -158,19 +154,24 @@ words_from skip at [] = []
 words_from (suc n) at (b ∷ bs) = words_from n (at + 1) bs
 words_from zero at (b ∷ bs) =
     if is_space b then words_from zero (at + 1) bs
-    else word_at at (lexeme b bs) (b ∷ bs)
-      ∷ (if (lexeme b bs).size == 0 then [] else words_from ((lexeme b bs).size - 1) (at + 1) bs)
+    else word_at at (lexeme (b ∷ bs)) (b ∷ bs)
+      ∷ (if (lexeme (b ∷ bs)).size == 0 then [] else words_from ((lexeme (b ∷ bs)).size - 1) (at + 1) bs)
 
 abbrev pub words : List ℕ → List Word
 words text = words_from 0 0 text
 
 -- ---- what tokens stand for
 
--- the value of a text in quotes: without them, and each doubled quote once
+-- a quote stands first, and another last
+abbrev pub in_quotes : List ℕ → Bool
+in_quotes bytes = nat_lt 1 (length bytes) && (slice_index bytes 0 == 39) && (slice_index bytes (length bytes - 1) == 39)
+
+-- each doubled quote once
 abbrev pub undoubled : List ℕ → List ℕ
 undoubled [] = []
 undoubled (b ∷ []) = b ∷ []
 undoubled (b ∷ c ∷ bs) = if (b == 39) && (c == 39) then 39 ∷ undoubled bs else b ∷ undoubled (c ∷ bs)
 
+-- the value of a text in quotes: without them, and each doubled quote once; of any other bytes nothing
 abbrev pub quoted_value : List ℕ → List ℕ
-quoted_value bytes = undoubled (take (length bytes - 2) (drop 1 bytes))
+quoted_value bytes = if in_quotes bytes then undoubled (take (length bytes - 2) (drop 1 bytes)) else []

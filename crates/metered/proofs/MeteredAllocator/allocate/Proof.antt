@@ -1,7 +1,7 @@
 -- The request is counted. One is refused, and the others are the inner allocator's to answer. Assumes `Logic`.
 use Rattle.std.proofs.Common.{◌≡◌, ℕ, ◌+◌, ◌^◌, ◌<◌, Bool, true, false, List, [], ◌∷◌, Ok, Err, refl, w64, Bor}
 use seplogic.Ra.Ura.{Ura}
-use mir.Syntax.{Ty, Args, Body, Fn, seq, a_type, dnil, dcons}
+use mir.Syntax.{Ty, Body, Fn, seq, a_type, dnil, dcons}
 use mir.Val.{Val, vbool, vint, vptr}
 use mir.MapTy.{inst_fn}
 use base.Logic.{SProp, ent, sep, id⊢}
@@ -35,7 +35,7 @@ use denote.Triple.Statement.{Triple}
 use denote.Triple.Table.{entered, cited}
 use denote.Triple.Walked.{Stays, stay_dropped, walk_of, ends_at, walked, Goes-dropped, walk_Meets}
 use Rattle.std.proofs.alloc.Calls.{Al, α, seen, token, Answer, answer_val, Answer-typed, Answer-Ok, Answer-err, takes_key, Takes, at_takes, Answered, Takes-goes, Takes-gives, answers}
-use Rattle.metered.proofs.Asking.{count_at, Asks, asked, asks-takes, asks-leaves}
+use Rattle.metered.proofs.Asking.{Asks, asked, asks-takes, asks-leaves}
 use Rattle.metered.proofs.refuses.Symbol as refuses
 use Rattle.metered.proofs.refuses.Met as refuses_met
 use Rattle.metered.specs.contracts.Metered as metered

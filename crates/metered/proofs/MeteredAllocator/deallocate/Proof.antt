@@ -1,10 +1,10 @@
 -- The block goes back to the allocator underneath. Assumes `Logic`.
 use Rattle.std.proofs.Common.{◌≡◌, ℕ, ◌+◌, ◌^◌, ◌<◌, List, [], ◌∷◌, refl, w64, Bor}
 use seplogic.Ra.Ura.{Ura}
-use mir.Syntax.{Ty, Args, Fn, a_type, dnil, dcons}
+use mir.Syntax.{Ty, Fn, a_type, dnil, dcons}
 use mir.Val.{Val, vunit, vint, vptr}
 use mir.MapTy.{inst_fn}
-use base.Logic.{SProp, ent, sep, id⊢, never_e}
+use base.Logic.{SProp, ent, id⊢, never_e}
 use base.Fml.{Lft, Share, ftrue, ffalse, fsep, froom, flft}
 use prog.Memory.{Memory, size, align, capped, up}
 use prog.Routine.{Routine}

@@ -1,0 +1,124 @@
+//! Roles and tables, with who owns, reads and secures what.
+
+ghost use Rattle.std.specs.Prelude.{◌≡◌, ◌&&◌, map, option_map};
+ghost use Rattle.std.specs.Str.{bytes_eq};
+ghost use Rattle.std.specs.List.{list_any, find};
+ghost use Rattle.engine.specs.Access.{belongs, is_role, is_superuser};
+ghost use Rattle.engine.specs.Catalogue.{role_entry, table_entry};
+ghost use Rattle.engine.specs.Names.{table_named};
+
+use memory::Heap;
+use std::marker::Model;
+use syntax::{ColumnDef, Operand};
+use text::{Items, Text};
+
+/// A role.
+#[derive(Debug, Drop)]
+pub struct Role<A: Heap> {
+    pub name: Text<A>,
+    pub superuser: bool,
+}
+
+/// A permissive policy: the column at a place equals the operand, for some roles.
+#[derive(Debug, Drop)]
+pub struct Policy<A: Heap> {
+    pub name: Text<A>,
+    pub roles: Items<Text<A>, A>,
+    pub column: usize,
+    pub operand: Operand<A>,
+}
+
+/// A table of the catalogue.
+#[derive(Debug, Drop)]
+pub struct TableDef<A: Heap> {
+    pub name: Text<A>,
+    pub columns: Items<ColumnDef<A>, A>,
+    pub owner: Text<A>,
+    /// Whether row security is enabled.
+    pub secured: bool,
+    pub policies: Items<Policy<A>, A>,
+    /// The roles that hold SELECT on the table, `public` standing for all.
+    pub readers: Items<Text<A>, A>,
+}
+
+/// Roles and tables.
+#[derive(Debug, Drop)]
+pub struct Catalog<A: Heap> {
+    pub(crate) alloc: A,
+    pub(crate) roles: Vec<Role<A>, A>,
+    pub(crate) tables: Vec<TableDef<A>, A>,
+}
+
+impl<A: Heap> Model for Catalog<A> {
+    ghost use Rattle.engine.specs.Entries.{Catalogue};
+
+    ghost Value = { Catalogue };
+
+    ghost use Rattle.engine.specs.Catalogue.{catalogue_of};
+
+    ghost view = { catalogue_of };
+}
+
+fn any_role<A: Heap>(roles: &[Role<A>], name: &str) -> bool
+    ensures { result ≡ list_any (λ entry. bytes_eq entry.name name.now) (map (λ r. role_entry r) roles.now) }
+{
+    for role in roles {
+        if role.name.as_str() == name {
+            return true;
+        }
+    }
+    false
+}
+
+fn any_superuser<A: Heap>(roles: &[Role<A>], name: &str) -> bool
+    ensures { result ≡ list_any (λ entry. entry.superuser && bytes_eq entry.name name.now) (map (λ r. role_entry r) roles.now) }
+{
+    for role in roles {
+        if role.superuser && role.name.as_str() == name {
+            return true;
+        }
+    }
+    false
+}
+
+fn table_at<'a, A: Heap>(tables: &'a [TableDef<A>], name: &str) -> Option<&'a TableDef<A>>
+    ensures { option_map (λ t. table_entry t.now) result ≡ find (λ t. bytes_eq t.name name.now) (map (λ t. table_entry t) tables.now) }
+{
+    for table in tables {
+        if table.name.as_str() == name {
+            return Some(table);
+        }
+    }
+    None
+}
+
+impl<A: Heap> Catalog<A> {
+    /// Whether there is a role of that name.
+    pub fn is_role(&self, name: &str) -> bool
+        ensures { result ≡ is_role self.now name.now }
+    {
+        any_role(&self.roles, name)
+    }
+
+    /// Whether the role of that name is a superuser.
+    pub fn is_superuser(&self, name: &str) -> bool
+        ensures { result ≡ is_superuser self.now name.now }
+    {
+        any_superuser(&self.roles, name)
+    }
+
+    /// Whether r is s, or reaches it by memberships, of which there are none yet (PostgreSQL: Role Membership).
+    pub fn is_member(&self, r: &str, s: &str) -> bool
+        ensures { result ≡ belongs self.now r.now s.now }
+    {
+        let _roles = &self.roles;
+        r == s
+    }
+
+    /// The table of that name.
+    pub fn table(&self, name: &str) -> Option<&TableDef<A>>
+        ensures { option_map (λ t. table_entry t.now) result ≡ table_named name.now self.now }
+    {
+        table_at(&self.tables, name)
+    }
+}

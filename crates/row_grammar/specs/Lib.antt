@@ -1,0 +1,4 @@
+pub mod Grammar
+pub mod Meaning
+pub mod Decoder
+pub mod Limits

@@ -1,0 +1,1 @@
+//! What tokens stand for.
