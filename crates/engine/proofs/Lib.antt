@@ -1,1 +1,4 @@
 pub mod Grants
+pub mod HiddenRows
+pub mod Places
+pub mod Loads

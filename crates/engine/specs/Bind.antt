@@ -1,9 +1,9 @@
 -- What binding answers.
 use Rattle.std.specs.Prelude.{◌≡◌, List, ◌++◌, Result, Ok, Err}
-use Rattle.engine.specs.declared.bind.Bound as bound
-use Rattle.engine.specs.declared.bind.NameFault.{NameFault}
-use Rattle.engine.specs.declared.bind.BindError.{BindError}
-use Rattle.engine.specs.declared.bind.BindError.TheVariants as errors
+use Rattle.engine.specs.declared.resolve.Bound as bound
+use Rattle.engine.specs.declared.resolve.NameFault.{NameFault}
+use Rattle.engine.specs.declared.resolve.BindError.{BindError}
+use Rattle.engine.specs.declared.resolve.BindError.TheVariants as errors
 use Rattle.engine.specs.Catalogue.{table_entry}
 use Rattle.engine.specs.Names.{Bound}
 

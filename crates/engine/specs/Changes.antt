@@ -1,5 +1,5 @@
 -- What a schema statement changes, and when it is refused.
-use Rattle.std.specs.Prelude.{ℕ, ◌+◌, Bool, true, false, not, ◌&&◌, ◌||◌, nat_lt, nat_le, List, [], ◌∷◌, ◌++◌, length, map, Option, Some, None, Result, Ok, Err, if◌then◌else◌}
+use Rattle.std.specs.Prelude.{◌≡◌, ◌⊎◌, codes, ℕ, ◌+◌, Bool, true, false, not, ◌&&◌, ◌||◌, nat_lt, nat_le, List, [], ◌∷◌, ◌++◌, length, map, is_some, Option, Some, None, Result, Ok, Err, if◌then◌else◌}
 use Rattle.std.specs.Str.{bytes_eq}
 use Rattle.std.specs.List.{list_any, list_all, find}
 use Rattle.value.specs.Datum.{Datum, null, int, text, bool}
@@ -23,7 +23,7 @@ first_refusal [] = None
 first_refusal (o ∷ os) = if o.0 then Some o.1 else first_refusal os
 
 abbrev pub is_table : Catalogue → Name → Bool
-is_table cat name = list_any (λ t. bytes_eq t.name name) cat.tables
+is_table cat name = is_some (table_named name cat)
 
 -- the actor is a superuser, or belongs to the owner
 abbrev pub owns : Catalogue → Name → TableEntry → Bool
@@ -67,11 +67,18 @@ abbrev pub fits : List ColumnEntry → Name → Side → Bool
 fits [] name side = true
 fits (column ∷ columns) name side = if bytes_eq column.name name then side_is_of column.kind side else fits columns name side
 
--- PostgreSQL has these in the order of its manual's pages; the order here is this project's
+-- of the expression of a policy: its column is the table's, and the operand is of the column's type
+abbrev pub condition_objections : TableEntry → PolicyText → List Objection
+condition_objections t p =
+    (not (is_qualified t.name p.column.table), r.UndefinedTable)
+    ∷ (not (has_name p.column.name t.columns), r.UndefinedColumn)
+    ∷ (not (fits t.columns p.column.name p.side), r.DatatypeMismatch) ∷ []
+
+-- what speaks against each statement, in the order in which it is told
 abbrev pub objections : Catalogue → Name → Act → List Objection
 objections cat actor (create_role name) =
     (not (is_superuser cat actor), r.InsufficientPrivilege)
-    ∷ (bytes_eq name everyone || is_role cat name, r.DuplicateObject)
+    ∷ (is_known cat name, r.DuplicateObject)
     ∷ (nat_lt 255 (length cat.roles), r.ProgramLimitExceeded) ∷ []
 objections cat actor (create_table name columns) =
     (is_table cat name, r.DuplicateTable)
@@ -90,9 +97,7 @@ objections cat actor (create_policy p) = of_table ((true, r.UndefinedTable) ∷ 
     (nat_lt 0 (length t.policies), r.FeatureNotSupported)
     ∷ (not (owns cat actor t), r.InsufficientPrivilege)
     ∷ (not (list_all (is_known cat) p.roles), r.UndefinedObject)
-    ∷ (not (is_qualified t.name p.column.table), r.UndefinedTable)
-    ∷ (not (has_name p.column.name t.columns), r.UndefinedColumn)
-    ∷ (not (fits t.columns p.column.name p.side), r.DatatypeMismatch) ∷ []) (table_named p.table cat)
+    ∷ condition_objections t p) (table_named p.table cat)
 
 -- the refusal of a statement, if there is one: first of all the actor must be a role
 abbrev pub refusal_of : Catalogue → Name → Act → Option Refusal
@@ -100,10 +105,14 @@ refusal_of cat actor act = first_refusal ((not (is_role cat actor), r.UndefinedO
 
 -- ---- effects
 
+-- the first of that kind, changed
+abbrev pub first_changed : {E : Type 0} → (E → Bool) → (E → E) → List E → List E
+first_changed p f [] = []
+first_changed p f (e ∷ es) = if p e then f e ∷ es else e ∷ first_changed p f es
+
 -- the first table of that name, changed
 abbrev pub in_table : Name → (TableEntry → TableEntry) → List TableEntry → List TableEntry
-in_table name f [] = []
-in_table name f (t ∷ ts) = if bytes_eq t.name name then f t ∷ ts else t ∷ in_table name f ts
+in_table name f ts = first_changed (λ t. bytes_eq t.name name) f ts
 
 abbrev pub with_table : Catalogue → Name → (TableEntry → TableEntry) → Catalogue
 with_table cat name f = record cat { tables = in_table name f cat.tables }
@@ -119,11 +128,14 @@ place_in (Some place) = place
 abbrev pub policy_of : PolicyText → TableEntry → PolicyEntry
 policy_of p t = record { name = p.name; roles = p.roles; column = place_in (place_of t.columns p.column.name); side = p.side }
 
+-- a new table, which its creator owns
+abbrev pub fresh_table : Name → Name → List ColumnEntry → TableEntry
+fresh_table actor name columns = record { name = name; columns = columns; owner = actor; secured = false; policies = []; grants = [] }
+
 -- the catalogue after an accepted statement
 abbrev pub after : Catalogue → Name → Act → Catalogue
 after cat actor (create_role name) = record cat { roles = cat.roles ++ record { name = name; superuser = false } ∷ [] }
-after cat actor (create_table name columns) =
-    record cat { tables = cat.tables ++ record { name = name; columns = columns; owner = actor; secured = false; policies = []; grants = [] } ∷ [] }
+after cat actor (create_table name columns) = record cat { tables = cat.tables ++ fresh_table actor name columns ∷ [] }
 after cat actor (set_owner name role) = with_table cat name (λ t. record t { owner = role })
 after cat actor (enable_security name) = with_table cat name (λ t. record t { secured = true })
 after cat actor (grant_select name roles) = with_table cat name (λ t. record t { grants = t.grants ++ grants_to roles })
@@ -137,6 +149,11 @@ changed_by cat None = Ok cat
 abbrev pub changed : Catalogue → Name → Act → Result Catalogue Refusal
 changed cat actor act = changed_by (after cat actor act) (refusal_of cat actor act)
 
--- a catalogue at first: one superuser
-abbrev pub at_first : Catalogue → Name → Catalogue
-at_first cat root = record cat { roles = record { name = root; superuser = true } ∷ []; memberships = []; tables = [] }
+-- a catalogue at first: the superuser root alone
+abbrev pub at_first : Catalogue
+at_first = record { roles = record { name = codes "root"; superuser = true } ∷ []; memberships = []; tables = [] }
+
+-- what a call made of the catalogue is what is due, or memory ran out and nothing changed
+abbrev pub IsChange : {X : Type 0} → X → X → Result X Refusal → Result (Unit {0}) Refusal → Type 0
+IsChange old new due (Ok u) = due ≡ Ok new
+IsChange old new due (Err why) = (new ≡ old) × ((why ≡ r.OutOfMemory) ⊎ (due ≡ Err why))

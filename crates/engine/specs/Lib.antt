@@ -4,3 +4,8 @@ pub mod Names
 pub mod Changes
 pub mod Catalogue
 pub mod Bind
+pub mod Reply
+pub mod Replying
+pub mod Hidden
+pub mod Stored
+pub mod World

@@ -5,7 +5,7 @@ use Rattle.std.specs.List.{find, position_from}
 use Rattle.value.specs.declared.refusal.Refusal.{Refusal}
 use Rattle.value.specs.declared.refusal.Refusal.TheVariants as r
 use Rattle.syntax.specs.Tree.{Name, ColumnWord, ColumnEntry, Question}
-use Rattle.engine.specs.declared.bind.NameFault.{NameFault}
+use Rattle.engine.specs.declared.resolve.NameFault.{NameFault}
 use Rattle.engine.specs.Entries.{TableEntry, Catalogue}
 use Rattle.engine.specs.Access.{Need}
 
@@ -61,6 +61,9 @@ bound_in q (Some t) = bound_at t q.columns (places_of t q.columns)
 abbrev pub resolved : Catalogue → Question → Result Bound NameFault
 resolved cat q = bound_in q (table_named q.table cat)
 
+abbrev pub need : TableEntry → Name → Need
+need t name = record { table = t; column = Some name }
+
 -- one need for each column, in written order
 abbrev pub needed : Bound → List Need
-needed b = map (λ name. record { table = b.table; column = Some name }) b.names
+needed b = map (λ name. need b.table name) b.names

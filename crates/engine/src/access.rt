@@ -8,6 +8,7 @@ ghost use Rattle.value.specs.Orders.{equal_of, is_true};
 ghost use Rattle.syntax.specs.View.{side_of};
 ghost use Rattle.engine.specs.Access.{is_meant, granted, serves, cell, side_value, policy_truth, applies, sees};
 ghost use Rattle.engine.specs.Changes.{grants_to};
+ghost use Rattle.engine.specs.Names.{need};
 ghost use Rattle.engine.specs.Catalogue.{policy_entry, table_entry};
 
 use crate::catalog::{Catalog, Policy, TableDef};
@@ -55,7 +56,7 @@ pub fn is_granted<A: Heap>(
     table: &TableDef<A>,
     column: &str,
 ) -> bool
-    ensures { result ≡ granted catalog.now role.now record { table = table_entry table.now; column = Some column.now } }
+    ensures { result ≡ granted catalog.now role.now (need (table_entry table.now) column.now) }
 {
     catalog.is_superuser(role)
         || catalog.is_member(role, table.owner.as_str())

@@ -1,6 +1,6 @@
 //! Roles and tables, with who owns, reads and secures what.
 
-ghost use Rattle.std.specs.Prelude.{◌≡◌, ◌&&◌, map, option_map};
+ghost use Rattle.std.specs.Prelude.{◌≡◌, ◌&&◌, length, map, option_map};
 ghost use Rattle.std.specs.Str.{bytes_eq};
 ghost use Rattle.std.specs.List.{list_any, find};
 ghost use Rattle.engine.specs.Access.{belongs, is_role, is_superuser};
@@ -105,6 +105,20 @@ impl<A: Heap> Catalog<A> {
         ensures { result ≡ is_superuser self.now name.now }
     {
         any_superuser(&self.roles, name)
+    }
+
+    /// How many roles there are.
+    pub fn roles(&self) -> usize
+        ensures { result ≡ length self.now.roles }
+    {
+        self.roles.len()
+    }
+
+    /// How many tables there are.
+    pub fn tables(&self) -> usize
+        ensures { result ≡ length self.now.tables }
+    {
+        self.tables.len()
     }
 
     /// Whether r is s, or reaches it by memberships, of which there are none yet (PostgreSQL: Role Membership).

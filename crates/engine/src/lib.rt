@@ -2,9 +2,19 @@
 #![tactic(auto)]
 
 mod access;
-mod bind;
+mod answer;
 mod catalog;
+mod changes;
+mod objections;
+mod reply;
+mod resolve;
+mod serving;
+mod store;
 
 pub use access::{is_granted, is_seen};
-pub use bind::{BindError, Bound, NameFault, bind, is_qualified};
 pub use catalog::{Catalog, TableDef};
+pub use objections::refusal;
+pub use reply::{Reply, reply_status, reply_text};
+pub use resolve::{BindError, Bound, NameFault, bind, is_qualified};
+pub use serving::{ask, hidden_rows, serve};
+pub use store::{Store, StoreError, Stored};

@@ -1,3 +1,4 @@
 pub mod Words
 pub mod View
 pub mod Keywords
+pub mod Slices

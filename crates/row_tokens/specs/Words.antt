@@ -1,5 +1,5 @@
 -- The tokens of a text, by recursion over its bytes.
-use Rattle.std.specs.Prelude.{ℕ, zero, suc, ◌+◌, ◌-◌, ◌^◌, ◌==◌, nat_lt, Bool, true, false, ◌&&◌, ◌||◌, if◌then◌else◌, List, [], ◌∷◌, length, map, drop, take, slice_index, Option, Some, None, codes}
+use Rattle.std.specs.Prelude.{ℕ, zero, suc, ◌+◌, ◌-◌, ◌^◌, ◌==◌, nat_lt, Bool, false, ◌&&◌, ◌||◌, if◌then◌else◌, List, [], ◌∷◌, length, map, drop, take, slice_index, Option, Some, None, codes}
 use Rattle.std.specs.Char.{is_ascii_alphabetic, is_ascii_digit, to_ascii_lowercase}
 use Rattle.std.specs.List.{prefix_len, take_while}
 use Rattle.std.specs.Str.{bytes_eq, str_eq_ignore_ascii_case}
@@ -155,7 +155,7 @@ words_from (suc n) at (b ∷ bs) = words_from n (at + 1) bs
 words_from zero at (b ∷ bs) =
     if is_space b then words_from zero (at + 1) bs
     else word_at at (lexeme (b ∷ bs)) (b ∷ bs)
-      ∷ (if (lexeme (b ∷ bs)).size == 0 then [] else words_from ((lexeme (b ∷ bs)).size - 1) (at + 1) bs)
+    ∷ (if (lexeme (b ∷ bs)).size == 0 then [] else words_from ((lexeme (b ∷ bs)).size - 1) (at + 1) bs)
 
 abbrev pub words : List ℕ → List Word
 words text = words_from 0 0 text
@@ -166,12 +166,16 @@ words text = words_from 0 0 text
 abbrev pub in_quotes : List ℕ → Bool
 in_quotes bytes = nat_lt 1 (length bytes) && (slice_index bytes 0 == 39) && (slice_index bytes (length bytes - 1) == 39)
 
+-- what stands between the quotes; of any other bytes nothing
+abbrev pub between_quotes : List ℕ → List ℕ
+between_quotes bytes = if in_quotes bytes then take (length bytes - 2) (drop 1 bytes) else []
+
 -- each doubled quote once
 abbrev pub undoubled : List ℕ → List ℕ
 undoubled [] = []
 undoubled (b ∷ []) = b ∷ []
 undoubled (b ∷ c ∷ bs) = if (b == 39) && (c == 39) then 39 ∷ undoubled bs else b ∷ undoubled (c ∷ bs)
 
--- the value of a text in quotes: without them, and each doubled quote once; of any other bytes nothing
+-- the value of a text in quotes
 abbrev pub quoted_value : List ℕ → List ℕ
-quoted_value bytes = if in_quotes bytes then undoubled (take (length bytes - 2) (drop 1 bytes)) else []
+quoted_value bytes = undoubled (between_quotes bytes)

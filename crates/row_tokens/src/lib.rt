@@ -2,11 +2,13 @@
 #![tactic(auto)]
 
 mod keyword;
+mod laws;
 mod lexeme;
-mod scan;
+mod scanner;
 mod token;
 mod value;
 
-
+pub use laws::tokens_stand_in_text;
+pub use scanner::scan;
 pub use token::{Kind, Token};
-
+pub use value::{folded, unquoted};

@@ -1,1 +1,79 @@
+//! Typed tables, read from comma-separated text.
 #![tactic(auto)]
+
+use memory::Heap;
+use std::alloc::{AllocError, AllocFailed};
+use text::Text;
+use value::ColType;
+
+/// How many rows a table holds at most.
+pub const MAX_ROWS: u64 = 4_000_000_000;
+
+/// A column.
+#[derive(Drop)]
+pub struct Column<A: Heap> {
+    /// The name, which the header has at the column's place.
+    pub name: Text<A>,
+    /// The type of its values.
+    pub kind: ColType,
+    /// Whether no row may be null there (`NOT NULL`).
+    pub required: bool,
+}
+
+/// Why a text gave no rows. Rows count from 1 after the header, which is row 0, and columns from 0. Of several faults the
+/// first row decides, and then the first column.
+#[derive(Clone, Copy, Debug, PartialEq, Eq)]
+pub enum LoadError {
+    /// The first record is not the names of the columns, in order and byte by byte.
+    Header,
+    /// The record has another number of fields than the header, or the bytes could not be read.
+    Reader {
+        /// The row.
+        row: u64,
+    },
+    /// The field is not UTF-8, or spells no value of the column's type, or one out of range.
+    Cell {
+        /// The row.
+        row: u64,
+        /// The column.
+        column: u64,
+    },
+    /// The field is null, and the column takes none.
+    NotNull {
+        /// The row.
+        row: u64,
+        /// The column.
+        column: u64,
+    },
+    /// There are more rows than the table has room for.
+    TooMany,
+    /// A growth of memory was refused.
+    OutOfMemory,
+}
+
+impl From<AllocError> for LoadError {
+    ghost use Rattle.tables.specs.declared.LoadError.TheVariants.{OutOfMemory};
+    ghost use Rattle.std.specs.Prelude.{◌≡◌};
+
+    ghost from_gives = { λ _ e. e ≡ OutOfMemory };
+
+    fn from(_error: AllocError) -> LoadError {
+        LoadError::OutOfMemory
+    }
+}
+
+impl<T: Drop> From<AllocFailed<T>> for LoadError {
+    ghost use Rattle.tables.specs.declared.LoadError.TheVariants.{OutOfMemory};
+    ghost use Rattle.std.specs.Prelude.{◌≡◌};
+
+    ghost from_gives = { λ _ e. e ≡ OutOfMemory };
+
+    fn from(_error: AllocFailed<T>) -> LoadError {
+        LoadError::OutOfMemory
+    }
+}
+
+mod load;
+mod table;
+
+pub use table::Table;

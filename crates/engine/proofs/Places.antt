@@ -1,0 +1,100 @@
+-- An entry changed at its place.
+use Rattle.std.proofs.Common.{◌≡◌, ℕ, zero, suc, ◌+◌, ◌≤◌, ◌<◌, Bool, true, false, cond, List, [], ◌∷◌, ◌++◌, map, set, get_or, find, Option, Some, None, refl, sym, ap, ap₂, ◌∙◌, arith}
+use Rattle.std.proofs.lemmas.List.{map-append}
+use Rattle.std.specs.List.{position_from}
+use Rattle.syntax.specs.Tree.{Name, ColumnEntry}
+use Rattle.engine.specs.Entries.{GrantEntry, PolicyEntry, TableEntry}
+use Rattle.engine.specs.Changes.{first_changed, fresh_table, grants_to}
+
+some_is : (i j : ℕ) → ◌≡◌ {A = Option ℕ} (Some i) (Some j) → i ≡ j
+some_is i j e = cc
+
+none_is_not : (i : ℕ) → ◌≡◌ {A = Option ℕ} None (Some i) → ⊥
+none_is_not i e = cc
+
+some_is_not : (i : ℕ) → ◌≡◌ {A = Option ℕ} (Some i) None → ⊥
+some_is_not i e = cc
+
+some_of : (i j : ℕ) → i ≡ j → ◌≡◌ {A = Option ℕ} (Some i) (Some j)
+some_of i j e = cc
+
+module _ {E : Type 0} (p : E → Bool) where
+  -- a place is counted from the first number on
+  at_least : (es : List E) (k i : ℕ) → position_from p k es ≡ Some i → k ≤ i
+  at_least [] k i h = absurd (none_is_not i h)
+  at_least (e ∷ es) k i h = go (p e) h (at_least es (k + 1) i)
+    where
+      go : (b : Bool) → cond b (Some k) (position_from p (k + 1) es) ≡ Some i → (position_from p (k + 1) es ≡ Some i → k + 1 ≤ i) → k ≤ i
+      go true h more = let q = some_is k i h in omega arith
+      go false h more = let q = more h in omega arith
+
+  -- where there is none nothing changes, and nothing is found
+  none_from : (f : E → E) (es : List E) (k : ℕ) → position_from p k es ≡ None → (first_changed p f es ≡ es) × (find p es ≡ None)
+  none_from f [] k h = (refl, refl)
+  none_from f (e ∷ es) k h = go (p e) h (none_from f es (k + 1))
+    where
+      go : (b : Bool) → cond b (Some k) (position_from p (k + 1) es) ≡ None → (position_from p (k + 1) es ≡ None → (first_changed p f es ≡ es) × (find p es ≡ None))
+        → (cond b (f e ∷ es) (e ∷ first_changed p f es) ≡ e ∷ es) × (cond b (Some e) (find p es) ≡ None)
+      go true h more = absurd (some_is_not k h)
+      go false h more = (ap (λ l. e ∷ l) (more h).0, (more h).1)
+
+  pub none_at : (f : E → E) (es : List E) → position_from p 0 es ≡ None → first_changed p f es ≡ es
+  none_at f es h = (none_from f es 0 h).0
+
+  pub none_found : (es : List E) → position_from p 0 es ≡ None → find p es ≡ None
+  none_found es h = (none_from (λ e. e) es 0 h).1
+
+  module _ {X : Type 0} (v : X → E) (d : X) where
+    found_from : (xs : List X) (k i : ℕ) → position_from p k (map v xs) ≡ Some (k + i) → find p (map v xs) ≡ Some (v (get_or xs i d))
+    found_from [] k i h = absurd (none_is_not (k + i) h)
+    found_from (x ∷ xs) k zero h = go (p (v x)) h
+      where
+        go : (b : Bool) → cond b (Some k) (position_from p (k + 1) (map v xs)) ≡ Some (k + zero) → cond b (Some (v x)) (find p (map v xs)) ≡ Some (v x)
+        go true h = refl
+        go false h = absurd (let q = at_least (map v xs) (k + 1) (k + zero) h in omega arith)
+    found_from (x ∷ xs) k (suc i) h = go (p (v x)) h (found_from xs (k + 1) i)
+      where
+        go : (b : Bool) → cond b (Some k) (position_from p (k + 1) (map v xs)) ≡ Some (k + suc i)
+          → (position_from p (k + 1) (map v xs) ≡ Some (k + 1 + i) → find p (map v xs) ≡ Some (v (get_or xs i d)))
+          → cond b (Some (v x)) (find p (map v xs)) ≡ Some (v (get_or xs i d))
+        go true h more = absurd (let q = some_is k (k + suc i) h in omega arith)
+        go false h more = more (h ∙ some_of (k + suc i) (k + 1 + i) (omega arith))
+
+    -- what stands at the place is what is found
+    pub found_at : (xs : List X) (i : ℕ) → position_from p 0 (map v xs) ≡ Some i → find p (map v xs) ≡ Some (v (get_or xs i d))
+    found_at xs i h = found_from xs 0 i (h ∙ some_of i (0 + i) (omega arith))
+
+    module _ (f : E → E) (y : X) where
+      set_from : (xs : List X) (k i : ℕ) → position_from p k (map v xs) ≡ Some (k + i) → v y ≡ f (v (get_or xs i d)) → map v (set xs i y) ≡ first_changed p f (map v xs)
+      set_from [] k i h is = absurd (none_is_not (k + i) h)
+      set_from (x ∷ xs) k zero h is = go (p (v x)) h
+        where
+          go : (b : Bool) → cond b (Some k) (position_from p (k + 1) (map v xs)) ≡ Some (k + zero) → v y ∷ map v xs ≡ cond b (f (v x) ∷ map v xs) (v x ∷ first_changed p f (map v xs))
+          go true h = ap (λ e. e ∷ map v xs) is
+          go false h = absurd (let q = at_least (map v xs) (k + 1) (k + zero) h in omega arith)
+      set_from (x ∷ xs) k (suc i) h is = go (p (v x)) h (λ h. set_from xs (k + 1) i h is)
+        where
+          go : (b : Bool) → cond b (Some k) (position_from p (k + 1) (map v xs)) ≡ Some (k + suc i)
+            → (position_from p (k + 1) (map v xs) ≡ Some (k + 1 + i) → map v (set xs i y) ≡ first_changed p f (map v xs))
+            → v x ∷ map v (set xs i y) ≡ cond b (f (v x) ∷ map v xs) (v x ∷ first_changed p f (map v xs))
+          go true h more = absurd (let q = some_is k (k + suc i) h in omega arith)
+          go false h more = ap (λ l. v x ∷ l) (more (h ∙ some_of (k + suc i) (k + 1 + i) (omega arith)))
+
+      -- what stands at the place is the one that changes
+      pub set_at : (xs : List X) (i : ℕ) → position_from p 0 (map v xs) ≡ Some i → v y ≡ f (v (get_or xs i d)) → map v (set xs i y) ≡ first_changed p f (map v xs)
+      set_at xs i h is = set_from xs 0 i (h ∙ some_of i (0 + i) (omega arith)) is
+
+-- ---- entries by their parts
+
+pub fresh_parts : (n n' : Name) (cs cs' : List ColumnEntry) (o o' : Name) (ps : List PolicyEntry) (gs : List GrantEntry) → n ≡ n' → cs ≡ cs' → o ≡ o' → ps ≡ [] → gs ≡ []
+    → ◌≡◌ {A = TableEntry} record { name = n; columns = cs; owner = o; secured = false; policies = ps; grants = gs } (fresh_table o' n' cs')
+fresh_parts n n' cs cs' o o' ps gs a b c d e = rw (a, b, c, d, e)
+
+pub with_grants : (t : TableEntry) (some more : List GrantEntry) → some ≡ more → ◌≡◌ {A = TableEntry} (record t { grants = some }) (record t { grants = more })
+with_grants t some more e = ap (λ gs. record t { grants = gs }) e
+
+pub with_policies : (t : TableEntry) (some more : List PolicyEntry) → some ≡ more → ◌≡◌ {A = TableEntry} (record t { policies = some }) (record t { policies = more })
+with_policies t some more e = ap (λ ps. record t { policies = ps }) e
+
+pub more_grants : (all some more : List Name) → all ≡ some ++ more → grants_to all ≡ grants_to some ++ grants_to more
+more_grants all some more e = rw (e, map-append)

@@ -1,0 +1,77 @@
+-- A catalogue with the contents of its tables.
+use Rattle.std.specs.Prelude.{◌≡◌, ◌-◌, ℕ, Bool, true, false, List, [], ◌∷◌, ◌++◌, length, map, Option, Some, None, if◌then◌else◌, Result, Ok, Err}
+use Rattle.std.specs.Str.{bytes_eq}
+use Rattle.value.specs.Datum.{Row}
+use Rattle.value.specs.declared.refusal.Refusal.{Refusal}
+use Rattle.tables.specs.declared.TheConstants.{MAX_ROWS}
+use Rattle.tables.specs.Loading.{Col, Contents, Fields, is_told, load_of}
+use Rattle.tables.specs.declared.LoadError.{LoadError}
+use Rattle.std.specs.List.{find}
+use Rattle.engine.specs.declared.store.StoreError.{StoreError}
+use Rattle.engine.specs.declared.store.StoreError.TheVariants as errors
+use Rattle.syntax.specs.Tree.{Name, ColumnEntry, Act, create_role, create_table, set_owner, enable_security, grant_select, create_policy}
+use Rattle.engine.specs.Entries.{Catalogue, Content}
+use Rattle.engine.specs.Changes.{at_first, changed, first_changed}
+
+-- the contents of each table, by its name
+pub record World : Type 0 where
+  pub catalogue : Catalogue
+  pub contents : List (Name × Contents)
+
+abbrev pub rows_in : List (Name × Contents) → Content
+rows_in [] name = []
+rows_in (entry ∷ entries) name = if bytes_eq entry.0 name then entry.1.rows else rows_in entries name
+
+-- the rows of each table of the world
+abbrev pub content_of : World → Content
+content_of world = rows_in world.contents
+
+-- the catalogue at first, and no table
+abbrev pub at_start : World
+at_start = record { catalogue = at_first; contents = [] }
+
+-- ---- statements
+
+abbrev pub column_of : ColumnEntry → Col
+column_of c = record { name = c.name; kind = c.kind; required = false }
+
+-- a new table has no rows
+abbrev pub empty_table : List ColumnEntry → Contents
+empty_table columns = record { columns = map column_of columns; rows = [] }
+
+abbrev pub contents_after : List (Name × Contents) → Act → List (Name × Contents)
+contents_after contents (create_table name columns) = contents ++ (name, empty_table columns) ∷ []
+contents_after contents (create_role name) = contents
+contents_after contents (set_owner name role) = contents
+contents_after contents (enable_security name) = contents
+contents_after contents (grant_select name roles) = contents
+contents_after contents (create_policy p) = contents
+
+abbrev pub with_catalogue : World → Act → Result Catalogue Refusal → Result World Refusal
+with_catalogue world act (Ok cat) = Ok record { catalogue = cat; contents = contents_after world.contents act }
+with_catalogue world act (Err why) = Err why
+
+-- the world after a statement, or its refusal
+abbrev pub changed_world : World → Name → Act → Result World Refusal
+changed_world world actor act = with_catalogue world act (changed world.catalogue actor act)
+
+-- ---- rows
+
+-- a table's contents of that name
+abbrev pub is_named : Name → Name × Contents → Bool
+is_named name entry = bytes_eq entry.0 name
+
+abbrev pub with_rows : List Row → Name × Contents → Name × Contents
+with_rows rows entry = (entry.0, record { columns = entry.1.columns; rows = entry.1.rows ++ rows })
+
+-- what the records of a text give for a table: its rows, or the first fault
+abbrev pub due_rows : Contents → List Fields → Result (List Row) LoadError
+due_rows t recs = load_of t.columns (MAX_ROWS - length t.rows) recs
+
+-- A load of a text into the table of that name: the rows of its records come to the table's; or else nothing changes, and the
+-- first fault is told, where neither memory nor the reader failed.
+abbrev pub IsLoad : List (Name × Contents) → List (Name × Contents) → Name → List Fields → Result (Unit {0}) StoreError → Type 0
+IsLoad old new name recs (Ok u) =
+    (entry : Name × Contents) × (rows : List Row) × (find (is_named name) old ≡ Some entry) × (due_rows entry.1 recs ≡ Ok rows) × (new ≡ first_changed (is_named name) (with_rows rows) old)
+IsLoad old new name recs (Err errors.UndefinedTable) = find (is_named name) old ≡ None
+IsLoad old new name recs (Err (errors.Data e)) = (entry : Name × Contents) × (find (is_named name) old ≡ Some entry) × (is_told true e ≡ true → due_rows entry.1 recs ≡ Err e)

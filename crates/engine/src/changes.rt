@@ -1,0 +1,302 @@
+//! What schema statements change.
+
+ghost use Rattle.std.specs.Prelude.{◌≡◌, ◌<◌, ◌++◌, ◌∷◌, [], IfOk, IfSome, OnErr, OnOk, length, map, true};
+ghost use Rattle.std.specs.Str.{bytes_eq};
+ghost use Rattle.std.specs.List.{position_from};
+ghost use Rattle.syntax.specs.Tree.{create_role, create_table, set_owner, enable_security, grant_select, create_policy};
+ghost use Rattle.syntax.specs.View.{act_of, column_entry, policy_text, side_of};
+ghost use Rattle.engine.specs.Catalogue.{policy_entry, table_entry};
+ghost use Rattle.engine.specs.Changes.{after, at_first, changed, fresh_table, grants_to, in_table, policy_of, IsChange};
+ghost use Rattle.engine.specs.Names.{place_of};
+
+use crate::catalog::{Catalog, Policy, Role, TableDef};
+use crate::objections::refusal;
+use crate::resolve::place;
+use memory::Heap;
+use std::alloc::AllocError;
+use syntax::{ColumnDef, Operand, PolicyDef, Statement};
+use text::{Items, Text};
+use value::Refusal;
+
+fn push_names<A: Heap>(
+    alloc: A,
+    list: &mut Items<Text<A>, A>,
+    names: &[Text<A>],
+) -> Result<(), AllocError>
+    ensures { OnOk result (list.new ≡ list.old ++ names.now) }
+{
+    for name in names {
+        list.push(Text::new(alloc, name.as_str())?)?;
+    }
+    Ok(())
+}
+
+fn joined_names<A: Heap>(
+    alloc: A,
+    some: &[Text<A>],
+    more: &[Text<A>],
+) -> Result<Items<Text<A>, A>, AllocError>
+    ensures { IfOk result (λ all. all ≡ some.now ++ more.now) }
+{
+    let mut all = Items::new(alloc);
+    push_names(alloc, &mut all, some)?;
+    push_names(alloc, &mut all, more)?;
+    Ok(all)
+}
+
+fn copy_names<A: Heap>(alloc: A, names: &[Text<A>]) -> Result<Items<Text<A>, A>, AllocError>
+    ensures { IfOk result (λ copy. copy ≡ names.now) }
+{
+    let mut copy = Items::new(alloc);
+    push_names(alloc, &mut copy, names)?;
+    Ok(copy)
+}
+
+fn copy_column<A: Heap>(alloc: A, column: &ColumnDef<A>) -> Result<ColumnDef<A>, AllocError>
+    ensures { IfOk result (λ copy. column_entry copy ≡ column_entry column.now) }
+{
+    Ok(ColumnDef {
+        name: Text::new(alloc, column.name.as_str())?,
+        kind: column.kind,
+    })
+}
+
+fn copy_columns<A: Heap>(
+    alloc: A,
+    columns: &[ColumnDef<A>],
+) -> Result<Items<ColumnDef<A>, A>, AllocError>
+    ensures { IfOk result (λ copy. map (λ c. column_entry c) copy ≡ map (λ c. column_entry c) columns.now) }
+{
+    let mut copy = Items::new(alloc);
+    for column in columns {
+        copy.push(copy_column(alloc, column)?)?;
+    }
+    Ok(copy)
+}
+
+fn copy_operand<A: Heap>(alloc: A, operand: &Operand<A>) -> Result<Operand<A>, AllocError>
+    ensures { IfOk result (λ copy. side_of copy ≡ side_of operand.now) }
+{
+    match operand {
+        Operand::CurrentUser => Ok(Operand::CurrentUser),
+        Operand::Literal(value) => Ok(Operand::Literal(value.copy(alloc)?)),
+    }
+}
+
+fn new_table<A: Heap>(
+    alloc: A,
+    actor: &str,
+    name: &str,
+    columns: &Items<ColumnDef<A>, A>,
+) -> Result<TableDef<A>, AllocError>
+    ensures { IfOk result (λ t. table_entry t ≡ fresh_table actor.now name.now (map (λ c. column_entry c) columns.now)) }
+{
+    let name = Text::new(alloc, name)?;
+    let columns = copy_columns(alloc, columns.as_slice())?;
+    let owner = Text::new(alloc, actor)?;
+    Ok(TableDef {
+        name,
+        columns,
+        owner,
+        secured: false,
+        policies: Items::new(alloc),
+        readers: Items::new(alloc),
+    })
+}
+
+// The place of the table of that name.
+fn table_place<A: Heap>(tables: &[TableDef<A>], name: &str) -> Option<usize>
+    ensures place { result ≡ position_from (λ t. bytes_eq t.name name.now) 0 (map (λ t. table_entry t) tables.now) }
+    ensures within { IfSome result (λ i. i < length tables.now) }
+{
+    for (i, table) in tables.iter().enumerate() {
+        if table.name.as_str() == name {
+            return Some(i);
+        }
+    }
+    None
+}
+
+fn policy_place<A: Heap>(table: &TableDef<A>, policy: &PolicyDef<A>) -> usize
+    ensures { result ≡ (policy_of (policy_text policy.now) (table_entry table.now)).column }
+{
+    match place(table.columns.as_slice(), policy.column.name.as_str()) {
+        Some(place) => place,
+        None => 0,
+    }
+}
+
+fn new_policy<A: Heap>(
+    alloc: A,
+    table: &TableDef<A>,
+    policy: &PolicyDef<A>,
+) -> Result<Policy<A>, AllocError>
+    ensures { IfOk result (λ made. policy_entry made ≡ policy_of (policy_text policy.now) (table_entry table.now)) }
+{
+    let name = Text::new(alloc, policy.name.as_str())?;
+    let roles = copy_names(alloc, policy.roles.as_slice())?;
+    let operand = copy_operand(alloc, &policy.operand)?;
+    Ok(Policy {
+        name,
+        roles,
+        column: policy_place(table, policy),
+        operand,
+    })
+}
+
+fn set_owner_in<A: Heap>(tables: &mut [TableDef<A>], name: &str, owner: Text<A>)
+    ensures { map (λ t. table_entry t) tables.new ≡ in_table name.now (λ t. record t { owner = owner }) (map (λ t. table_entry t) tables.old) }
+{
+    if let Some(i) = table_place(tables, name) {
+        tables[i].owner = owner;
+    }
+}
+
+fn secure_in<A: Heap>(tables: &mut [TableDef<A>], name: &str)
+    ensures { map (λ t. table_entry t) tables.new ≡ in_table name.now (λ t. record t { secured = true }) (map (λ t. table_entry t) tables.old) }
+{
+    if let Some(i) = table_place(tables, name) {
+        tables[i].secured = true;
+    }
+}
+
+fn add_readers_in<A: Heap>(
+    alloc: A,
+    tables: &mut [TableDef<A>],
+    name: &str,
+    roles: &[Text<A>],
+) -> Result<(), AllocError>
+    ensures done { OnOk result (map (λ t. table_entry t) tables.new ≡ in_table name.now (λ t. record t { grants = t.grants ++ grants_to roles.now }) (map (λ t. table_entry t) tables.old)) }
+    ensures unchanged { OnErr result (tables.new ≡ tables.old) }
+{
+    if let Some(i) = table_place(tables, name) {
+        let table = &mut tables[i];
+        table.readers = joined_names(alloc, table.readers.as_slice(), roles)?;
+    }
+    Ok(())
+}
+
+fn add_policy_in<A: Heap>(
+    alloc: A,
+    tables: &mut [TableDef<A>],
+    policy: &PolicyDef<A>,
+) -> Result<(), AllocError>
+    ensures done { OnOk result (map (λ t. table_entry t) tables.new ≡ in_table policy.now.table (λ t. record t { policies = t.policies ++ policy_of (policy_text policy.now) t ∷ [] }) (map (λ t. table_entry t) tables.old)) }
+    ensures unchanged { OnErr result (tables.new ≡ tables.old) }
+{
+    if let Some(i) = table_place(tables, policy.table.as_str()) {
+        let table = &mut tables[i];
+        let made = new_policy(alloc, table, policy)?;
+        table.policies.push(made)?;
+    }
+    Ok(())
+}
+
+impl<A: Heap> Catalog<A> {
+    /// A catalogue with one role, the superuser `root`.
+    pub fn new(alloc: A) -> Result<Catalog<A>, AllocError>
+        ensures { IfOk result (λ cat. cat ≡ at_first) }
+    {
+        let mut roles = Vec::new(alloc);
+        let name = Text::new(alloc, "root")?;
+        roles.push(Role {
+            name,
+            superuser: true,
+        })?;
+        Ok(Catalog {
+            alloc,
+            roles,
+            tables: Vec::new(alloc),
+        })
+    }
+
+    fn create_role(&mut self, name: &str) -> Result<(), AllocError>
+        ensures done { OnOk result (self.new ≡ after self.old [] (create_role name.now)) }
+        ensures unchanged { OnErr result (self.new ≡ self.old) }
+    {
+        let name = Text::new(self.alloc, name)?;
+        self.roles.push(Role {
+            name,
+            superuser: false,
+        })?;
+        Ok(())
+    }
+
+    fn create_table(
+        &mut self,
+        actor: &str,
+        name: &str,
+        columns: &Items<ColumnDef<A>, A>,
+    ) -> Result<(), AllocError>
+        ensures done { OnOk result (self.new ≡ after self.old actor.now (create_table name.now (map (λ c. column_entry c) columns.now))) }
+        ensures unchanged { OnErr result (self.new ≡ self.old) }
+    {
+        let table = new_table(self.alloc, actor, name, columns)?;
+        self.tables.push(table)?;
+        Ok(())
+    }
+
+    // The effect of a statement that is not refused.
+    fn take(&mut self, actor: &str, statement: &Statement<A>) -> Result<(), AllocError>
+        ensures done { OnOk result (self.new ≡ after self.old actor.now (act_of statement.now)) }
+        ensures unchanged { OnErr result (self.new ≡ self.old) }
+    {
+        match statement {
+            Statement::CreateRole(name) => self.create_role(name.as_str()),
+            Statement::CreateTable(name, columns) => {
+                self.create_table(actor, name.as_str(), columns)
+            }
+            Statement::SetOwner(name, role) => self.set_owner(name.as_str(), role.as_str()),
+            Statement::EnableRowSecurity(name) => {
+                self.enable_security(name.as_str());
+                Ok(())
+            }
+            Statement::GrantSelect(name, roles) => {
+                self.add_readers(name.as_str(), roles.as_slice())
+            }
+            Statement::CreatePolicy(policy) => self.add_policy(policy),
+        }
+    }
+
+    /// Applies a statement of an actor. A refused statement changes nothing.
+    pub fn apply(&mut self, actor: &str, statement: &Statement<A>) -> Result<(), Refusal>
+        ensures { IsChange self.old self.new (changed self.old actor.now (act_of statement.now)) result }
+    {
+        if let Some(why) = refusal(self, actor, statement) {
+            return Err(why);
+        }
+        match self.take(actor, statement) {
+            Ok(()) => Ok(()),
+            Err(_) => Err(Refusal::OutOfMemory),
+        }
+    }
+
+    fn set_owner(&mut self, name: &str, role: &str) -> Result<(), AllocError>
+        ensures done { OnOk result (self.new ≡ after self.old [] (set_owner name.now role.now)) }
+        ensures unchanged { OnErr result (self.new ≡ self.old) }
+    {
+        let owner = Text::new(self.alloc, role)?;
+        set_owner_in(&mut self.tables, name, owner);
+        Ok(())
+    }
+
+    fn enable_security(&mut self, name: &str)
+        ensures { self.new ≡ after self.old [] (enable_security name.now) }
+    {
+        secure_in(&mut self.tables, name);
+    }
+
+    fn add_readers(&mut self, name: &str, roles: &[Text<A>]) -> Result<(), AllocError>
+        ensures done { OnOk result (self.new ≡ after self.old [] (grant_select name.now roles.now)) }
+        ensures unchanged { OnErr result (self.new ≡ self.old) }
+    {
+        add_readers_in(self.alloc, &mut self.tables, name, roles)
+    }
+
+    fn add_policy(&mut self, policy: &PolicyDef<A>) -> Result<(), AllocError>
+        ensures done { OnOk result (self.new ≡ after self.old [] (create_policy (policy_text policy.now))) }
+        ensures unchanged { OnErr result (self.new ≡ self.old) }
+    {
+        add_policy_in(self.alloc, &mut self.tables, policy)
+    }
+}

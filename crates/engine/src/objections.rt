@@ -1,0 +1,263 @@
+//! When a schema statement is refused.
+
+ghost use Rattle.std.specs.Prelude.{◌≡◌, ◌&&◌, ◌||◌, map, true};
+ghost use Rattle.std.specs.List.{list_all};
+ghost use Rattle.value.specs.Datum.{datum};
+ghost use Rattle.syntax.specs.Tree.{create_role, create_table, set_owner, enable_security, grant_select, create_policy};
+ghost use Rattle.syntax.specs.View.{act_of, column_entry, policy_text, side_of};
+ghost use Rattle.engine.specs.Access.{belongs, is_superuser};
+ghost use Rattle.engine.specs.Catalogue.{table_entry};
+ghost use Rattle.engine.specs.Changes.{first_refusal, objections, refusal_of, condition_objections, owns, is_known, has_name, has_name_twice, is_of, side_is_of, fits};
+
+use crate::catalog::{Catalog, TableDef};
+use crate::resolve::is_qualified;
+use memory::Heap;
+use syntax::{ColumnDef, Operand, PolicyDef, Statement};
+use text::{Items, Text};
+use value::{ColType, Refusal, Value};
+
+fn owns<A: Heap>(catalog: &Catalog<A>, actor: &str, table: &TableDef<A>) -> bool
+    ensures { result ≡ owns catalog.now actor.now (table_entry table.now) }
+{
+    catalog.is_superuser(actor) || catalog.is_member(actor, table.owner.as_str())
+}
+
+fn is_known<A: Heap>(catalog: &Catalog<A>, name: &str) -> bool
+    ensures { result ≡ is_known catalog.now name.now }
+{
+    name == "public" || catalog.is_role(name)
+}
+
+fn are_known<A: Heap>(catalog: &Catalog<A>, names: &[Text<A>]) -> bool
+    ensures { result ≡ list_all (is_known catalog.now) names.now }
+{
+    for name in names {
+        if !is_known(catalog, name.as_str()) {
+            return false;
+        }
+    }
+    true
+}
+
+fn has_name<A: Heap>(columns: &[ColumnDef<A>], name: &str) -> bool
+    ensures { result ≡ has_name name.now (map (λ c. column_entry c) columns.now) }
+{
+    for column in columns {
+        if column.name.as_str() == name {
+            return true;
+        }
+    }
+    false
+}
+
+fn has_name_twice<A: Heap>(columns: &[ColumnDef<A>]) -> bool
+    ensures { result ≡ has_name_twice (map (λ c. column_entry c) columns.now) }
+{
+    for (i, column) in columns.iter().enumerate() {
+        if has_name(&columns[i + 1..], column.name.as_str()) {
+            return true;
+        }
+    }
+    false
+}
+
+fn is_of<A: Heap>(kind: ColType, value: &Value<A>) -> bool
+    ensures { result ≡ is_of kind (datum value.now) }
+{
+    match (kind, value) {
+        (_, Value::Null) => true,
+        (ColType::Bigint, Value::Int(_)) => true,
+        (ColType::Text, Value::Text(_)) => true,
+        (ColType::Boolean, Value::Bool(_)) => true,
+        _ => false,
+    }
+}
+
+fn side_is_of<A: Heap>(kind: ColType, operand: &Operand<A>) -> bool
+    ensures { result ≡ side_is_of kind (side_of operand.now) }
+{
+    match operand {
+        Operand::CurrentUser => matches!(kind, ColType::Text),
+        Operand::Literal(value) => is_of(kind, value),
+    }
+}
+
+fn fits<A: Heap>(columns: &[ColumnDef<A>], name: &str, operand: &Operand<A>) -> bool
+    ensures { result ≡ fits (map (λ c. column_entry c) columns.now) name.now (side_of operand.now) }
+{
+    for column in columns {
+        if column.name.as_str() == name {
+            return side_is_of(column.kind, operand);
+        }
+    }
+    true
+}
+
+fn of_new_role<A: Heap>(catalog: &Catalog<A>, actor: &str, name: &str) -> Option<Refusal>
+    ensures { result ≡ first_refusal (objections catalog.now actor.now (create_role name.now)) }
+{
+    if !catalog.is_superuser(actor) {
+        Some(Refusal::InsufficientPrivilege)
+    } else if is_known(catalog, name) {
+        Some(Refusal::DuplicateObject)
+    } else if catalog.roles() > 255 {
+        Some(Refusal::ProgramLimitExceeded)
+    } else {
+        None
+    }
+}
+
+fn of_new_table<A: Heap>(
+    catalog: &Catalog<A>,
+    actor: &str,
+    name: &str,
+    columns: &Items<ColumnDef<A>, A>,
+) -> Option<Refusal>
+    ensures { result ≡ first_refusal (objections catalog.now actor.now (create_table name.now (map (λ c. column_entry c) columns.now))) }
+{
+    let _actor = actor;
+    if catalog.table(name).is_some() {
+        Some(Refusal::DuplicateTable)
+    } else if has_name_twice(columns.as_slice()) {
+        Some(Refusal::DuplicateColumn)
+    } else if catalog.tables() > 63 || columns.len() > 64 {
+        Some(Refusal::ProgramLimitExceeded)
+    } else {
+        None
+    }
+}
+
+fn may_give<A: Heap>(catalog: &Catalog<A>, actor: &str, table: &TableDef<A>, role: &str) -> bool
+    ensures { result ≡ (is_superuser catalog.now actor.now || (belongs catalog.now actor.now (table_entry table.now).owner && belongs catalog.now actor.now role.now)) }
+{
+    catalog.is_superuser(actor)
+        || (catalog.is_member(actor, table.owner.as_str()) && catalog.is_member(actor, role))
+}
+
+fn of_new_owner<A: Heap>(
+    catalog: &Catalog<A>,
+    actor: &str,
+    name: &str,
+    role: &str,
+) -> Option<Refusal>
+    ensures { result ≡ first_refusal (objections catalog.now actor.now (set_owner name.now role.now)) }
+{
+    let Some(table) = catalog.table(name) else {
+        return Some(Refusal::UndefinedTable);
+    };
+    if !catalog.is_role(role) {
+        Some(Refusal::UndefinedObject)
+    } else if !may_give(catalog, actor, table, role) {
+        Some(Refusal::InsufficientPrivilege)
+    } else {
+        None
+    }
+}
+
+fn of_security<A: Heap>(catalog: &Catalog<A>, actor: &str, name: &str) -> Option<Refusal>
+    ensures { result ≡ first_refusal (objections catalog.now actor.now (enable_security name.now)) }
+{
+    let Some(table) = catalog.table(name) else {
+        return Some(Refusal::UndefinedTable);
+    };
+    if !owns(catalog, actor, table) {
+        Some(Refusal::InsufficientPrivilege)
+    } else {
+        None
+    }
+}
+
+fn of_grant<A: Heap>(
+    catalog: &Catalog<A>,
+    actor: &str,
+    name: &str,
+    roles: &[Text<A>],
+) -> Option<Refusal>
+    ensures { result ≡ first_refusal (objections catalog.now actor.now (grant_select name.now roles.now)) }
+{
+    let Some(table) = catalog.table(name) else {
+        return Some(Refusal::UndefinedTable);
+    };
+    if !owns(catalog, actor, table) {
+        Some(Refusal::InsufficientPrivilege)
+    } else if !are_known(catalog, roles) {
+        Some(Refusal::UndefinedObject)
+    } else {
+        None
+    }
+}
+
+fn of_condition<A: Heap>(table: &TableDef<A>, policy: &PolicyDef<A>) -> Option<Refusal>
+    ensures { result ≡ first_refusal (condition_objections (table_entry table.now) (policy_text policy.now)) }
+{
+    let columns = table.columns.as_slice();
+    let name = policy.column.name.as_str();
+    if !is_qualified(table.name.as_str(), &policy.column.table) {
+        Some(Refusal::UndefinedTable)
+    } else if !has_name(columns, name) {
+        Some(Refusal::UndefinedColumn)
+    } else if !fits(columns, name, &policy.operand) {
+        Some(Refusal::DatatypeMismatch)
+    } else {
+        None
+    }
+}
+
+fn of_policy<A: Heap>(
+    catalog: &Catalog<A>,
+    actor: &str,
+    policy: &PolicyDef<A>,
+) -> Option<Refusal>
+    ensures { result ≡ first_refusal (objections catalog.now actor.now (create_policy (policy_text policy.now))) }
+{
+    let Some(table) = catalog.table(policy.table.as_str()) else {
+        return Some(Refusal::UndefinedTable);
+    };
+    if table.policies.len() > 0 {
+        Some(Refusal::FeatureNotSupported)
+    } else if !owns(catalog, actor, table) {
+        Some(Refusal::InsufficientPrivilege)
+    } else if !are_known(catalog, policy.roles.as_slice()) {
+        Some(Refusal::UndefinedObject)
+    } else {
+        of_condition(table, policy)
+    }
+}
+
+fn of_statement<A: Heap>(
+    catalog: &Catalog<A>,
+    actor: &str,
+    statement: &Statement<A>,
+) -> Option<Refusal>
+    ensures { result ≡ first_refusal (objections catalog.now actor.now (act_of statement.now)) }
+{
+    match statement {
+        Statement::CreateRole(name) => of_new_role(catalog, actor, name.as_str()),
+        Statement::CreateTable(name, columns) => {
+            of_new_table(catalog, actor, name.as_str(), columns)
+        }
+        Statement::SetOwner(table, role) => {
+            of_new_owner(catalog, actor, table.as_str(), role.as_str())
+        }
+        Statement::EnableRowSecurity(table) => of_security(catalog, actor, table.as_str()),
+        Statement::GrantSelect(table, roles) => {
+            of_grant(catalog, actor, table.as_str(), roles.as_slice())
+        }
+        Statement::CreatePolicy(policy) => of_policy(catalog, actor, policy),
+    }
+}
+
+/// The refusal of a statement by an actor, if there is one.
+pub fn refusal<A: Heap>(
+    catalog: &Catalog<A>,
+    actor: &str,
+    statement: &Statement<A>,
+) -> Option<Refusal>
+    ensures { result ≡ refusal_of catalog.now actor.now (act_of statement.now) }
+{
+    if catalog.is_role(actor) {
+        of_statement(catalog, actor, statement)
+    } else {
+        Some(Refusal::UndefinedObject)
+    }
+}

@@ -1,0 +1,250 @@
+//! Replies, and how they are written.
+
+ghost use Rattle.std.specs.Prelude.{◌≡◌, ◌<◌, ◌++◌, ◌∷◌, IfOk, OnOk, map, flat_map, Some};
+ghost use Rattle.std.specs.List.{list_any};
+ghost use Rattle.value.specs.Datum.{datum, row_of, text as text_datum};
+ghost use Rattle.engine.specs.Reply.{refused, denied, rows as answered, is_special, needs_quotes, quoted_text, field_text, line_text, offset_text, column_text, reply_text, refusal_status, reply_status};
+ghost use Rattle.engine.specs.Replying.{outcome_of};
+
+use itoa::Buffer;
+use memory::Heap;
+use std::alloc::AllocError;
+use text::{Items, Text};
+use value::{Refusal, Value};
+
+/// The reply to a role's text.
+#[derive(Debug, Drop)]
+pub enum Reply<A: Heap> {
+    /// A refusal, and the byte of the text where it is due, if it has one.
+    Refused(Refusal, Option<u32>),
+    /// SELECT is missing on this column of this table, or on each part of it.
+    Denied(Option<Text<A>>, Text<A>),
+    /// The headings, and the rows in order.
+    Rows(Items<Text<A>, A>, Items<Items<Value<A>, A>, A>),
+}
+
+fn special(b: u8) -> bool
+    ensures { result ≡ is_special b }
+{
+    b == b',' || b == b'"' || b == b'\n' || b == b'\r'
+}
+
+fn any_special(bytes: &[u8]) -> bool
+    ensures { result ≡ list_any is_special bytes.now }
+{
+    bytes.iter().any(|b| special(*b))
+}
+
+fn wants_quotes(bytes: &[u8]) -> bool
+    ensures { result ≡ needs_quotes bytes.now }
+{
+    bytes.is_empty() || any_special(bytes)
+}
+
+fn push_quoted<A: Heap>(out: &mut Vec<u8, A>, bytes: &[u8]) -> Result<(), AllocError>
+    ensures { OnOk result (out.new.items ≡ out.old.items ++ quoted_text bytes.now) }
+{
+    if !wants_quotes(bytes) {
+        out.extend_from_slice(bytes)?;
+        return Ok(());
+    }
+    out.push(b'"')?;
+    for b in bytes {
+        if *b == b'"' {
+            out.push(b'"')?;
+        }
+        out.push(*b)?;
+    }
+    out.push(b'"')?;
+    Ok(())
+}
+
+fn push_field<A: Heap>(out: &mut Vec<u8, A>, value: &Value<A>) -> Result<(), AllocError>
+    ensures { OnOk result (out.new.items ≡ out.old.items ++ field_text (datum value.now)) }
+{
+    match value {
+        Value::Null => out.extend_from_slice(b"\\N"),
+        Value::Int(n) => {
+            let mut buffer = Buffer::new();
+            out.extend_from_slice(buffer.format(*n).as_bytes())
+        }
+        Value::Text(text) => push_quoted(out, text.as_str().as_bytes()),
+        Value::Bool(true) => out.extend_from_slice(b"t"),
+        Value::Bool(false) => out.extend_from_slice(b"f"),
+    }
+}
+
+fn push_further_fields<A: Heap>(out: &mut Vec<u8, A>, row: &[Value<A>]) -> Result<(), AllocError>
+    ensures { OnOk result (out.new.items ≡ out.old.items ++ flat_map (λ e. 44 ∷ field_text e) (row_of row.now)) }
+{
+    for value in row {
+        out.push(b',')?;
+        push_field(out, value)?;
+    }
+    Ok(())
+}
+
+fn push_line<A: Heap>(out: &mut Vec<u8, A>, row: &[Value<A>]) -> Result<(), AllocError>
+    ensures { OnOk result (out.new.items ≡ out.old.items ++ line_text (row_of row.now)) }
+{
+    if let Some((first, others)) = row.split_first() {
+        push_field(out, first)?;
+        push_further_fields(out, others)?;
+    }
+    out.push(b'\n')?;
+    Ok(())
+}
+
+fn push_further_names<A: Heap>(out: &mut Vec<u8, A>, names: &[Text<A>]) -> Result<(), AllocError>
+    ensures { OnOk result (out.new.items ≡ out.old.items ++ flat_map (λ e. 44 ∷ field_text e) (map text_datum names.now)) }
+{
+    for name in names {
+        out.push(b',')?;
+        push_quoted(out, name.as_str().as_bytes())?;
+    }
+    Ok(())
+}
+
+fn push_header<A: Heap>(out: &mut Vec<u8, A>, names: &[Text<A>]) -> Result<(), AllocError>
+    ensures { OnOk result (out.new.items ≡ out.old.items ++ line_text (map text_datum names.now)) }
+{
+    if let Some((first, others)) = names.split_first() {
+        push_quoted(out, first.as_str().as_bytes())?;
+        push_further_names(out, others)?;
+    }
+    out.push(b'\n')?;
+    Ok(())
+}
+
+fn push_rows<A: Heap>(
+    out: &mut Vec<u8, A>,
+    rows: &[Items<Value<A>, A>],
+) -> Result<(), AllocError>
+    ensures { OnOk result (out.new.items ≡ out.old.items ++ flat_map line_text (map (λ r. row_of r) rows.now)) }
+{
+    for row in rows {
+        push_line(out, row.as_slice())?;
+    }
+    Ok(())
+}
+
+fn push_str<A: Heap>(out: &mut Vec<u8, A>, text: &str) -> Result<(), AllocError>
+    ensures { OnOk result (out.new.items ≡ out.old.items ++ text.now) }
+{
+    out.extend_from_slice(text.as_bytes())
+}
+
+fn push_offset<A: Heap>(out: &mut Vec<u8, A>, at: Option<u32>) -> Result<(), AllocError>
+    ensures { OnOk result (out.new.items ≡ out.old.items ++ offset_text at) }
+{
+    if let Some(at) = at {
+        push_str(out, " at ")?;
+        let mut buffer = Buffer::new();
+        push_str(out, buffer.format(at))?;
+    }
+    Ok(())
+}
+
+fn push_refusal<A: Heap>(
+    out: &mut Vec<u8, A>,
+    why: Refusal,
+    at: Option<u32>,
+) -> Result<(), AllocError>
+    ensures { OnOk result (out.new.items ≡ out.old.items ++ reply_text (refused why at)) }
+{
+    push_str(out, "refused ")?;
+    push_str(out, why.code())?;
+    push_offset(out, at)?;
+    push_str(out, "\n")?;
+    Ok(())
+}
+
+fn push_column<A: Heap>(out: &mut Vec<u8, A>, column: &Option<Text<A>>) -> Result<(), AllocError>
+    ensures { OnOk result (out.new.items ≡ out.old.items ++ column_text column.now) }
+{
+    if let Some(column) = column {
+        push_str(out, "column ")?;
+        push_str(out, column.as_str())?;
+        push_str(out, " of ")?;
+    }
+    Ok(())
+}
+
+fn push_denial<A: Heap>(
+    out: &mut Vec<u8, A>,
+    column: &Option<Text<A>>,
+    table: &str,
+) -> Result<(), AllocError>
+    ensures { OnOk result (out.new.items ≡ out.old.items ++ reply_text (denied column.now table.now)) }
+{
+    push_str(out, "denied 42501 ")?;
+    push_column(out, column)?;
+    push_str(out, "table ")?;
+    push_str(out, table)?;
+    push_str(out, "\n")?;
+    Ok(())
+}
+
+fn push_answer<A: Heap>(
+    out: &mut Vec<u8, A>,
+    headings: &[Text<A>],
+    rows: &[Items<Value<A>, A>],
+) -> Result<(), AllocError>
+    ensures { OnOk result (out.new.items ≡ out.old.items ++ reply_text (answered headings.now (map (λ r. row_of r) rows.now))) }
+{
+    push_header(out, headings)?;
+    push_rows(out, rows)?;
+    Ok(())
+}
+
+fn push_reply<A: Heap>(out: &mut Vec<u8, A>, reply: &Reply<A>) -> Result<(), AllocError>
+    ensures { OnOk result (out.new.items ≡ out.old.items ++ reply_text (outcome_of reply.now)) }
+{
+    match reply {
+        Reply::Refused(why, at) => push_refusal(out, *why, *at),
+        Reply::Denied(column, table) => push_denial(out, column, table.as_str()),
+        Reply::Rows(headings, rows) => push_answer(out, headings.as_slice(), rows.as_slice()),
+    }
+}
+
+/// The text of a reply: header and rows as comma-separated fields, or one line, with LF after each line.
+pub fn reply_text<A: Heap>(alloc: A, reply: &Reply<A>) -> Result<Vec<u8, A>, AllocError>
+    ensures { IfOk result (λ text. text.items ≡ reply_text (outcome_of reply.now)) }
+{
+    let mut out = Vec::new(alloc);
+    push_reply(&mut out, reply)?;
+    Ok(out)
+}
+
+fn refusal_status(why: Refusal) -> u8
+    ensures status { result ≡ refusal_status why }
+    ensures few { result < 8 }
+{
+    match why {
+        Refusal::UndefinedObject => 6,
+        Refusal::OutOfMemory => 7,
+        Refusal::FeatureNotSupported
+        | Refusal::InsufficientPrivilege
+        | Refusal::SyntaxError
+        | Refusal::DuplicateColumn
+        | Refusal::UndefinedColumn
+        | Refusal::DuplicateObject
+        | Refusal::DatatypeMismatch
+        | Refusal::UndefinedTable
+        | Refusal::DuplicateTable
+        | Refusal::ProgramLimitExceeded => 3,
+    }
+}
+
+/// The exit status of a reply: 0 rows, 3 a refused text, 4 a denial, 6 an unknown role, 7 want of memory.
+pub fn reply_status<A: Heap>(reply: &Reply<A>) -> u8
+    ensures status { result ≡ reply_status (outcome_of reply.now) }
+    ensures few { result < 8 }
+{
+    match reply {
+        Reply::Refused(_, Some(_)) => 3,
+        Reply::Refused(why, None) => refusal_status(*why),
+        Reply::Denied(_, _) => 4,
+        Reply::Rows(_, _) => 0,
+    }
+}

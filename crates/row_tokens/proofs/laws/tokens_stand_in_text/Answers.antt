@@ -1,0 +1,12 @@
+use Rattle.row_tokens.proofs.Places.{are_slices, are_in_order}
+use Rattle.row_tokens.proofs.Quoted.{are_in_quotes}
+use Rattle.row_tokens.proofs.laws.tokens_stand_in_text.Goals as goal
+
+pub returns-clause-slices : goal.returns-clause-slices
+returns-clause-slices c = are_slices
+
+pub returns-clause-order : goal.returns-clause-order
+returns-clause-order c = are_in_order
+
+pub returns-clause-quotes : goal.returns-clause-quotes
+returns-clause-quotes c = are_in_quotes

@@ -1,0 +1,80 @@
+use Rattle.std.proofs.Common.{rules, arith, ◌≡◌, ◌≤◌, map, length, Some, refl, ◌∙◌}
+use Rattle.std.proofs.lemmas.List.{length-append, length-map, map-append}
+use Rattle.std.proofs.lemmas.List.Elements.{All-push}
+use Rattle.std.proofs.lemmas.Result.{err_from_is_err_and}
+use Rattle.csv.specs.Records.{fields_of}
+use Rattle.tables.specs.Loading.{col_of, rows_data}
+use Rattle.tables.proofs.Follow.{all_seen, cell_refused, no_room_left, one_more_seen, out_of_memory, refused, start_seen, width}
+use Rattle.tables.proofs.load.read_rows.Goals as goal
+
+pub loop-done-init : goal.loop-done-init
+loop-done-init g c = record {
+  count = search rules;
+  expected = c.requires.expected;
+  fresh = c.requires.fresh;
+  wide = search rules;
+  seen = rw c.new-rows.ensures.items (start_seen (map col_of c.args.columns.now) c.args.room c.args.records.now.records);
+}
+
+pub returns-in_err-next_record-clause-rows : goal.returns-in_err-next_record-clause-rows
+returns-in_err-next_record-clause-rows g c =
+    let p = err_from_is_err_and c.from_residual.result c.from_residual.ensures.1 in
+    let cols = map col_of c.args.columns.now in
+    let expected : c.loop-done.records.expected ≡ Some (length cols) = rw length-map c.loop-done.invariant.expected in
+    let within : c.loop-done.done ≤ c.args.room = omega arith in
+    rw (p.1, p.2) (refused g.row.A.Denot cols c.args.room c.loop-done.done (rows_data c.loop-done.rows.items) c.args.records.now.records c.loop-done.records c.next_record.new.records _ within c.loop-done.invariant.seen expected c.in_err-next_record.ensures.refuses)
+
+pub returns-then-not-branch-clause-rows : goal.returns-then-not-branch-clause-rows
+returns-then-not-branch-clause-rows g c =
+    let gives = rw c.if-not-branch.true at c.in_ok-next_record.ensures.gives in
+    all_seen (map col_of c.args.columns.now) c.args.room c.loop-done.done c.loop-done.rows c.args.records.now.records c.loop-done.records c.next_record.new.records (fields_of c.next_record.new.cells) c.next_record.new.records.failed c.loop-done.invariant.seen gives
+
+pub returns-in_err-read_row-clause-rows : goal.returns-in_err-read_row-clause-rows
+returns-in_err-read_row-clause-rows g c =
+    let p = err_from_is_err_and c.from_residual-in_err-read_row.result c.from_residual-in_err-read_row.ensures.1 in
+    let gives = rw c.if-not-branch.false at c.in_ok-next_record.ensures.gives in
+    let cols = map col_of c.args.columns.now in
+    let expected : c.loop-done.records.expected ≡ Some (length cols) = rw length-map c.loop-done.invariant.expected in
+    rw (p.1, p.2) (cell_refused g.row.A.Denot cols c.args.room c.loop-done.done (rows_data c.loop-done.rows.items) c.args.records.now.records c.loop-done.records c.next_record.new.records (fields_of c.next_record.new.cells) c.next_record.new.records.failed _ c.loop-done-test.true c.loop-done.invariant.seen gives expected c.in_err-read_row.ensures.cells c.in_err-read_row.ensures.no_reader)
+
+pub returns-in_err-push-clause-rows : goal.returns-in_err-push-clause-rows
+returns-in_err-push-clause-rows g c =
+    let p = err_from_is_err_and c.from_residual-in_err-push.result c.from_residual-in_err-push.ensures.1 in
+    rw (p.1, p.2) (out_of_memory g.row.A.Denot (map col_of c.args.columns.now) c.args.room c.args.records.now.records c.next_record.new.records.failed _ refl)
+
+pub loop-done-preserved : goal.loop-done-preserved
+loop-done-preserved g c =
+    let gives = rw c.if-not-branch.false at c.in_ok-next_record.ensures.gives in
+    let cols = map col_of c.args.columns.now in
+    let expected : c.loop-done.records.expected ≡ Some (length cols) = rw length-map c.loop-done.invariant.expected in
+    let items = c.in_ok-push.ensures.items in
+    record {
+      count = rw items (search (rules, length-append));
+      expected = rw length-map at (width (length cols) c.loop-done.records c.next_record.new.records (fields_of c.next_record.new.cells) gives expected).1;
+      fresh = c.in_ok-next_record.ensures.goes_on ∙ c.loop-done.invariant.fresh;
+      wide = rw items (All-push (λ r. length r ≡ length c.args.columns.now) c.loop-done.rows.items _ c.loop-done.invariant.wide c.in_ok-read_row.ensures.wide);
+      seen = rw (items, map-append) (one_more_seen cols c.args.room c.loop-done.done (rows_data c.loop-done.rows.items) _ c.args.records.now.records c.loop-done.records c.next_record.new.records (fields_of c.next_record.new.cells) c.loop-done-test.true c.loop-done.invariant.seen gives expected c.in_ok-read_row.ensures.cells);
+    }
+
+pub returns-in_err-next_record-2-clause-rows : goal.returns-in_err-next_record-2-clause-rows
+returns-in_err-next_record-2-clause-rows g c =
+    let p = err_from_is_err_and c.from_residual-in_err-next_record-2.result c.from_residual-in_err-next_record-2.ensures.1 in
+    let cols = map col_of c.args.columns.now in
+    let expected : c.loop-done.records.expected ≡ Some (length cols) = rw length-map c.loop-done.invariant.expected in
+    let full : c.args.room ≡ c.loop-done.done = omega arith in
+    let within : c.loop-done.done ≤ c.args.room = omega arith in
+    let refuses = rw full at c.in_err-next_record-2.ensures.refuses in
+    rw (p.1, p.2) (refused g.row.A.Denot cols c.args.room c.loop-done.done (rows_data c.loop-done.rows.items) c.args.records.now.records c.loop-done.records c.next_record-2.new.records _ within c.loop-done.invariant.seen expected refuses)
+
+pub returns-then-branch-clause-rows : goal.returns-then-branch-clause-rows
+returns-then-branch-clause-rows g c =
+    let gives = rw c.if-branch.true at c.in_ok-next_record-2.ensures.gives in
+    let cols = map col_of c.args.columns.now in
+    let expected : c.loop-done.records.expected ≡ Some (length cols) = rw length-map c.loop-done.invariant.expected in
+    let full : c.loop-done.done ≡ c.args.room = omega arith in
+    no_room_left g.row.A.Denot cols c.args.room c.loop-done.done (rows_data c.loop-done.rows.items) c.args.records.now.records c.loop-done.records c.next_record-2.new.records (fields_of c.next_record-2.new.cells) c.next_record-2.new.records.failed full c.loop-done.invariant.seen gives expected
+
+pub returns-clause-rows : goal.returns-clause-rows
+returns-clause-rows g c =
+    let gives = rw c.if-branch.false at c.in_ok-next_record-2.ensures.gives in
+    all_seen (map col_of c.args.columns.now) c.args.room c.loop-done.done c.loop-done.rows c.args.records.now.records c.loop-done.records c.next_record-2.new.records (fields_of c.next_record-2.new.cells) c.next_record-2.new.records.failed c.loop-done.invariant.seen gives

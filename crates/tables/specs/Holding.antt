@@ -1,0 +1,12 @@
+-- What a table's fields hold.
+use Rattle.std.specs.Prelude.{◌≡◌, ◌≤◌, length, map, All}
+use Rattle.tables.specs.declared.TheConstants.{MAX_ROWS}
+use Rattle.tables.specs.declared.table.Table.TheInside.{Inside}
+use Rattle.tables.specs.Loading.{Contents, col_of, rows_data}
+
+abbrev pub contents_of : {A : Type 0} → Inside A → Contents
+contents_of a = record { columns = map col_of a.columns; rows = rows_data a.rows.items }
+
+-- each row has a value for each column, and there are not too many
+abbrev pub IsHeld : {A : Type 0} → Inside A → Type 0
+IsHeld a = All (λ r. length r ≡ length a.columns) a.rows.items × (length a.rows.items ≤ MAX_ROWS)

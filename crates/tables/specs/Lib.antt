@@ -1,0 +1,3 @@
+pub mod Loading
+pub mod Reading
+pub mod Holding

@@ -1,0 +1,115 @@
+-- The rows that the records of a text give, or the first fault.
+use Rattle.std.specs.Prelude.{ℕ, zero, suc, ◌+◌, ◌<◌, ◌==◌, ◌&&◌, not, ◌≡◌, Bool, true, false, List, [], ◌∷◌, ◌++◌, length, map, take, get_or, Result, Ok, Err, IfErr, if◌then◌else◌}
+use Rattle.std.specs.Str.{bytes_eq, is_utf8}
+use Rattle.csv.specs.Reading.{default_config, records, strip_bom}
+use Rattle.value.specs.declared.types.ColType.{ColType}
+use Rattle.value.specs.declared.types.Kind.{Kind}
+use Rattle.value.specs.declared.types.Value.{Value}
+use Rattle.value.specs.Datum.{Datum, null, Row, row_of}
+use Rattle.value.specs.Texts.{value_at}
+use Rattle.tables.specs.declared.Column.{Column}
+use Rattle.tables.specs.declared.LoadError.{LoadError}
+use Rattle.tables.specs.declared.LoadError.TheVariants as error
+
+-- a column: its name, its type, and whether each row must have a value there
+pub record Col : Type 0 where
+  pub name : List ℕ
+  pub kind : ColType
+  pub required : Bool
+
+abbrev pub col_of : {A : Type 0} → Column A → Col
+col_of c = record { name = c.name; kind = c.kind; required = c.required }
+
+-- what a table holds
+pub record Contents : Type 0 where
+  pub columns : List Col
+  pub rows : List Row
+
+-- the fields of a record, each as its bytes
+abbrev pub Fields : Type 0
+Fields = List (List ℕ)
+
+-- the records of a text: comma-separated, and the header is one of them
+abbrev pub records_of : List ℕ → List Fields
+records_of bytes = records default_config (strip_bom bytes)
+
+-- the field that stands for null: a backslash and N
+abbrev pub null_field : List ℕ
+null_field = 92 ∷ 78 ∷ []
+
+-- one more item in front, or else the first fault
+abbrev pub both : {X : Type 0} → Result X LoadError → Result (List X) LoadError → Result (List X) LoadError
+both (Err e) r = Err e
+both (Ok x) (Err e) = Err e
+both (Ok x) (Ok xs) = Ok (x ∷ xs)
+
+-- what is no value of the type is told with its place
+abbrev pub placed : ℕ → ℕ → Result Datum Kind → Result Datum LoadError
+placed row column (Ok d) = Ok d
+placed row column (Err k) = Err (error.Cell row column)
+
+-- a cell: null, or the value that its text spells
+abbrev pub cell_of : Col → ℕ → ℕ → List ℕ → Result Datum LoadError
+cell_of c row column f =
+    if bytes_eq f null_field then (if c.required then Err (error.NotNull row column) else Ok null)
+    else if is_utf8 f then placed row column (value_at c.kind f) else Err (error.Cell row column)
+
+-- the cells of a row, from a column on
+unfoldable pub cells_of : List Col → ℕ → ℕ → Fields → Result Row LoadError
+cells_of [] row column fs = Ok []
+cells_of (c ∷ cs) row column [] = Err (error.Reader row)
+cells_of (c ∷ cs) row column (f ∷ fs) = both (cell_of c row column f) (cells_of cs row (column + 1) fs)
+
+-- the rows of records, from a row on, where there is room for so many
+unfoldable pub rows_of : List Col → ℕ → ℕ → List Fields → Result (List Row) LoadError
+rows_of cols room row [] = Ok []
+rows_of cols zero row (r ∷ rs) = if length r == length cols then Err error.TooMany else Err (error.Reader row)
+rows_of cols (suc room) row (r ∷ rs) =
+    if length r == length cols then both (cells_of cols row 0 r) (rows_of cols room (row + 1) rs) else Err (error.Reader row)
+
+-- the fields are the names of the columns, in order
+unfoldable pub names : List Col → Fields → Bool
+names [] [] = true
+names [] (f ∷ fs) = false
+names (c ∷ cs) [] = false
+names (c ∷ cs) (f ∷ fs) = bytes_eq f c.name && names cs fs
+
+-- the rows of records whose first one is the names of the columns
+abbrev pub load_of : List Col → ℕ → List Fields → Result (List Row) LoadError
+load_of cols room [] = Err error.Header
+load_of cols room (h ∷ rs) = if names cols h then rows_of cols room 1 rs else Err error.Header
+
+-- whether an error tells of the records: memory tells nothing, and a row that was not read only if no read failed
+abbrev pub is_told : Bool → LoadError → Bool
+is_told failed error.Header = true
+is_told failed (error.Reader row) = not failed
+is_told failed (error.Cell row column) = true
+is_told failed (error.NotNull row column) = true
+is_told failed error.TooMany = true
+is_told failed error.OutOfMemory = false
+
+-- a result is the one that is due, where it tells of the records
+abbrev pub Follows : {X Y : Type 0} → (Y → X) → Bool → Result X LoadError → Result Y LoadError → Type 0
+Follows view failed due (Ok y) = due ≡ Ok (view y)
+Follows view failed due (Err e) = is_told failed e ≡ true → due ≡ Err e
+
+-- a table has the rows that are due, or a fault is the one that is due; a read may have failed
+abbrev pub Loads : Result (List Row) LoadError → Result Contents LoadError → Type 0
+Loads due result = Follows (λ t. t.rows) true due result
+
+-- the rows that are due came to those that were there, or a fault is the one that is due; a read may have failed
+abbrev pub Appends : Result (List Row) LoadError → List Row → List Row → Result (Unit {0}) LoadError → Type 0
+Appends due old new (Ok u) = (rows : List Row) × (due ≡ Ok rows) × (new ≡ old ++ rows)
+Appends due old new (Err e) = is_told true e ≡ true → due ≡ Err e
+
+-- where a row was not read, the header and the rows before it are without fault
+abbrev pub StopsAfterGood : {Y : Type 0} → List Col → ℕ → List Fields → Result Y LoadError → Type 0
+StopsAfterGood cols room recs result =
+    IfErr result (λ e. (row : ℕ) → e ≡ error.Reader row → 0 < row → (rows : List Row) × (load_of cols room (take row recs) ≡ Ok rows))
+
+abbrev pub rows_data : {A : Type 0} → List (List (Value A)) → List Row
+rows_data rs = map (λ r. row_of r) rs
+
+-- the value of a cell
+abbrev pub cell_at : Contents → ℕ → ℕ → Datum
+cell_at t row column = get_or (get_or t.rows row []) column null

@@ -1,0 +1,170 @@
+//! Rows from records.
+
+ghost use Rattle.std.specs.Prelude.{◌≡◌, ◌≢◌, ◌+◌, ◌-◌, ◌<◌, ◌≤◌, ◌^◌, ℕ, length, map, true, false, None, Some, All, IfOk, IfErr, OnOk};
+ghost use Rattle.csv.specs.Records.{fields_of};
+ghost use Rattle.csv_records.specs.Left.{Gives};
+ghost use Rattle.value.specs.Datum.{datum, row_of};
+ghost use Rattle.tables.specs.Loading.{Follows, cell_of, cells_of, col_of, names};
+ghost use Rattle.tables.specs.Reading.{HeaderIs, LoadFollows, Refuses, RowsFollow};
+ghost use Rattle.tables.specs.declared.LoadError.TheVariants.{Reader};
+
+use crate::{Column, LoadError};
+use csv::ByteRecord;
+use csv_records::{RecordError, Records};
+use memory::Heap;
+use std::io::Read;
+use std::str;
+use text::Items;
+use value::{ReadError, Value, read_value};
+
+// The value of a cell.
+fn read_cell<A: Heap>(
+    alloc: A,
+    column: &Column<A>,
+    field: &[u8],
+    row: u64,
+    at: u64,
+) -> Result<Value<A>, LoadError>
+    ensures cell { Follows datum false (cell_of (col_of column.now) row at field.now) result }
+    ensures no_reader { IfErr result (λ e. (r : ℕ) → e ≢ Reader r) }
+{
+    if field == b"\\N".as_slice() {
+        if column.required {
+            return Err(LoadError::NotNull { row, column: at });
+        }
+        return Ok(Value::Null);
+    }
+    let Ok(text) = str::from_utf8(field) else {
+        return Err(LoadError::Cell { row, column: at });
+    };
+    match read_value(alloc, column.kind, text) {
+        Ok(value) => Ok(value),
+        Err(ReadError::Kind(_)) => Err(LoadError::Cell { row, column: at }),
+        Err(ReadError::Memory) => Err(LoadError::OutOfMemory),
+    }
+}
+
+// The values of a row.
+fn read_row<A: Heap>(
+    alloc: A,
+    columns: &[Column<A>],
+    cells: &ByteRecord,
+    row: u64,
+) -> Result<Items<Value<A>, A>, LoadError>
+    requires { length (fields_of cells.now) ≡ length columns.now }
+    ensures wide { IfOk result (λ values. length values ≡ length columns.now) }
+    ensures cells { Follows (λ values. row_of values) false (cells_of (map col_of columns.now) row 0 (fields_of cells.now)) result }
+    ensures no_reader { IfErr result (λ e. (r : ℕ) → e ≢ Reader r) }
+{
+    let mut values = Items::new(alloc);
+    for (i, column) in columns.iter().enumerate() {
+        let Some(field) = cells.get(i) else {
+            return Err(LoadError::Reader { row });
+        };
+        values.push(read_cell(alloc, column, field, row, i as u64)?)?;
+    }
+    Ok(values)
+}
+
+// Reads the next record, and tells whether there was one.
+fn next_record<R: Read>(
+    records: &mut Records<R>,
+    cells: &mut ByteRecord,
+    row: u64,
+) -> Result<bool, LoadError>
+    ensures gives { IfOk result (λ found. Gives records.old records.new found (fields_of cells.new)) }
+    ensures goes_on { OnOk result (records.new.failed ≡ records.old.failed) }
+    ensures refuses { IfErr result (λ e. Refuses row records.old records.new e) }
+{
+    match records.read(cells) {
+        Ok(found) => Ok(found),
+        Err(RecordError::Uneven | RecordError::Failed) => Err(LoadError::Reader { row }),
+        Err(RecordError::OutOfMemory) => Err(LoadError::OutOfMemory),
+    }
+}
+
+// The rows of the records that are left, where there is room for so many.
+fn read_rows<A: Heap, R: Read>(
+    alloc: A,
+    columns: &[Column<A>],
+    records: &mut Records<R>,
+    room: u64,
+) -> Result<Vec<Items<Value<A>, A>, A>, LoadError>
+    requires expected { records.old.expected ≡ Some (length columns.now) }
+    requires fresh { records.old.failed ≡ false }
+    requires room { room < 2 ^ 64 - 1 }
+    ensures wide { IfOk result (λ rows. All (λ r. length r ≡ length columns.now) rows.items) }
+    ensures few { IfOk result (λ rows. length rows.items ≤ room) }
+    ensures rows { RowsFollow (map col_of columns.now) room records.old.records records.new.failed result }
+{
+    let mut rows = Vec::new(alloc);
+    let mut cells = ByteRecord::new(alloc.global());
+    for done in 0..room {
+        let row = done + 1;
+        if !next_record(records, &mut cells, row)? {
+            return Ok(rows);
+        }
+        rows.push(read_row(alloc, columns, &cells, row)?)?;
+    }
+    if next_record(records, &mut cells, room + 1)? {
+        return Err(LoadError::TooMany);
+    }
+    Ok(rows)
+}
+
+// Whether the fields are the names of the columns.
+fn has_names<A: Heap>(columns: &[Column<A>], cells: &ByteRecord) -> bool
+    ensures names { result ≡ names (map col_of columns.now) (fields_of cells.now) }
+    ensures len { result ≡ true → length (fields_of cells.now) ≡ length columns.now }
+{
+    if cells.len() != columns.len() {
+        return false;
+    }
+    for (i, column) in columns.iter().enumerate() {
+        let Some(field) = cells.get(i) else {
+            return false;
+        };
+        if field != column.name.as_str().as_bytes() {
+            return false;
+        }
+    }
+    true
+}
+
+// Reads the header.
+fn read_header<A: Heap, R: Read>(
+    alloc: A,
+    columns: &[Column<A>],
+    records: &mut Records<R>,
+) -> Result<(), LoadError>
+    requires expected { records.old.expected ≡ None }
+    requires fresh { records.old.failed ≡ false }
+    ensures expected { OnOk result (records.new.expected ≡ Some (length columns.now)) }
+    ensures fresh { OnOk result (records.new.failed ≡ false) }
+    ensures header { HeaderIs (map col_of columns.now) records.old records.new result }
+{
+    let mut cells = ByteRecord::new(alloc.global());
+    if next_record(records, &mut cells, 0)? && has_names(columns, &cells) {
+        Ok(())
+    } else {
+        Err(LoadError::Header)
+    }
+}
+
+// The rows of all the records, the header among them, where there is room for so many rows.
+pub(crate) fn read_table<A: Heap, R: Read>(
+    alloc: A,
+    columns: &[Column<A>],
+    records: &mut Records<R>,
+    room: u64,
+) -> Result<Vec<Items<Value<A>, A>, A>, LoadError>
+    requires expected { records.old.expected ≡ None }
+    requires fresh { records.old.failed ≡ false }
+    requires room { room < 2 ^ 64 - 1 }
+    ensures wide { IfOk result (λ rows. All (λ r. length r ≡ length columns.now) rows.items) }
+    ensures few { IfOk result (λ rows. length rows.items ≤ room) }
+    ensures rows { LoadFollows (map col_of columns.now) room records.old.records records.new.failed result }
+{
+    read_header(alloc, columns, records)?;
+    read_rows(alloc, columns, records, room)
+}
