@@ -1,6 +1,6 @@
 //! A catalogue with its tables.
 
-ghost use Rattle.std.specs.Prelude.{◌≡◌, ◌++◌, ◌∷◌, [], IfOk, IfSome, OnErr, OnOk, ◌<◌, Option, Some, length, map};
+ghost use Rattle.std.specs.Prelude.{◌≡◌, ◌++◌, ◌∷◌, [], IfOk, IfSome, OnErr, OnOk, ◌<◌, Option, Some, length, map, option_map, slice_get};
 ghost use Rattle.value.specs.Datum.{row_of};
 ghost use Rattle.tables.specs.Loading.{col_of, records_of};
 ghost use Rattle.std.specs.List.{position_from};
@@ -16,8 +16,7 @@ use std::alloc::AllocError;
 use std::io::Read;
 use std::marker::Model;
 use syntax::{ColumnDef, Statement};
-use tables::table::Table;
-use tables::{Column, LoadError};
+use tables::{Column, LoadError, Table};
 use text::{Items, Text};
 use value::{Refusal, Value};
 
@@ -182,6 +181,23 @@ impl<A: Heap> Store<A> {
             | Statement::GrantSelect(_, _)
             | Statement::CreatePolicy(_) => self.catalog.apply(actor, statement),
         }
+    }
+
+    /// The name of the table at a place, in order of creation, from 0.
+    pub fn table_name(&self, i: usize) -> Option<&str>
+        ensures { option_map (λ name. name.now) result ≡ option_map (λ e. e.0) (slice_get self.now.contents i) }
+    {
+        match self.contents.get(i) {
+            Some(entry) => Some(entry.name.as_str()),
+            None => None,
+        }
+    }
+
+    /// How many tables there are.
+    pub fn table_count(&self) -> usize
+        ensures { result ≡ length self.now.contents }
+    {
+        self.contents.len()
     }
 
     /// Adds the rows of a comma-separated text, whose first record is the names of the columns, to the table of that name.

@@ -1,4 +1,5 @@
 pub mod Tree
 pub mod View
 pub mod Rules
+pub mod Reading
 pub mod Parsing

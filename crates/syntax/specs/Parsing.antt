@@ -1,11 +1,10 @@
 -- What a text is: a query or a schema, or the first fault.
-use Rattle.std.specs.Prelude.{◌≡◌, ◌⊎◌, ◌-◌, ◌<◌, ◌≤◌, ℕ, nat_lt, Bool, true, false, List, [], ◌∷◌, length, drop, map, Option, Some, None, Result, Ok, Err, if◌then◌else◌}
-use Rattle.row_grammar.specs.Grammar.{Form}
+use Rattle.std.specs.Prelude.{◌≡◌, ◌⊎◌, ◌-◌, ◌<◌, ◌≤◌, ℕ, nat_lt, List, [], ◌∷◌, length, drop, Option, Some, None, Result, Ok, Err, if◌then◌else◌}
 use Rattle.row_grammar.specs.Decoder.{Stop, syntax, limit}
 use Rattle.row_grammar.specs.Limits.{Spells as SpellsWithin, IsLongest, IsPassed, whole_at}
 use Rattle.row_tokens.specs.Words.{Word, words}
 use Rattle.syntax.specs.Tree.{Question, Act}
-use Rattle.syntax.specs.Rules.{language, Rule, grammar, query, schema, run_limit, depth_limit}
+use Rattle.syntax.specs.Rules.{Rule, grammar, query, schema, run_limit, depth_limit}
 use Rattle.syntax.specs.declared.fault.ParseError.{ParseError}
 use Rattle.syntax.specs.declared.fault.ParseError.TheVariants as errors
 

@@ -1,5 +1,5 @@
 -- The grammar: a definition for each rule.
-use Rattle.std.specs.Prelude.{◌≡◌, ℕ, ℤ, pos, neg_ℤ, Bool, true, false, List, [], ◌∷◌, map, Option, Some, None, if◌then◌else◌}
+use Rattle.std.specs.Prelude.{ℕ, ℤ, pos, neg_ℤ, Bool, true, false, List, [], ◌∷◌, Option, Some, None, if◌then◌else◌}
 use denote.Enum.Bare.{sameb}
 use Rattle.row_grammar.specs.Grammar.{Language, Form, word, nothing, both, either, made, many, Grammar}
 use Rattle.row_tokens.specs.contracts.token.Kind.{the_type}
@@ -10,7 +10,7 @@ use Rattle.value.specs.Datum.{Datum, null, int, text, bool}
 use Rattle.value.specs.Exact.{is_bigint}
 use Rattle.value.specs.declared.types.ColType.{ColType}
 use Rattle.value.specs.declared.types.ColType.TheVariants as types
-use Rattle.syntax.specs.Tree.{Name, ColumnWord, Question, ColumnEntry, Side, asker, fixed, everyone, PolicyText, Act, create_role, create_table, set_owner, enable_security, grant_select, create_policy}
+use Rattle.syntax.specs.Tree.{Name, ColumnWord, Question, ColumnEntry, Side, asker, fixed, everyone, Act, create_role, create_table, set_owner, enable_security, grant_select, create_policy}
 
 -- ---- what the rules speak of
 
@@ -146,15 +146,15 @@ unfoldable pub word_literal : Rule Datum
 word_literal =
     either (made (λ w. bool true) (word (is k.True)))
     (either (made (λ w. bool false) (word (is k.False)))
-      (made (λ w. null) (word (is k.Null))))
+    (made (λ w. null) (word (is k.Null))))
 
 -- number, - number or text, or one of these words
 unfoldable pub literal : Rule Datum
 literal =
     either (made (λ w. number_of (pos w.number)) (word (is k.Number)))
     (either (made (λ w. number_of (neg_ℤ (pos w.number))) (after (is k.Minus) (word is_magnitude)))
-      (either (made (λ w. text (quoted_value w.bytes)) (word (is k.Quoted)))
-        word_literal))
+    (either (made (λ w. text (quoted_value w.bytes)) (word (is k.Quoted)))
+    word_literal))
 
 -- CURRENT_USER or a literal
 unfoldable pub operand : Rule Side

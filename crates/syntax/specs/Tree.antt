@@ -1,5 +1,5 @@
 -- Queries and schema statements without their place in memory.
-use Rattle.std.specs.Prelude.{ℕ, List, map, Option, codes}
+use Rattle.std.specs.Prelude.{ℕ, List, Option, codes}
 use Rattle.value.specs.Datum.{Datum}
 use Rattle.value.specs.declared.types.ColType.{ColType}
 

@@ -1,5 +1,5 @@
 -- What the trees of the program are.
-use Rattle.std.specs.Prelude.{List, map}
+use Rattle.std.specs.Prelude.{map}
 use Rattle.value.specs.Datum.{datum}
 use Rattle.syntax.specs.declared.tree.ColumnRef.{ColumnRef}
 use Rattle.syntax.specs.declared.tree.Query.{Query}

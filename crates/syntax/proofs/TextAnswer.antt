@@ -1,0 +1,188 @@
+-- What reading a text says of it, from what reading its tokens says.
+use Rattle.std.proofs.Common.{◌≡◌, ℕ, ◌⊎◌, inl, inr, ◌<◌, ◌≤◌, nat_lt, Bool, true, false, List, [], ◌∷◌, length, Option, Some, None, Result, Ok, Err, IfOk, IfErr, refl, sym, ◌∙◌, ap, arith}
+use Rattle.std.specs.Prelude.{if◌then◌else◌}
+use Rattle.std.proofs.lemmas.Bool.{ltb-true, ltb-false, le-ltb}
+use Rattle.row_grammar.specs.Decoder.{Stop, syntax, limit}
+use Rattle.row_grammar.specs.Limits.{reads, whole_at}
+use Rattle.row_grammar.proofs.Answer.{found, only, refused, one_tree}
+use Rattle.row_grammar.proofs.Check.{good}
+use Rattle.row_tokens.specs.Words.{Word, words}
+use Rattle.syntax.specs.Tree.{Question, Act}
+use Rattle.syntax.specs.Rules.{language, nested_first, Rule, grammar, query, schema, run_limit, depth_limit}
+use Rattle.syntax.specs.Parsing.{Spells, StopsAt, PassesLimit, query_bytes, schema_bytes, most_columns, RefusesQuery, RefusesSchema, TextFault, wrong_at, over_limit, of_text, read_within, of_size, parsed_query, parsed_schema, text_fault, IsTextFault, Gives, IsDetermined, IsSmall, Fits}
+use Rattle.syntax.specs.declared.fault.ParseError.{ParseError}
+use Rattle.syntax.specs.declared.fault.ParseError.TheVariants as errors
+use Rattle.syntax.proofs.Decides.{kinds, nested_ext, decided, query_good, schema_good}
+
+-- ---- a text that is not too long
+
+module _ {A : Type 0} (f : Rule A) (decides : good language nested_first nested_ext kinds false f ≡ true) (most : ℕ) (text : List ℕ) where
+  abbrev whole : Result A Stop
+  whole = whole_at grammar run_limit depth_limit f (words text)
+
+  pub within_found : (t : A) → read_within most f text ≡ Ok t → Spells f text t × (length text ≤ most)
+  within_found t e = long (nat_lt most (length text)) refl e
+    where
+      short : (r : Result A Stop) → r ≡ whole → of_text text r ≡ Ok t → Spells f text t
+      short (Ok x) q e = let s : x ≡ t = cc in found grammar kinds nested_ext decided f decides run_limit depth_limit (words text) t (sym q ∙ ap Ok s)
+      short (Err stop) q e = cc
+
+      long : (b : Bool) → nat_lt most (length text) ≡ b → (if b then Err over_limit else of_text text whole) ≡ Ok t → Spells f text t × (length text ≤ most)
+      long true b e = cc
+      long false b e = (short whole refl e, ltb-false most (length text) b)
+
+  pub within_only : (t : A) → Spells f text t → length text ≤ most → read_within most f text ≡ Ok t
+  within_only t h l = rw (le-ltb most (length text) l, only grammar kinds nested_ext decided f decides run_limit depth_limit (words text) t h) refl
+
+  pub within_stops : (at : ℕ) → read_within most f text ≡ Err (wrong_at at) → StopsAt f text at × (length text ≤ most)
+  within_stops at e = long (nat_lt most (length text)) refl e
+    where
+      short : (r : Result A Stop) → r ≡ whole → of_text text r ≡ Err (wrong_at at) → StopsAt f text at
+      short (Ok x) q e = cc
+      short (Err (syntax n)) q e = (n, refused grammar kinds nested_ext decided f decides run_limit depth_limit (words text) (syntax n) (sym q), (cc))
+      short (Err (limit n)) q e = cc
+
+      long : (b : Bool) → nat_lt most (length text) ≡ b → (if b then Err over_limit else of_text text whole) ≡ Err (wrong_at at) → StopsAt f text at × (length text ≤ most)
+      long true b e = cc
+      long false b e = (short whole refl e, ltb-false most (length text) b)
+
+  pub within_limit : read_within most f text ≡ Err over_limit → (most < length text) ⊎ PassesLimit f text
+  within_limit e = long (nat_lt most (length text)) refl e
+    where
+      short : (r : Result A Stop) → r ≡ whole → of_text text r ≡ Err over_limit → PassesLimit f text
+      short (Ok x) q e = cc
+      short (Err (syntax n)) q e = cc
+      short (Err (limit n)) q e = (n, refused grammar kinds nested_ext decided f decides run_limit depth_limit (words text) (limit n) (sym q))
+
+      long : (b : Bool) → nat_lt most (length text) ≡ b → (if b then Err over_limit else of_text text whole) ≡ Err over_limit → (most < length text) ⊎ PassesLimit f text
+      long true b e = inl (ltb-true most (length text) b)
+      long false b e = inr (short whole refl e)
+
+  pub within_one : (t t' : A) → Spells f text t → Spells f text t' → t ≡ t'
+  within_one t t' h h' = one_tree grammar kinds nested_ext decided f decides run_limit depth_limit (words text) t t' h h'
+
+  pub within_is : (ts : List Word) (t : A) → ts ≡ words text → length text ≤ most → whole_at grammar run_limit depth_limit f ts ≡ Ok t → read_within most f text ≡ Ok t
+  within_is ts t s l e = let w : whole ≡ Ok t = rw (← s) e in rw (le-ltb most (length text) l, w) refl
+
+-- tokens are left over
+pub left_over : {A : Type 0} (f : Rule A) (ts : List Word) (t : A) (us : List Word) (n : ℕ) → reads grammar run_limit depth_limit f ts ≡ Ok (t, us) → length us ≡ n → 0 < n
+    → whole_at grammar run_limit depth_limit f ts ≡ Err (syntax n)
+unfolding whole_at
+left_over f ts t [] n e q l = absurd (omega arith)
+left_over f ts t (u ∷ us) n e q l = rw (e, ← q) refl
+
+-- ---- a query
+
+module _ (text : List ℕ) where
+  abbrev read : Result Question TextFault
+  read = read_within query_bytes query text
+
+  pub query_found : (q : Question) → parsed_query text ≡ Ok q → Spells query text q × (length text ≤ query_bytes) × IsSmall q
+  unfolding parsed_query
+  query_found q e = of_size_ok read refl e
+    where
+      small : (x : Question) (b : Bool) → nat_lt most_columns (length x.columns) ≡ b → (let r : Result Question TextFault = if b then Err over_limit else Ok x in r) ≡ Ok q → (x ≡ q) × IsSmall x
+      small x true b e = cc
+      small x false b e = ((cc), ltb-false most_columns (length x.columns) b)
+
+      of_size_ok : (r : Result Question TextFault) → read ≡ r → of_size r ≡ Ok q → Spells query text q × (length text ≤ query_bytes) × IsSmall q
+      of_size_ok (Err e) r h = cc
+      of_size_ok (Ok x) r h =
+          let s = small x (nat_lt most_columns (length x.columns)) refl h in
+          let w = within_found query query_good query_bytes text x r in
+          rw (← s.0) (w.0, w.1, s.1)
+
+  pub query_only : (q : Question) → Spells query text q → length text ≤ query_bytes → IsSmall q → parsed_query text ≡ Ok q
+  unfolding parsed_query
+  query_only q h l s = rw (within_only query query_good query_bytes text q h l, le-ltb most_columns (length q.columns) s) refl
+
+  pub query_stops : (at : ℕ) → parsed_query text ≡ Err (wrong_at at) → StopsAt query text at × (length text ≤ query_bytes)
+  unfolding parsed_query
+  query_stops at e = of_size_err read refl e
+    where
+      small : (x : Question) (b : Bool) → (let r : Result Question TextFault = if b then Err over_limit else Ok x in r) ≡ Err (wrong_at at) → ⊥
+      small x true e = cc
+      small x false e = cc
+
+      of_size_err : (r : Result Question TextFault) → read ≡ r → of_size r ≡ Err (wrong_at at) → StopsAt query text at × (length text ≤ query_bytes)
+      of_size_err (Err e) r h = within_stops query query_good query_bytes text at (r ∙ h)
+      of_size_err (Ok x) r h = absurd (small x (nat_lt most_columns (length x.columns)) h)
+
+  pub query_limit : parsed_query text ≡ Err over_limit → RefusesQuery text errors.Limit
+  unfolding parsed_query
+  query_limit e = of_size_limit read refl e
+    where
+      small : (x : Question) (b : Bool) → nat_lt most_columns (length x.columns) ≡ b → (let r : Result Question TextFault = if b then Err over_limit else Ok x in r) ≡ Err over_limit → most_columns < length x.columns
+      small x true b e = ltb-true most_columns (length x.columns) b
+      small x false b e = cc
+
+      wider : (query_bytes < length text) ⊎ PassesLimit query text → RefusesQuery text errors.Limit
+      wider (inl l) = inl l
+      wider (inr p) = inr (inl p)
+
+      of_size_limit : (r : Result Question TextFault) → read ≡ r → of_size r ≡ Err over_limit → RefusesQuery text errors.Limit
+      of_size_limit (Err e) r h = wider (within_limit query query_good query_bytes text (r ∙ h))
+      of_size_limit (Ok x) r h = inr (inr (x, (within_found query query_good query_bytes text x r).0, small x (nat_lt most_columns (length x.columns)) refl h))
+
+pub query_determined : IsDetermined query query_bytes IsSmall parsed_query
+query_determined = record {
+  found = query_found;
+  only = query_only;
+  stops = λ text at e. (query_stops text at e).0;
+  one_tree = λ text t t' h h'. within_one query query_good query_bytes text t t' h h';
+}
+
+-- ---- a schema
+
+module _ (text : List ℕ) where
+  pub schema_found : (acts : List Act) → parsed_schema text ≡ Ok acts → Spells schema text acts × (length text ≤ schema_bytes) × Fits acts
+  unfolding parsed_schema
+  schema_found acts e = let w = within_found schema schema_good schema_bytes text acts e in (w.0, w.1, tt)
+
+  pub schema_only : (acts : List Act) → Spells schema text acts → length text ≤ schema_bytes → Fits acts → parsed_schema text ≡ Ok acts
+  unfolding parsed_schema
+  schema_only acts h l s = within_only schema schema_good schema_bytes text acts h l
+
+  pub schema_stops : (at : ℕ) → parsed_schema text ≡ Err (wrong_at at) → StopsAt schema text at × (length text ≤ schema_bytes)
+  unfolding parsed_schema
+  schema_stops at e = within_stops schema schema_good schema_bytes text at e
+
+  pub schema_limit : parsed_schema text ≡ Err over_limit → RefusesSchema text errors.Limit
+  unfolding parsed_schema
+  schema_limit e = within_limit schema schema_good schema_bytes text e
+
+pub schema_determined : IsDetermined schema schema_bytes Fits parsed_schema
+schema_determined = record {
+  found = schema_found;
+  only = schema_only;
+  stops = λ text at e. (schema_stops text at e).0;
+  one_tree = λ text t t' h h'. within_one schema schema_good schema_bytes text t t' h h';
+}
+
+-- ---- what a call returned
+
+module _ {A X : Type 0} {f : Rule A} {most : ℕ} {fits : A → Type 0} {parsed : List ℕ → Result A TextFault} (d : IsDetermined f most fits parsed) (view : X → A) (text : List ℕ) where
+  pub gives_found : (r : Result X ParseError) → Gives view r (parsed text) → IfOk r (λ x. Spells f text (view x))
+  gives_found (Ok x) g = (d.found text (view x) g).0
+  gives_found (Err e) g = tt
+
+  pub gives_only : (r : Result X ParseError) → Gives view r (parsed text) → (t : A) → Spells f text t → length text ≤ most → fits t → Gives view r (Ok t)
+  gives_only (Ok x) g t h l s = sym (d.only text t h l s) ∙ g
+  gives_only (Err e) g t h l s = go (text_fault e) g
+    where
+      go : (e : Option TextFault) → IsTextFault e (parsed text) → IsTextFault {B = A} e (Ok t)
+      go None g = tt
+      go (Some e) g = sym (d.only text t h l s) ∙ g
+
+module _ {X : Type 0} (text : List ℕ) where
+  pub query_refused : (view : X → Question) (r : Result X ParseError) → Gives view r (parsed_query text) → IfErr r (λ e. RefusesQuery text e)
+  query_refused view (Ok x) g = tt
+  query_refused view (Err errors.Memory) g = tt
+  query_refused view (Err (errors.Syntax at)) g = query_stops text at g
+  query_refused view (Err errors.Limit) g = query_limit text g
+
+  pub schema_refused : (view : X → List Act) (r : Result X ParseError) → Gives view r (parsed_schema text) → IfErr r (λ e. RefusesSchema text e)
+  schema_refused view (Ok x) g = tt
+  schema_refused view (Err errors.Memory) g = tt
+  schema_refused view (Err (errors.Syntax at)) g = schema_stops text at g
+  schema_refused view (Err errors.Limit) g = schema_limit text g

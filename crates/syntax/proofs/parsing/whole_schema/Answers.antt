@@ -1,0 +1,12 @@
+use Rattle.std.proofs.Common.{map, length, arith}
+use Rattle.std.proofs.lemmas.List.{length-map}
+use Rattle.row_tokens.specs.View.{word_of}
+use Rattle.syntax.specs.Rules.{schema}
+use Rattle.syntax.specs.View.{act_of}
+use Rattle.syntax.proofs.TextAnswer.{left_over}
+use Rattle.syntax.proofs.parsing.whole_schema.Goals as goal
+
+pub returns-in-len1-up : goal.returns-in-len1-up
+returns-in-len1-up g c =
+    left_over schema (map word_of c.args.tokens.now) (map (λ s. act_of s) c.in_ok-statements.statements) (map word_of c.in_ok-statements.rest.now) (length c.in_ok-statements.rest.now)
+    c.in_ok-statements.ensures (length-map c.in_ok-statements.rest.now word_of) (omega (arith, c.in-len1-up.len_at_least))

@@ -1,0 +1,14 @@
+-- What the functions of the parser return, over tokens.
+use Rattle.std.specs.Prelude.{Option, Some, None, Result}
+use Rattle.row_grammar.specs.Decoder.{Stop, syntax, Gives as Gives_by}
+use Rattle.syntax.specs.declared.reader.ReadError.{ReadError}
+use Rattle.syntax.specs.declared.reader.ReadError.TheVariants as errors
+
+-- the fault that an error stands for; a growth of memory that was refused stands for none
+abbrev pub stop_of : ReadError → Option Stop
+stop_of errors.Memory = None
+stop_of (errors.Syntax n) = Some (syntax n)
+
+-- what a function of the parser returned, seen by view, is what one token ahead reads, unless memory ran out
+abbrev pub Reads : {A B : Type 0} → (A → B) → Result A ReadError → Result B Stop → Type 0
+Reads view r read = Gives_by stop_of view r read

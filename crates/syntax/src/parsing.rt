@@ -1,0 +1,155 @@
+//! Texts, whole.
+
+ghost use Rattle.std.specs.Prelude.{◌≡◌, ◌<◌, ◌≤◌, ◌^◌, List, length, map, option_map, IfOk, IfErr, Ok};
+ghost use Rattle.row_grammar.specs.Limits.{whole_at};
+ghost use Rattle.row_tokens.specs.View.{words_of};
+ghost use Rattle.row_tokens.specs.Words.{words};
+ghost use Rattle.syntax.specs.Parsing.{Spells, Gives, RefusesQuery, RefusesSchema, IsSmall, IsDetermined, Fits, query_bytes, schema_bytes, read_within, parsed_query, parsed_schema, offset_of, fault_of, text_fault};
+ghost use Rattle.syntax.specs.Reading.{Reads, stop_of};
+ghost use Rattle.syntax.specs.Rules.{grammar, run_limit, depth_limit, query as query_rule, schema as schema_rule};
+ghost use Rattle.syntax.specs.Tree.{Question, Act};
+ghost use Rattle.syntax.specs.View.{question_of, act_of};
+
+use crate::fault::ParseError;
+use crate::queries::query;
+use crate::reader::ReadError;
+use crate::statements::schema;
+use crate::tree::{Query, Statement};
+use memory::Heap;
+use row_tokens::{Token, scan};
+use text::Items;
+
+/// How many bytes a query's text may have.
+const QUERY_BYTES: usize = 65_536;
+
+/// How many bytes a schema's text may have.
+const SCHEMA_BYTES: usize = 1_048_576;
+
+/// How many columns a query may name.
+const MOST_COLUMNS: usize = 64;
+
+// Where the token begins from which on there are so many; the end of the text for none.
+fn offset_of(text: &str, tokens: &[Token<'_>], left: usize) -> u32
+    requires short { length text.now < 2 ^ 32 }
+    requires scanned { words_of tokens.now ≡ words text.now }
+    ensures { result ≡ offset_of text.now left }
+{
+    match tokens.get(tokens.len().saturating_sub(left)) {
+        Some(token) => token.offset,
+        None => text.len() as u32,
+    }
+}
+
+// The same fault, at a byte of the text.
+fn fault_of(text: &str, tokens: &[Token<'_>], error: ReadError) -> ParseError
+    requires short { length text.now < 2 ^ 32 }
+    requires scanned { words_of tokens.now ≡ words text.now }
+    ensures { text_fault result ≡ option_map (fault_of text.now) (stop_of error) }
+{
+    match error {
+        ReadError::Syntax(left) => ParseError::Syntax(offset_of(text, tokens, left)),
+        ReadError::Memory => ParseError::Memory,
+    }
+}
+
+// The query that tokens are, all of them.
+#[tactic(auto, unfolding(row_grammar::specs::Limits::whole_at))]
+fn whole_query<A: Heap>(alloc: A, tokens: &[Token<'_>]) -> Result<Query<A>, ReadError>
+    ensures { Reads (λ q. question_of q) result (whole_at grammar run_limit depth_limit query_rule (words_of tokens.now)) }
+{
+    let (tree, rest) = query(alloc, tokens)?;
+    match rest {
+        [] => Ok(tree),
+        [_, ..] => Err(ReadError::Syntax(rest.len())),
+    }
+}
+
+// The query that a text is, of any number of columns.
+fn read_query<A: Heap>(alloc: A, text: &str) -> Result<Query<A>, ParseError>
+    ensures { Gives (λ q. question_of q) result (read_within query_bytes query_rule text.now) }
+{
+    if text.len() > QUERY_BYTES {
+        return Err(ParseError::Limit);
+    }
+    let tokens = scan(alloc, text)?;
+    match whole_query(alloc, tokens.as_slice()) {
+        Ok(query) => Ok(query),
+        Err(error) => Err(fault_of(text, tokens.as_slice(), error)),
+    }
+}
+
+// The query that a text is, within the limits.
+#[tactic(auto, unfolding(crate::specs::Parsing::parsed_query))]
+fn small_query<A: Heap>(alloc: A, text: &str) -> Result<Query<A>, ParseError>
+    ensures { Gives (λ q. question_of q) result (parsed_query text.now) }
+{
+    let query = read_query(alloc, text)?;
+    if query.columns.len() > MOST_COLUMNS {
+        return Err(ParseError::Limit);
+    }
+    Ok(query)
+}
+
+/// The query that a text is. The error is `Syntax` (42601) at the byte from which on the grammar does not go on,
+/// and `Limit` (54000) for more than 65,536 bytes or, in a text of the grammar, more than 64 columns.
+pub fn parse_query<A: Heap>(alloc: A, text: &str) -> Result<Query<A>, ParseError>
+    ensures reading { Gives (λ q. question_of q) result (parsed_query text.now) }
+    // What is found is spelled so.
+    ensures found { IfOk result (λ q. Spells query_rule text.now (question_of q)) }
+    // What is spelled so, and within the limits, is found, unless memory runs out.
+    ensures only { (q : Question) → Spells query_rule text.now q → length text.now ≤ query_bytes → IsSmall q → Gives (λ q. question_of q) result (Ok q) }
+    // A refusal is at the byte after the longest front, or a limit is passed.
+    ensures refused { IfErr result (λ e. RefusesQuery text.now e) }
+{
+    small_query(alloc, text)
+}
+
+// The statements that tokens are, all of them.
+#[tactic(auto, unfolding(row_grammar::specs::Limits::whole_at))]
+fn whole_schema<A: Heap>(
+    alloc: A,
+    tokens: &[Token<'_>],
+) -> Result<Items<Statement<A>, A>, ReadError>
+    ensures { Reads (λ acts. map (λ s. act_of s) acts) result (whole_at grammar run_limit depth_limit schema_rule (words_of tokens.now)) }
+{
+    let (statements, rest) = schema(alloc, tokens)?;
+    match rest {
+        [] => Ok(statements),
+        [_, ..] => Err(ReadError::Syntax(rest.len())),
+    }
+}
+
+// The statements that a schema text is.
+fn read_schema<A: Heap>(alloc: A, text: &str) -> Result<Items<Statement<A>, A>, ParseError>
+    ensures { Gives (λ acts. map (λ s. act_of s) acts) result (read_within schema_bytes schema_rule text.now) }
+{
+    if text.len() > SCHEMA_BYTES {
+        return Err(ParseError::Limit);
+    }
+    let tokens = scan(alloc, text)?;
+    match whole_schema(alloc, tokens.as_slice()) {
+        Ok(statements) => Ok(statements),
+        Err(error) => Err(fault_of(text, tokens.as_slice(), error)),
+    }
+}
+
+/// The statements that a schema text is, each followed by a semicolon. The error is `Syntax` (42601) at the byte
+/// from which on the grammar does not go on, and `Limit` (54000) for more than 1,048,576 bytes.
+#[tactic(auto, unfolding(crate::specs::Parsing::parsed_schema))]
+pub fn parse_schema<A: Heap>(alloc: A, text: &str) -> Result<Items<Statement<A>, A>, ParseError>
+    ensures reading { Gives (λ acts. map (λ s. act_of s) acts) result (parsed_schema text.now) }
+    // What is found is spelled so.
+    ensures found { IfOk result (λ acts. Spells schema_rule text.now (map (λ s. act_of s) acts)) }
+    // What is spelled so, and within the limit, is found, unless memory runs out.
+    ensures only { (acts : List Act) → Spells schema_rule text.now acts → length text.now ≤ schema_bytes → Gives (λ found. map (λ s. act_of s) found) result (Ok acts) }
+    // A refusal is at the byte after the longest front, or the limit is passed.
+    ensures refused { IfErr result (λ e. RefusesSchema text.now e) }
+{
+    read_schema(alloc, text)
+}
+
+/// The functions `parsed_query` and `parsed_schema` are what spelling and fronts determine.
+pub fn parsing_is_determined()
+    ensures query { IsDetermined query_rule query_bytes IsSmall parsed_query }
+    ensures schema { IsDetermined schema_rule schema_bytes Fits parsed_schema }
+{}
