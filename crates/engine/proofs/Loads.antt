@@ -42,7 +42,7 @@ module _ {X : Type 0} (v : X → Name × Contents) (name : Name) (recs : List Fi
 
   -- the rows of the text came to the table's
   pub rows_loaded : (y : X) (u : Unit {0}) → (v y).0 ≡ (v x).0 → (v y).1.columns ≡ (v x).1.columns → Appends (due_rows (v x).1 recs) (v x).1.rows (v y).1.rows (Ok u)
-    → IsLoad (map v xs) (map v (set xs i y)) name recs (Ok u)
+      → IsLoad (map v xs) (map v (set xs i y)) name recs (Ok u)
   rows_loaded y u same_name same_columns h =
       let whole : v y ≡ with_rows h.0 (v x) = parts (v y) (v x) h.0 same_name same_columns h.2 in
       (v x, h.0, found, h.1, set_at (is_named name) v x (with_rows h.0) y xs i at (whole ∙ ap (λ (z : X). with_rows h.0 (v z)) is))

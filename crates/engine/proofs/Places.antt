@@ -34,7 +34,7 @@ module _ {E : Type 0} (p : E → Bool) where
   none_from f (e ∷ es) k h = go (p e) h (none_from f es (k + 1))
     where
       go : (b : Bool) → cond b (Some k) (position_from p (k + 1) es) ≡ None → (position_from p (k + 1) es ≡ None → (first_changed p f es ≡ es) × (find p es ≡ None))
-        → (cond b (f e ∷ es) (e ∷ first_changed p f es) ≡ e ∷ es) × (cond b (Some e) (find p es) ≡ None)
+          → (cond b (f e ∷ es) (e ∷ first_changed p f es) ≡ e ∷ es) × (cond b (Some e) (find p es) ≡ None)
       go true h more = absurd (some_is_not k h)
       go false h more = (ap (λ l. e ∷ l) (more h).0, (more h).1)
 
@@ -55,8 +55,8 @@ module _ {E : Type 0} (p : E → Bool) where
     found_from (x ∷ xs) k (suc i) h = go (p (v x)) h (found_from xs (k + 1) i)
       where
         go : (b : Bool) → cond b (Some k) (position_from p (k + 1) (map v xs)) ≡ Some (k + suc i)
-          → (position_from p (k + 1) (map v xs) ≡ Some (k + 1 + i) → find p (map v xs) ≡ Some (v (get_or xs i d)))
-          → cond b (Some (v x)) (find p (map v xs)) ≡ Some (v (get_or xs i d))
+            → (position_from p (k + 1) (map v xs) ≡ Some (k + 1 + i) → find p (map v xs) ≡ Some (v (get_or xs i d)))
+            → cond b (Some (v x)) (find p (map v xs)) ≡ Some (v (get_or xs i d))
         go true h more = absurd (let q = some_is k (k + suc i) h in omega arith)
         go false h more = more (h ∙ some_of (k + suc i) (k + 1 + i) (omega arith))
 
@@ -75,8 +75,8 @@ module _ {E : Type 0} (p : E → Bool) where
       set_from (x ∷ xs) k (suc i) h is = go (p (v x)) h (λ h. set_from xs (k + 1) i h is)
         where
           go : (b : Bool) → cond b (Some k) (position_from p (k + 1) (map v xs)) ≡ Some (k + suc i)
-            → (position_from p (k + 1) (map v xs) ≡ Some (k + 1 + i) → map v (set xs i y) ≡ first_changed p f (map v xs))
-            → v x ∷ map v (set xs i y) ≡ cond b (f (v x) ∷ map v xs) (v x ∷ first_changed p f (map v xs))
+              → (position_from p (k + 1) (map v xs) ≡ Some (k + 1 + i) → map v (set xs i y) ≡ first_changed p f (map v xs))
+              → v x ∷ map v (set xs i y) ≡ cond b (f (v x) ∷ map v xs) (v x ∷ first_changed p f (map v xs))
           go true h more = absurd (let q = some_is k (k + suc i) h in omega arith)
           go false h more = ap (λ l. v x ∷ l) (more (h ∙ some_of (k + suc i) (k + 1 + i) (omega arith)))
 

@@ -37,12 +37,7 @@ fn any_meant<A: Heap>(catalog: &Catalog<A>, role: &str, names: &[Text<A>]) -> bo
 }
 
 // Whether a grant on the whole table is meant for the role.
-fn is_reader<A: Heap>(
-    catalog: &Catalog<A>,
-    role: &str,
-    table: &TableDef<A>,
-    column: &str,
-) -> bool
+fn is_reader<A: Heap>(catalog: &Catalog<A>, role: &str, table: &TableDef<A>, column: &str) -> bool
     ensures { result ≡ list_any (λ g. is_meant catalog.now role.now g.to && serves g.column (Some column.now)) (grants_to table.now.readers) }
 {
     let _column = column;
@@ -94,12 +89,7 @@ fn policy_holds<A: Heap>(role: &str, policy: &Policy<A>, row: &[Value<A>]) -> bo
 }
 
 // Whether the policy applies to the role and is true on the row.
-fn lets_by<A: Heap>(
-    catalog: &Catalog<A>,
-    role: &str,
-    policy: &Policy<A>,
-    row: &[Value<A>],
-) -> bool
+fn lets_by<A: Heap>(catalog: &Catalog<A>, role: &str, policy: &Policy<A>, row: &[Value<A>]) -> bool
     ensures { result ≡ (applies catalog.now role.now (policy_entry policy.now) && is_true (policy_truth role.now (policy_entry policy.now) (row_of row.now))) }
 {
     any_meant(catalog, role, policy.roles.as_slice()) && policy_holds(role, policy, row)

@@ -203,11 +203,7 @@ fn of_condition<A: Heap>(table: &TableDef<A>, policy: &PolicyDef<A>) -> Option<R
     }
 }
 
-fn of_policy<A: Heap>(
-    catalog: &Catalog<A>,
-    actor: &str,
-    policy: &PolicyDef<A>,
-) -> Option<Refusal>
+fn of_policy<A: Heap>(catalog: &Catalog<A>, actor: &str, policy: &PolicyDef<A>) -> Option<Refusal>
     ensures { result ≡ first_refusal (objections catalog.now actor.now (create_policy (policy_text policy.now))) }
 {
     let Some(table) = catalog.table(policy.table.as_str()) else {

@@ -116,10 +116,7 @@ fn push_header<A: Heap>(out: &mut Vec<u8, A>, names: &[Text<A>]) -> Result<(), A
     Ok(())
 }
 
-fn push_rows<A: Heap>(
-    out: &mut Vec<u8, A>,
-    rows: &[Items<Value<A>, A>],
-) -> Result<(), AllocError>
+fn push_rows<A: Heap>(out: &mut Vec<u8, A>, rows: &[Items<Value<A>, A>]) -> Result<(), AllocError>
     ensures { OnOk result (out.new.items ≡ out.old.items ++ flat_map line_text (map (λ r. row_of r) rows.now)) }
 {
     for row in rows {

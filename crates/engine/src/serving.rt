@@ -173,13 +173,7 @@ fn write_reply<A: Heap, W: Out>(
 
 /// Writes the reply to a role's text, and answers its status: 0 rows, 3 a refused text, 4 a denial, 6 an unknown role,
 /// 7 want of memory, 8 a writer that failed. Nothing is written before the reply is whole.
-pub fn serve<A: Heap, W: Out>(
-    alloc: A,
-    store: &Store<A>,
-    role: &str,
-    text: &str,
-    out: &mut W,
-) -> u8
+pub fn serve<A: Heap, W: Out>(alloc: A, store: &Store<A>, role: &str, text: &str, out: &mut W) -> u8
     // The whole reply, and its status.
     ensures answered { result ≢ 7 → result ≢ 8 → IsWhole (W.taken out.old) (W.taken out.new) result (reply_to store.now.catalogue (content_of store.now) role.now text.now) }
     // Memory ran out: one line, and nothing of the reply.
@@ -202,5 +196,4 @@ pub fn serve<A: Heap, W: Out>(
 #[tactic(auto, using(crate::proofs::HiddenRows::same_reply))]
 pub fn hidden_rows()
     ensures { (cat : Catalogue) (role : Name) (asked : List ℕ) (one other : Content) → SeesSame cat role asked one other → reply_to cat one role asked ≡ reply_to cat other role asked }
-{
-}
+{}

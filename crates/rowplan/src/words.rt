@@ -17,7 +17,8 @@ pub struct Words<'a> {
     pub text: &'a str,
 }
 
-const EXAMPLE: &str = "Example:\n  rowplan query --schema examples/deals/schema.sql --dir examples/deals --role alice 'SELECT id FROM deal'\n\nExit status: 0 answer, 2 command line, 3 refused text, 4 denial, 6 schema, data or unknown role, 7 memory, 8 input or output";
+const EXAMPLE: &str =
+    "Example:\n  rowplan query --schema examples/deals/schema.sql --dir examples/deals --role alice 'SELECT id FROM deal'\n\nExit status: 0 answer, 2 command line, 3 refused text, 4 denial, 6 schema, data or unknown role, 7 memory, 8 input or output";
 
 fn option<'a>(alloc: Global, name: &'a str, value: &'a str, help: &'a str) -> Arg<'a> {
     Arg::new(alloc, name)
@@ -36,7 +37,12 @@ fn command<'a>(alloc: Global) -> Result<Command<'a>, Fault> {
     let query = Command::new(alloc, "query")
         .about("Writes the reply to a role's query as comma-separated text")
         .arg(option(alloc, "schema", "FILE", "The schema text"))?
-        .arg(option(alloc, "dir", "DIR", "The folder with a file T.csv for each table T"))?
+        .arg(option(
+            alloc,
+            "dir",
+            "DIR",
+            "The folder with a file T.csv for each table T",
+        ))?
         .arg(option(alloc, "role", "NAME", "The role that asks"))?
         .arg(text)?
         .after_help(EXAMPLE);

@@ -88,5 +88,4 @@ pub fn sort_rows<A: Heap>(rows: &mut Vec<Items<Value<A>, A>, A>)
 /// The order of rows is total and tells all rows apart, so a list of rows has one sorted order.
 pub fn sorted_rows()
     ensures { (rows ys : List Row) → (ys ≡ sorted_by row_cmp rows) ↔ (IsPermutation rows ys × IsSorted row_cmp ys) }
-{
-}
+{}

@@ -102,5 +102,4 @@ pub fn read_value<A: Heap>(alloc: A, kind: ColType, text: &str) -> Result<Value<
 pub fn one_spelling()
     ensures read_again { ReadAgain }
     ensures one_spelling { OneSpelling }
-{
-}
+{}

@@ -3,8 +3,8 @@
 use crate::deals::{DEALS, Stop, deals, load, store_of};
 use engine::{Store, StoreError};
 use std::alloc::Global;
-use std::io::{ErrorKind, Read};
 use std::io;
+use std::io::{ErrorKind, Read};
 use std::process::Abort;
 use tables::LoadError;
 
@@ -25,7 +25,10 @@ fn first_fault_told_and_nothing_added(rt: HostRuntime) {
         ("id,owner\n4\n", LoadError::Reader { row: 1 }),
         ("id,owner\n4,bob\n5,bob,x\n", LoadError::Reader { row: 2 }),
         ("id,owner\n-0,bob\n", LoadError::Cell { row: 1, column: 0 }),
-        ("id,owner\n4,bob\n007,bob\n", LoadError::Cell { row: 2, column: 0 }),
+        (
+            "id,owner\n4,bob\n007,bob\n",
+            LoadError::Cell { row: 2, column: 0 },
+        ),
         ("id,owner\n+1,bob\n", LoadError::Cell { row: 1, column: 0 }),
         ("id,owner\n,bob\n", LoadError::Cell { row: 1, column: 0 }),
         (

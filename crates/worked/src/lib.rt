@@ -2,9 +2,9 @@
 #![tactic(auto)]
 
 #[cfg(test)]
-mod deals;
-#[cfg(test)]
 mod data;
+#[cfg(test)]
+mod deals;
 #[cfg(test)]
 mod memory_refused;
 #[cfg(test)]

@@ -19,7 +19,7 @@ fn reply_or_refusal_of_memory(rt: HostRuntime) {
     let built = counting.requests(0);
     let mut refused = 0u64;
     for n in 1..1000u64 {
-        let nth = built + n;
+        let nth = built.saturating_add(n);
         let heap = Metered::refusing(rt.alloc(), nth);
         let Ok(store) = deals(&heap) else {
             panic!(rt; "built with fewer requests before");
@@ -94,7 +94,8 @@ fn refused_load_adds_nothing(rt: HostRuntime) {
     let counting = Metered::counting(rt.alloc());
     assert!(rt; deals(&counting).is_ok());
     let loaded = counting.requests(0);
-    for nth in built + 1..loaded + 1 {
+    for n in 0..loaded.saturating_sub(built) {
+        let nth = built.saturating_add(n).saturating_add(1);
         let heap = Metered::refusing(rt.alloc(), nth);
         // The heading alone: three bytes.
         assert_eq!(rt; answered_after_load(&heap), Ok(3), "at {nth}");

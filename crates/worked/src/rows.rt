@@ -20,7 +20,11 @@ fn written(
         inner: Vec::new(alloc),
         failed: 0,
     };
-    assert_eq!(rt; serve(alloc, store, role, text, &mut out), status, "{role}: {text}");
+    assert_eq!(rt;
+        serve(alloc, store, role, text, &mut out),
+        status,
+        "{role}: {text}"
+    );
     assert_eq!(rt; out.inner.as_slice(), want.as_bytes(), "{role}: {text}");
     assert_eq!(rt; out.failed, 0);
 }
@@ -41,8 +45,22 @@ fn own_deals_alone(rt: HostRuntime) {
 #[test]
 fn owner_sees_all_rows(rt: HostRuntime) {
     let store = made(&rt, deals(rt.alloc()));
-    written(&rt, &store, "boss", "SELECT id FROM deal", "id\n1\n2\n3\n", 0);
-    written(&rt, &store, "root", "SELECT id FROM deal", "id\n1\n2\n3\n", 0);
+    written(
+        &rt,
+        &store,
+        "boss",
+        "SELECT id FROM deal",
+        "id\n1\n2\n3\n",
+        0,
+    );
+    written(
+        &rt,
+        &store,
+        "root",
+        "SELECT id FROM deal",
+        "id\n1\n2\n3\n",
+        0,
+    );
 }
 
 #[test]
@@ -57,34 +75,97 @@ fn without_grant_denied(rt: HostRuntime) {
 #[test]
 fn unknown_names_refused(rt: HostRuntime) {
     let store = made(&rt, deals(rt.alloc()));
-    written(&rt, &store, "alice", "SELECT nosuch FROM deal", "refused 42703 at 7\n", 3);
-    written(&rt, &store, "alice", "SELECT id FROM nosuch", "refused 42P01 at 15\n", 3);
-    written(&rt, &store, "alice", "SELECT x FROM nosuch", "refused 42P01 at 14\n", 3);
-    written(&rt, &store, "alice", "SELECT id, d.id FROM deal", "refused 42P01 at 11\n", 3);
+    written(
+        &rt,
+        &store,
+        "alice",
+        "SELECT nosuch FROM deal",
+        "refused 42703 at 7\n",
+        3,
+    );
+    written(
+        &rt,
+        &store,
+        "alice",
+        "SELECT id FROM nosuch",
+        "refused 42P01 at 15\n",
+        3,
+    );
+    written(
+        &rt,
+        &store,
+        "alice",
+        "SELECT x FROM nosuch",
+        "refused 42P01 at 14\n",
+        3,
+    );
+    written(
+        &rt,
+        &store,
+        "alice",
+        "SELECT id, d.id FROM deal",
+        "refused 42P01 at 11\n",
+        3,
+    );
     // Names come before grants.
-    written(&rt, &store, "lone", "SELECT id, nosuch FROM deal", "refused 42703 at 11\n", 3);
+    written(
+        &rt,
+        &store,
+        "lone",
+        "SELECT id, nosuch FROM deal",
+        "refused 42703 at 11\n",
+        3,
+    );
 }
 
 #[test]
 fn cut_text_refused_at_its_end(rt: HostRuntime) {
     let store = made(&rt, deals(rt.alloc()));
-    written(&rt, &store, "alice", "SELECT id FROM", "refused 42601 at 14\n", 3);
+    written(
+        &rt,
+        &store,
+        "alice",
+        "SELECT id FROM",
+        "refused 42601 at 14\n",
+        3,
+    );
     written(&rt, &store, "alice", "", "refused 42601 at 0\n", 3);
 }
 
 #[test]
 fn unknown_role_refused_first(rt: HostRuntime) {
     let store = made(&rt, deals(rt.alloc()));
-    written(&rt, &store, "zed", "SELECT id FROM deal", "refused 42704\n", 6);
+    written(
+        &rt,
+        &store,
+        "zed",
+        "SELECT id FROM deal",
+        "refused 42704\n",
+        6,
+    );
     written(&rt, &store, "zed", "no query", "refused 42704\n", 6);
-    written(&rt, &store, "ALICE", "SELECT id FROM deal", "refused 42704\n", 6);
+    written(
+        &rt,
+        &store,
+        "ALICE",
+        "SELECT id FROM deal",
+        "refused 42704\n",
+        6,
+    );
 }
 
 #[test]
 fn several_columns_in_written_order(rt: HostRuntime) {
     let store = made(&rt, deals(rt.alloc()));
     let want = "owner,id,id\nalice,1,1\nalice,2,2\nbob,3,3\n";
-    written(&rt, &store, "boss", "select OWNER, deal.id, Id from Deal", want, 0);
+    written(
+        &rt,
+        &store,
+        "boss",
+        "select OWNER, deal.id, Id from Deal",
+        want,
+        0,
+    );
 }
 
 #[test]
@@ -92,7 +173,14 @@ fn equal_rows_are_kept(rt: HostRuntime) -> Result<(), Fail> {
     let mut store = made(&rt, deals(rt.alloc()));
     let more = "id,owner\n1,alice\n";
     assert_eq!(rt; load(&mut store, "deal", more), Ok(()));
-    written(&rt, &store, "alice", "SELECT id FROM deal", "id\n1\n1\n2\n", 0);
+    written(
+        &rt,
+        &store,
+        "alice",
+        "SELECT id FROM deal",
+        "id\n1\n1\n2\n",
+        0,
+    );
     Ok(())
 }
 
@@ -133,7 +221,14 @@ fn policy_off_shows_all(rt: HostRuntime) {
         GRANT SELECT ON t TO public; CREATE POLICY p ON t USING (a = -5);";
     let mut store = made(&rt, store_of(rt.alloc(), schema));
     assert_eq!(rt; load(&mut store, "t", "a,b\n-5,x\n7,\\N\n"), Ok(()));
-    written(&rt, &store, "alice", "SELECT b, a FROM t", "b,a\nx,-5\n\\N,7\n", 0);
+    written(
+        &rt,
+        &store,
+        "alice",
+        "SELECT b, a FROM t",
+        "b,a\nx,-5\n\\N,7\n",
+        0,
+    );
     let secure = "ALTER TABLE t ENABLE ROW LEVEL SECURITY;";
     assert_eq!(rt; apply(rt.alloc(), &mut store, "root", secure), Ok(()));
     written(&rt, &store, "alice", "SELECT b, a FROM t", "b,a\nx,-5\n", 0);
@@ -156,7 +251,14 @@ fn least_and_greatest_numbers(rt: HostRuntime) {
     let mut store = made(&rt, store_of(rt.alloc(), schema));
     let text = "n\n9223372036854775807\n-9223372036854775808\n0\n";
     assert_eq!(rt; load(&mut store, "t", text), Ok(()));
-    written(&rt, &store, "a", "SELECT n FROM t", "n\n-9223372036854775808\n", 0);
+    written(
+        &rt,
+        &store,
+        "a",
+        "SELECT n FROM t",
+        "n\n-9223372036854775808\n",
+        0,
+    );
     let want = "n\n-9223372036854775808\n0\n9223372036854775807\n";
     written(&rt, &store, "root", "SELECT n FROM t", want, 0);
 }

@@ -21,15 +21,39 @@ fn refused_by_root(rt: HostRuntime) {
         ("CREATE ROLE root;", Refusal::DuplicateObject),
         ("CREATE ROLE Public;", Refusal::DuplicateObject),
         ("CREATE TABLE deal (a bigint);", Refusal::DuplicateTable),
-        ("CREATE TABLE t (a bigint, b text, A text);", Refusal::DuplicateColumn),
-        ("ALTER TABLE nosuch OWNER TO nosuch;", Refusal::UndefinedTable),
-        ("ALTER TABLE deal OWNER TO nosuch;", Refusal::UndefinedObject),
-        ("ALTER TABLE deal OWNER TO public;", Refusal::UndefinedObject),
-        ("ALTER TABLE nosuch ENABLE ROW LEVEL SECURITY;", Refusal::UndefinedTable),
+        (
+            "CREATE TABLE t (a bigint, b text, A text);",
+            Refusal::DuplicateColumn,
+        ),
+        (
+            "ALTER TABLE nosuch OWNER TO nosuch;",
+            Refusal::UndefinedTable,
+        ),
+        (
+            "ALTER TABLE deal OWNER TO nosuch;",
+            Refusal::UndefinedObject,
+        ),
+        (
+            "ALTER TABLE deal OWNER TO public;",
+            Refusal::UndefinedObject,
+        ),
+        (
+            "ALTER TABLE nosuch ENABLE ROW LEVEL SECURITY;",
+            Refusal::UndefinedTable,
+        ),
         ("GRANT SELECT ON nosuch TO nosuch;", Refusal::UndefinedTable),
-        ("GRANT SELECT ON deal TO alice, nosuch;", Refusal::UndefinedObject),
-        ("CREATE POLICY p ON nosuch USING (a = 1);", Refusal::UndefinedTable),
-        ("CREATE POLICY p ON deal USING (id = 1);", Refusal::FeatureNotSupported),
+        (
+            "GRANT SELECT ON deal TO alice, nosuch;",
+            Refusal::UndefinedObject,
+        ),
+        (
+            "CREATE POLICY p ON nosuch USING (a = 1);",
+            Refusal::UndefinedTable,
+        ),
+        (
+            "CREATE POLICY p ON deal USING (id = 1);",
+            Refusal::FeatureNotSupported,
+        ),
     ];
     for (text, why) in rows {
         let mut store = made(&rt);
@@ -41,18 +65,44 @@ fn refused_by_root(rt: HostRuntime) {
 #[test]
 fn refused_policies(rt: HostRuntime) {
     let rows = [
-        ("CREATE POLICY p ON t TO nosuch USING (c = 1);", Refusal::UndefinedObject),
-        ("CREATE POLICY p ON t USING (deal.a = 1);", Refusal::UndefinedTable),
-        ("CREATE POLICY p ON t USING (c = 1);", Refusal::UndefinedColumn),
-        ("CREATE POLICY p ON t USING (a = 'x');", Refusal::DatatypeMismatch),
-        ("CREATE POLICY p ON t USING (b = 1);", Refusal::DatatypeMismatch),
-        ("CREATE POLICY p ON t USING (b = TRUE);", Refusal::DatatypeMismatch),
-        ("CREATE POLICY p ON t USING (a = CURRENT_USER);", Refusal::DatatypeMismatch),
+        (
+            "CREATE POLICY p ON t TO nosuch USING (c = 1);",
+            Refusal::UndefinedObject,
+        ),
+        (
+            "CREATE POLICY p ON t USING (deal.a = 1);",
+            Refusal::UndefinedTable,
+        ),
+        (
+            "CREATE POLICY p ON t USING (c = 1);",
+            Refusal::UndefinedColumn,
+        ),
+        (
+            "CREATE POLICY p ON t USING (a = 'x');",
+            Refusal::DatatypeMismatch,
+        ),
+        (
+            "CREATE POLICY p ON t USING (b = 1);",
+            Refusal::DatatypeMismatch,
+        ),
+        (
+            "CREATE POLICY p ON t USING (b = TRUE);",
+            Refusal::DatatypeMismatch,
+        ),
+        (
+            "CREATE POLICY p ON t USING (a = CURRENT_USER);",
+            Refusal::DatatypeMismatch,
+        ),
     ];
     for (text, why) in rows {
         let mut store = made(&rt);
         let alloc = rt.alloc();
-        let table = apply(alloc, &mut store, "root", "CREATE TABLE t (a bigint, b text);");
+        let table = apply(
+            alloc,
+            &mut store,
+            "root",
+            "CREATE TABLE t (a bigint, b text);",
+        );
         assert_eq!(rt; table, Ok(()));
         let done = apply(alloc, &mut store, "root", text);
         assert_eq!(rt; done, Err(Stop::Statement(why)), "{text}");
@@ -62,12 +112,32 @@ fn refused_policies(rt: HostRuntime) {
 #[test]
 fn refused_by_others(rt: HostRuntime) {
     let rows = [
-        ("zed", "CREATE TABLE t (a bigint);", Refusal::UndefinedObject),
+        (
+            "zed",
+            "CREATE TABLE t (a bigint);",
+            Refusal::UndefinedObject,
+        ),
         ("boss", "CREATE ROLE new;", Refusal::InsufficientPrivilege),
-        ("alice", "ALTER TABLE deal ENABLE ROW LEVEL SECURITY;", Refusal::InsufficientPrivilege),
-        ("alice", "GRANT SELECT ON deal TO nosuch;", Refusal::InsufficientPrivilege),
-        ("boss", "ALTER TABLE deal OWNER TO alice;", Refusal::InsufficientPrivilege),
-        ("alice", "ALTER TABLE deal OWNER TO alice;", Refusal::InsufficientPrivilege),
+        (
+            "alice",
+            "ALTER TABLE deal ENABLE ROW LEVEL SECURITY;",
+            Refusal::InsufficientPrivilege,
+        ),
+        (
+            "alice",
+            "GRANT SELECT ON deal TO nosuch;",
+            Refusal::InsufficientPrivilege,
+        ),
+        (
+            "boss",
+            "ALTER TABLE deal OWNER TO alice;",
+            Refusal::InsufficientPrivilege,
+        ),
+        (
+            "alice",
+            "ALTER TABLE deal OWNER TO alice;",
+            Refusal::InsufficientPrivilege,
+        ),
     ];
     for (actor, text, why) in rows {
         let mut store = made(&rt);

@@ -67,8 +67,8 @@ fn at_most_64_columns(rt: HostRuntime) -> Result<(), Fail> {
     // What is no query at all is told as that.
     let mut wrong = query_of(alloc, 65)?;
     wrong.push_str(" FROM")?;
-    let at = wrong.len() as u32 - 4;
-    refused(&rt, wrong.as_str(), at);
+    let at = wrong.len().saturating_sub(4);
+    refused(&rt, wrong.as_str(), u32::try_from(at).unwrap_or(0));
     Ok(())
 }
 

@@ -4,8 +4,8 @@ use crate::deals::{Stop, deals};
 use engine::{Store, serve};
 use output::Output;
 use std::alloc::Global;
-use std::io::{ErrorKind, Write};
 use std::io;
+use std::io::{ErrorKind, Write};
 use std::process::Abort;
 
 fn made(rt: &(impl Abort + AllocGlobal)) -> Store<Global> {
