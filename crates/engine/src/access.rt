@@ -37,10 +37,9 @@ fn any_meant<A: Heap>(catalog: &Catalog<A>, role: &str, names: &[Text<A>]) -> bo
 }
 
 // Whether a grant on the whole table is meant for the role.
-fn is_reader<A: Heap>(catalog: &Catalog<A>, role: &str, table: &TableDef<A>, column: &str) -> bool
-    ensures { result ≡ list_any (λ g. is_meant catalog.now role.now g.to && serves g.column (Some column.now)) (grants_to table.now.readers) }
+fn is_reader<A: Heap>(catalog: &Catalog<A>, role: &str, table: &TableDef<A>, _column: &str) -> bool
+    ensures { result ≡ list_any (λ g. is_meant catalog.now role.now g.to && serves g.column (Some _column.now)) (grants_to table.now.readers) }
 {
-    let _column = column;
     any_meant(catalog, role, table.readers.as_slice())
 }
 

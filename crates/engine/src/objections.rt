@@ -1,6 +1,6 @@
 //! When a schema statement is refused.
 
-ghost use Rattle.std.specs.Prelude.{◌≡◌, ◌&&◌, ◌||◌, map, true};
+ghost use Rattle.std.specs.Prelude.{◌≡◌, [], ◌&&◌, ◌||◌, map, true};
 ghost use Rattle.std.specs.List.{list_all};
 ghost use Rattle.value.specs.Datum.{datum};
 ghost use Rattle.syntax.specs.Tree.{create_role, create_table, set_owner, enable_security, grant_select, create_policy};
@@ -109,13 +109,11 @@ fn of_new_role<A: Heap>(catalog: &Catalog<A>, actor: &str, name: &str) -> Option
 
 fn of_new_table<A: Heap>(
     catalog: &Catalog<A>,
-    actor: &str,
     name: &str,
     columns: &Items<ColumnDef<A>, A>,
 ) -> Option<Refusal>
-    ensures { result ≡ first_refusal (objections catalog.now actor.now (create_table name.now (map (λ c. column_entry c) columns.now))) }
+    ensures { result ≡ first_refusal (objections catalog.now [] (create_table name.now (map (λ c. column_entry c) columns.now))) }
 {
-    let _actor = actor;
     if catalog.table(name).is_some() {
         Some(Refusal::DuplicateTable)
     } else if has_name_twice(columns.as_slice()) {
@@ -229,9 +227,7 @@ fn of_statement<A: Heap>(
 {
     match statement {
         Statement::CreateRole(name) => of_new_role(catalog, actor, name.as_str()),
-        Statement::CreateTable(name, columns) => {
-            of_new_table(catalog, actor, name.as_str(), columns)
-        }
+        Statement::CreateTable(name, columns) => { of_new_table(catalog, name.as_str(), columns) }
         Statement::SetOwner(table, role) => {
             of_new_owner(catalog, actor, table.as_str(), role.as_str())
         }

@@ -1,8 +1,8 @@
 //! A catalogue with its tables.
 
-ghost use Rattle.std.specs.Prelude.{◌≡◌, ◌++◌, ◌∷◌, [], IfOk, IfSome, OnErr, OnOk, ◌<◌, Option, Some, length, map, option_map, slice_get};
+ghost use Rattle.std.specs.Prelude.{◌≡◌, List, IfOk, IfSome, OnErr, OnOk, ◌<◌, Option, Some, length, map, option_map, slice_get};
 ghost use Rattle.value.specs.Datum.{row_of};
-ghost use Rattle.tables.specs.Loading.{col_of, records_of};
+ghost use Rattle.tables.specs.Loading.{Fields, col_of, records_of};
 ghost use Rattle.std.specs.List.{position_from};
 ghost use Rattle.syntax.specs.Tree.{create_table};
 ghost use Rattle.syntax.specs.View.{act_of, column_entry};
@@ -206,6 +206,8 @@ impl<A: Heap> Store<A> {
         ensures catalogue { self.new.catalogue ≡ self.old.catalogue }
         ensures unchanged { OnErr result (self.new ≡ self.old) }
         ensures rows { IfSome (R.remaining rdr) (λ bytes. IsLoad self.old.contents self.new.contents table.now (records_of bytes) result) }
+        // Where the reader does not tell its bytes, these are some records.
+        ensures some_records { (recs : List Fields) × IsLoad self.old.contents self.new.contents table.now recs result }
     {
         let Some(i) = stored_place(&self.contents, table) else {
             return Err(StoreError::UndefinedTable);

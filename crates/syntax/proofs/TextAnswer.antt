@@ -124,11 +124,21 @@ module _ (text : List ℕ) where
       of_size_limit (Err e) r h = wider (within_limit query query_good query_bytes text (r ∙ h))
       of_size_limit (Ok x) r h = inr (inr (x, (within_found query query_good query_bytes text x r).0, small x (nat_lt most_columns (length x.columns)) refl h))
 
+query_limits : (text : List ℕ) → RefusesQuery text errors.Limit → (query_bytes < length text) ⊎ (PassesLimit query text ⊎ ((q : Question) × Spells query text q × (IsSmall q → ⊥)))
+query_limits text (inl l) = inl l
+query_limits text (inr (inl p)) = inr (inl p)
+query_limits text (inr (inr h)) = inr (inr (h.0, h.1, λ small. let more = h.2 in omega arith))
+
+schema_limits : (text : List ℕ) → (schema_bytes < length text) ⊎ PassesLimit schema text → (schema_bytes < length text) ⊎ (PassesLimit schema text ⊎ ((acts : List Act) × Spells schema text acts × (Fits acts → ⊥)))
+schema_limits text (inl l) = inl l
+schema_limits text (inr p) = inr (inl p)
+
 pub query_determined : IsDetermined query query_bytes IsSmall parsed_query
 query_determined = record {
   found = query_found;
   only = query_only;
   stops = λ text at e. (query_stops text at e).0;
+  limits = λ text e. query_limits text (query_limit text e);
   one_tree = λ text t t' h h'. within_one query query_good query_bytes text t t' h h';
 }
 
@@ -156,6 +166,7 @@ schema_determined = record {
   found = schema_found;
   only = schema_only;
   stops = λ text at e. (schema_stops text at e).0;
+  limits = λ text e. schema_limits text (schema_limit text e);
   one_tree = λ text t t' h h'. within_one schema schema_good schema_bytes text t t' h h';
 }
 

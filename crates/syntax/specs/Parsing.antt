@@ -102,6 +102,7 @@ pub record IsDetermined {A : Type 0} (f : Rule A) (most : ℕ) (fits : A → Typ
   pub found : (text : List ℕ) (t : A) → parsed text ≡ Ok t → Spells f text t × (length text ≤ most) × fits t
   pub only : (text : List ℕ) (t : A) → Spells f text t → length text ≤ most → fits t → parsed text ≡ Ok t
   pub stops : (text : List ℕ) (at : ℕ) → parsed text ≡ Err (wrong_at at) → StopsAt f text at
+  pub limits : (text : List ℕ) → parsed text ≡ Err over_limit → (most < length text) ⊎ (PassesLimit f text ⊎ ((t : A) × Spells f text t × (fits t → ⊥)))
   -- a text has at most one tree
   pub one_tree : (text : List ℕ) (t t' : A) → Spells f text t → Spells f text t' → t ≡ t'
 
