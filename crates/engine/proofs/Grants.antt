@@ -1,5 +1,5 @@
 -- Grants on a whole table.
-use Rattle.std.proofs.Common.{◌≡◌, Bool, true, false, ◌&&◌, ◌||◌, List, [], ◌∷◌, Option, refl, ap, ap₂}
+use Rattle.std.proofs.Common.{◌≡◌, Bool, true, false, ◌&&◌, ◌||◌, List, [], ◌∷◌, Option, refl, ap₂}
 use Rattle.std.specs.List.{list_any}
 use Rattle.syntax.specs.Tree.{Name}
 use Rattle.engine.specs.Entries.{Catalogue}

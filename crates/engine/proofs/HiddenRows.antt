@@ -9,12 +9,13 @@ use Rattle.value.specs.Orders.{row_cmp}
 use Rattle.value.specs.declared.refusal.Refusal.TheVariants.{UndefinedObject}
 use Rattle.value.proofs.DatumOrder.{row_cmp_total, row_cmp_exact}
 use Rattle.syntax.specs.Tree.{Name, Question}
+use Rattle.engine.specs.Plain.{PlainQuery, plain_query}
 use Rattle.syntax.specs.Parsing.{TextFault, parsed_query}
 use Rattle.engine.specs.declared.resolve.NameFault.{NameFault}
 use Rattle.engine.specs.Entries.{Catalogue, Content}
 use Rattle.engine.specs.Access.{Need, is_role, denial, cell, visible}
 use Rattle.engine.specs.Names.{Bound, resolved, needed}
-use Rattle.engine.specs.Reply.{refused, rows, items_of, answer, denied_or_rows, bound_reply, parsed_reply, reply_to}
+use Rattle.engine.specs.Reply.{refused, rows, items_of, answer, denied_or_rows, bound_reply, served_reply, parsed_reply, reply_to}
 use Rattle.engine.specs.Hidden.{kept_from, restricted, SeesSame}
 
 -- a column that is kept is as it was
@@ -76,11 +77,17 @@ same_bound : (cat : Catalogue) (role : Name) (one other : Content) (bound : Resu
 same_bound cat role one other (Err e) same = refl
 same_bound cat role one other (Ok b) same = same_rows cat role b one other (denial cat role (needed b)) (same b refl)
 
+same_served : (cat : Catalogue) (role : Name) (one other : Content) (plain : Option PlainQuery) →
+    ((p : PlainQuery) (b : Bound) → plain ≡ Some p → resolved cat p ≡ Ok b → answer cat one role b ≡ answer cat other role b) →
+    served_reply cat one role plain ≡ served_reply cat other role plain
+same_served cat role one other None same = refl
+same_served cat role one other (Some p) same = same_bound cat role one other (resolved cat p) (λ b bound. same p b refl bound)
+
 same_parsed : (cat : Catalogue) (role : Name) (asked : List ℕ) (one other : Content) (parsed : Result Question TextFault) → parsed_query asked ≡ parsed →
     SeesSame cat role asked one other → parsed_reply cat one role parsed ≡ parsed_reply cat other role parsed
 same_parsed cat role asked one other (Err e) is same = refl
 same_parsed cat role asked one other (Ok q) is same =
-    same_bound cat role one other (resolved cat q) (λ b bound. same_answer cat role b one other (same q b is bound))
+    same_served cat role one other (plain_query q) (λ p b plain bound. same_answer cat role b one other (same q p b is plain bound))
 
 -- what the role does not see makes no difference
 pub same_reply : (cat : Catalogue) (role : Name) (asked : List ℕ) (one other : Content) → SeesSame cat role asked one other → reply_to cat one role asked ≡ reply_to cat other role asked

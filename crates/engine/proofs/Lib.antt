@@ -2,3 +2,4 @@ pub mod Grants
 pub mod HiddenRows
 pub mod Places
 pub mod Loads
+pub mod PlainItems

@@ -1,19 +1,19 @@
 -- A load at the place of a table, and a world by its parts.
-use Rattle.std.proofs.Common.{◌≡◌, ◌⊎◌, ◌<◌, inl, inr, ℕ, Bool, true, false, cond, List, [], ◌∷◌, ◌++◌, append-nil, take, map, set, get_or, find, Option, Some, None, IfSome, Result, Ok, Err, refl, sym, ap, ap₂, ◌∙◌, length}
+use Rattle.std.proofs.Common.{◌≡◌, ◌≢◌, ◌⊎◌, inl, inr, ℕ, Bool, true, false, cond, List, [], ◌++◌, append-nil, take, map, set, get_or, find, Option, Some, None, IfSome, Result, Ok, Err, refl, sym, ap, ◌∙◌, length}
 use Rattle.std.proofs.lemmas.List.{take_at}
 use Rattle.std.specs.List.{position_from}
 use Rattle.value.specs.Datum.{Row}
 use Rattle.value.specs.declared.refusal.Refusal.{Refusal}
 use Rattle.value.specs.declared.refusal.Refusal.TheVariants as r
 use Rattle.tables.specs.declared.LoadError.{LoadError}
-use Rattle.tables.specs.Loading.{Contents, Fields, Appends, is_told, load_of}
-use Rattle.syntax.specs.Tree.{Name, Act}
-use Rattle.engine.specs.declared.store.StoreError.{StoreError}
+use Rattle.tables.specs.declared.LoadError.TheVariants as faults
+use Rattle.tables.specs.Loading.{Contents, Fields, Appends}
+use Rattle.syntax.specs.Tree.{Name}
+use Rattle.engine.specs.Plain.{PlainAct}
 use Rattle.engine.specs.declared.store.StoreError.TheVariants as errors
 use Rattle.engine.specs.Entries.{Catalogue}
-use Rattle.engine.specs.Changes.{first_changed}
 use Rattle.engine.specs.Stored.{World, IsLoad, due_rows, is_named, with_catalogue, with_rows}
-use Rattle.engine.proofs.Places.{set_at, none_found, found_at}
+use Rattle.engine.proofs.Places.{set_at, found_at}
 
 -- what holds of a value, if it is there
 pub IfSome-map : {X : Type 0} (o : Option X) (P Q : X → Type 0) → ((x : X) → P x → Q x) → IfSome o P → IfSome o Q
@@ -28,7 +28,7 @@ IfSome-all (Some x) P f = f x
 pub same_world : (cat cat' : Catalogue) (cs cs' : List (Name × Contents)) → cat' ≡ cat → cs' ≡ cs → ◌≡◌ {A = World} record { catalogue = cat'; contents = cs' } record { catalogue = cat; contents = cs }
 same_world cat cat' cs cs' a b = rw (a, b)
 
-pub still_refused : (world : World) (act : Act) (due : Result Catalogue Refusal) (why : Refusal) → (why ≡ r.OutOfMemory) ⊎ (due ≡ Err why) → (why ≡ r.OutOfMemory) ⊎ (with_catalogue world act due ≡ Err why)
+pub still_refused : (world : World) (act : PlainAct) (due : Result Catalogue Refusal) (why : Refusal) → (why ≡ r.OutOfMemory) ⊎ (due ≡ Err why) → (why ≡ r.OutOfMemory) ⊎ (with_catalogue world act due ≡ Err why)
 still_refused world act due why (inl e) = inl e
 still_refused world act due why (inr e) = inr (rw e refl)
 
@@ -48,7 +48,7 @@ module _ {X : Type 0} (v : X → Name × Contents) (name : Name) (recs : List Fi
       (v x, h.0, found, h.1, set_at (is_named name) v x (with_rows h.0) y xs i at (whole ∙ ap (λ (z : X). with_rows h.0 (v z)) is))
 
   -- a fault of the text
-  pub fault_told : (new : List (Name × Contents)) (e : LoadError) → (is_told true e ≡ true → due_rows (v x).1 recs ≡ Err e) → IsLoad (map v xs) new name recs (Err (errors.Data e))
+  pub fault_told : (new : List (Name × Contents)) (e : LoadError) → (e ≢ faults.OutOfMemory → due_rows (v x).1 recs ≡ Err e) → IsLoad (map v xs) new name recs (Err (errors.Data e))
   fault_told new e h = (v x, found, h)
 
 -- what was pushed, or not, is taken back

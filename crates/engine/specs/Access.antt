@@ -1,12 +1,13 @@
 -- Who may read what.
-use Rattle.std.specs.Prelude.{ℕ, Bool, true, false, not, ◌&&◌, ◌||◌, List, [], ◌∷◌, filter, Option, Some, None, slice_index_or}
+use Rattle.std.specs.Prelude.{ℕ, Bool, true, not, ◌&&◌, ◌||◌, List, [], ◌∷◌, filter, Option, Some, None, slice_index_or}
 use Rattle.std.specs.Str.{bytes_eq}
 use Rattle.std.specs.List.{list_any, find}
 use Rattle.value.specs.Datum.{Datum, null, text, Row}
 use Rattle.value.specs.Orders.{equal_of, is_true}
 use Rattle.value.specs.declared.order.Truth.{Truth}
-use Rattle.syntax.specs.Tree.{Name, Side, asker, fixed, everyone}
-use Rattle.engine.specs.Entries.{RoleEntry, GrantEntry, PolicyEntry, TableEntry, Catalogue}
+use Rattle.syntax.specs.Tree.{Name, everyone}
+use Rattle.engine.specs.Plain.{Side, asker, fixed}
+use Rattle.engine.specs.Entries.{PolicyEntry, TableEntry, Catalogue}
 
 -- r is s, or memberships lead from r to s: without the newest one, or through it
 abbrev pub belongs_by : List (Name × Name) → Name → Name → Bool

@@ -1,14 +1,15 @@
 -- What a schema statement changes, and when it is refused.
-use Rattle.std.specs.Prelude.{◌≡◌, ◌⊎◌, codes, ℕ, ◌+◌, Bool, true, false, not, ◌&&◌, ◌||◌, nat_lt, nat_le, List, [], ◌∷◌, ◌++◌, length, map, is_some, Option, Some, None, Result, Ok, Err, if◌then◌else◌}
+use Rattle.std.specs.Prelude.{◌≡◌, ◌⊎◌, codes, ℕ, Bool, true, false, not, ◌&&◌, ◌||◌, nat_lt, List, [], ◌∷◌, ◌++◌, length, map, is_some, Option, Some, None, Result, Ok, Err, if◌then◌else◌}
 use Rattle.std.specs.Str.{bytes_eq}
-use Rattle.std.specs.List.{list_any, list_all, find}
+use Rattle.std.specs.List.{list_any, list_all}
 use Rattle.value.specs.Datum.{Datum, null, int, text, bool}
 use Rattle.value.specs.declared.types.ColType.{ColType}
 use Rattle.value.specs.declared.types.ColType.TheVariants as types
 use Rattle.value.specs.declared.refusal.Refusal.{Refusal}
 use Rattle.value.specs.declared.refusal.Refusal.TheVariants as r
-use Rattle.syntax.specs.Tree.{Name, everyone, ColumnWord, ColumnEntry, Side, asker, fixed, PolicyText, Act, create_role, create_table, set_owner, enable_security, grant_select, create_policy}
-use Rattle.engine.specs.Entries.{RoleEntry, GrantEntry, PolicyEntry, TableEntry, Catalogue}
+use Rattle.syntax.specs.Tree.{Name, everyone, ColumnEntry, Act}
+use Rattle.engine.specs.Plain.{Side, asker, fixed, PlainPolicy, PlainAct, create_role, create_table, set_owner, enable_security, grant_select, create_policy, plain_act}
+use Rattle.engine.specs.Entries.{GrantEntry, PolicyEntry, TableEntry, Catalogue}
 use Rattle.engine.specs.Access.{belongs, is_role, is_superuser}
 use Rattle.engine.specs.Names.{table_named, place_of, is_qualified}
 
@@ -68,14 +69,14 @@ fits [] name side = true
 fits (column ∷ columns) name side = if bytes_eq column.name name then side_is_of column.kind side else fits columns name side
 
 -- of the expression of a policy: its column is the table's, and the operand is of the column's type
-abbrev pub condition_objections : TableEntry → PolicyText → List Objection
+abbrev pub condition_objections : TableEntry → PlainPolicy → List Objection
 condition_objections t p =
     (not (is_qualified t.name p.column.table), r.UndefinedTable)
     ∷ (not (has_name p.column.name t.columns), r.UndefinedColumn)
     ∷ (not (fits t.columns p.column.name p.side), r.DatatypeMismatch) ∷ []
 
 -- what speaks against each statement, in the order in which it is told
-abbrev pub objections : Catalogue → Name → Act → List Objection
+abbrev pub objections : Catalogue → Name → PlainAct → List Objection
 objections cat actor (create_role name) =
     (not (is_superuser cat actor), r.InsufficientPrivilege)
     ∷ (is_known cat name, r.DuplicateObject)
@@ -100,7 +101,7 @@ objections cat actor (create_policy p) = of_table ((true, r.UndefinedTable) ∷ 
     ∷ condition_objections t p) (table_named p.table cat)
 
 -- the refusal of a statement, if there is one: first of all the actor must be a role
-abbrev pub refusal_of : Catalogue → Name → Act → Option Refusal
+abbrev pub refusal_of : Catalogue → Name → PlainAct → Option Refusal
 refusal_of cat actor act = first_refusal ((not (is_role cat actor), r.UndefinedObject) ∷ objections cat actor act)
 
 -- ---- effects
@@ -125,7 +126,7 @@ abbrev pub place_in : Option ℕ → ℕ
 place_in None = 0
 place_in (Some place) = place
 
-abbrev pub policy_of : PolicyText → TableEntry → PolicyEntry
+abbrev pub policy_of : PlainPolicy → TableEntry → PolicyEntry
 policy_of p t = record { name = p.name; roles = p.roles; column = place_in (place_of t.columns p.column.name); side = p.side }
 
 -- a new table, which its creator owns
@@ -133,7 +134,7 @@ abbrev pub fresh_table : Name → Name → List ColumnEntry → TableEntry
 fresh_table actor name columns = record { name = name; columns = columns; owner = actor; secured = false; policies = []; grants = [] }
 
 -- the catalogue after an accepted statement
-abbrev pub after : Catalogue → Name → Act → Catalogue
+abbrev pub after : Catalogue → Name → PlainAct → Catalogue
 after cat actor (create_role name) = record cat { roles = cat.roles ++ record { name = name; superuser = false } ∷ [] }
 after cat actor (create_table name columns) = record cat { tables = cat.tables ++ fresh_table actor name columns ∷ [] }
 after cat actor (set_owner name role) = with_table cat name (λ t. record t { owner = role })
@@ -145,9 +146,18 @@ abbrev pub changed_by : Catalogue → Option Refusal → Result Catalogue Refusa
 changed_by cat (Some why) = Err why
 changed_by cat None = Ok cat
 
+-- the catalogue after a statement that is served, or its refusal
+abbrev pub changed_plainly : Catalogue → Name → PlainAct → Result Catalogue Refusal
+changed_plainly cat actor act = changed_by (after cat actor act) (refusal_of cat actor act)
+
+-- what is not served yet is refused before all else
+abbrev pub changed_if : Catalogue → Name → Option PlainAct → Result Catalogue Refusal
+changed_if cat actor None = Err r.FeatureNotSupported
+changed_if cat actor (Some act) = changed_plainly cat actor act
+
 -- the catalogue after a statement, or its refusal
 abbrev pub changed : Catalogue → Name → Act → Result Catalogue Refusal
-changed cat actor act = changed_by (after cat actor act) (refusal_of cat actor act)
+changed cat actor act = changed_if cat actor (plain_act act)
 
 -- a catalogue at first: the superuser root alone
 abbrev pub at_first : Catalogue

@@ -1,7 +1,8 @@
 -- What a catalogue and a content are to contracts.
 use Rattle.std.specs.Prelude.{ℕ, Bool, List, Option}
 use Rattle.value.specs.Datum.{Row}
-use Rattle.syntax.specs.Tree.{Name, ColumnEntry, Side}
+use Rattle.syntax.specs.Tree.{Name, ColumnEntry}
+use Rattle.engine.specs.Plain.{Side}
 
 pub record RoleEntry : Type 0 where
   pub name : Name

@@ -1,8 +1,9 @@
 -- When two contents are the same to a role that asks a text.
-use Rattle.std.specs.Prelude.{◌≡◌, ℕ, ◌+◌, ◌==◌, if◌then◌else◌, List, [], ◌∷◌, map, Ok, IsPermutation}
+use Rattle.std.specs.Prelude.{◌≡◌, ℕ, ◌+◌, ◌==◌, if◌then◌else◌, List, [], ◌∷◌, map, Some, Ok, IsPermutation}
 use Rattle.std.specs.List.{list_any}
 use Rattle.value.specs.Datum.{null, Row}
 use Rattle.syntax.specs.Tree.{Name, Question}
+use Rattle.engine.specs.Plain.{PlainQuery, plain_query}
 use Rattle.syntax.specs.Parsing.{parsed_query}
 use Rattle.engine.specs.Entries.{Catalogue, Content}
 use Rattle.engine.specs.Access.{visible}
@@ -20,5 +21,5 @@ restricted columns row = kept_from 0 columns row
 -- the rows that the role sees, restricted to the columns that the text names, are the same bag in both contents
 abbrev pub SeesSame : Catalogue → Name → List ℕ → Content → Content → Type 0
 SeesSame cat role text one other =
-    (q : Question) (b : Bound) → parsed_query text ≡ Ok q → resolved cat q ≡ Ok b →
+    (q : Question) (p : PlainQuery) (b : Bound) → parsed_query text ≡ Ok q → plain_query q ≡ Some p → resolved cat p ≡ Ok b →
     IsPermutation (map (restricted b.places) (visible cat role b.table (one b.table.name))) (map (restricted b.places) (visible cat role b.table (other b.table.name)))

@@ -1,3 +1,5 @@
+pub mod Plain
+pub mod PlainView
 pub mod Entries
 pub mod Access
 pub mod Names

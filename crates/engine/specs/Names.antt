@@ -1,10 +1,11 @@
 -- What the names of a query stand for, or the first that stands for nothing.
-use Rattle.std.specs.Prelude.{ℕ, Bool, true, not, List, [], ◌∷◌, map, Option, Some, None, Result, Ok, Err, if◌then◌else◌}
+use Rattle.std.specs.Prelude.{ℕ, Bool, true, List, [], ◌∷◌, map, Option, Some, None, Result, Ok, Err, if◌then◌else◌}
 use Rattle.std.specs.Str.{bytes_eq}
 use Rattle.std.specs.List.{find, position_from}
 use Rattle.value.specs.declared.refusal.Refusal.{Refusal}
 use Rattle.value.specs.declared.refusal.Refusal.TheVariants as r
-use Rattle.syntax.specs.Tree.{Name, ColumnWord, ColumnEntry, Question}
+use Rattle.syntax.specs.Tree.{Name, ColumnWord, ColumnEntry}
+use Rattle.engine.specs.Plain.{PlainQuery}
 use Rattle.engine.specs.declared.resolve.NameFault.{NameFault}
 use Rattle.engine.specs.Entries.{TableEntry, Catalogue}
 use Rattle.engine.specs.Access.{Need}
@@ -53,12 +54,12 @@ abbrev pub bound_at : TableEntry → List ColumnWord → Result (List ℕ) NameF
 bound_at t words (Err e) = Err e
 bound_at t words (Ok places) = Ok record { table = t; places = places; names = map (λ word. word.name) words }
 
-abbrev pub bound_in : Question → Option TableEntry → Result Bound NameFault
+abbrev pub bound_in : PlainQuery → Option TableEntry → Result Bound NameFault
 bound_in q None = Err (fault r.UndefinedTable q.table_at)
 bound_in q (Some t) = bound_at t q.columns (places_of t q.columns)
 
 -- the table first, then the columns in written order
-abbrev pub resolved : Catalogue → Question → Result Bound NameFault
+abbrev pub resolved : Catalogue → PlainQuery → Result Bound NameFault
 resolved cat q = bound_in q (table_named q.table cat)
 
 abbrev pub need : TableEntry → Name → Need

@@ -1,5 +1,5 @@
 -- What is answered, and how it is written.
-use Rattle.std.specs.Prelude.{◌≡◌, ◌⊎◌, ℕ, Bool, true, false, ◌==◌, ◌||◌, if◌then◌else◌, List, [], ◌∷◌, ◌++◌, map, flat_map, length, Option, Some, None, Result, Ok, Err, codes}
+use Rattle.std.specs.Prelude.{ℕ, Bool, true, false, ◌==◌, ◌||◌, if◌then◌else◌, List, [], ◌∷◌, ◌++◌, map, flat_map, length, Option, Some, None, Result, Ok, Err, codes}
 use Rattle.std.specs.List.{list_any}
 use Rattle.std.specs.Fmt.{decimal, signed_decimal}
 use Rattle.bags.specs.Sorting.{sorted_by}
@@ -9,9 +9,10 @@ use Rattle.value.specs.Codes.{code_of}
 use Rattle.value.specs.declared.refusal.Refusal.{Refusal}
 use Rattle.value.specs.declared.refusal.Refusal.TheVariants as r
 use Rattle.syntax.specs.Tree.{Name, Question}
+use Rattle.engine.specs.Plain.{PlainQuery, plain_query}
 use Rattle.syntax.specs.Parsing.{TextFault, wrong_at, over_limit, parsed_query}
 use Rattle.engine.specs.declared.resolve.NameFault.{NameFault}
-use Rattle.engine.specs.Entries.{TableEntry, Catalogue, Content}
+use Rattle.engine.specs.Entries.{Catalogue, Content}
 use Rattle.engine.specs.Access.{Need, is_role, denial, cell, visible}
 use Rattle.engine.specs.Names.{Bound, resolved, needed}
 
@@ -43,9 +44,14 @@ abbrev pub fault_reply : TextFault → Outcome
 fault_reply (wrong_at at) = refused r.SyntaxError (Some at)
 fault_reply over_limit = refused r.ProgramLimitExceeded None
 
+-- what is not served yet is refused before its names
+abbrev pub served_reply : Catalogue → Content → Name → Option PlainQuery → Outcome
+served_reply cat content role None = refused r.FeatureNotSupported None
+served_reply cat content role (Some q) = bound_reply cat content role (resolved cat q)
+
 abbrev pub parsed_reply : Catalogue → Content → Name → Result Question TextFault → Outcome
 parsed_reply cat content role (Err e) = fault_reply e
-parsed_reply cat content role (Ok q) = bound_reply cat content role (resolved cat q)
+parsed_reply cat content role (Ok q) = served_reply cat content role (plain_query q)
 
 -- the reply to a role's text: the role, the grammar, the names, the needed grants, and then the rows
 abbrev pub reply_to : Catalogue → Content → Name → List ℕ → Outcome

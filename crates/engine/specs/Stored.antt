@@ -1,17 +1,20 @@
 -- A catalogue with the contents of its tables.
-use Rattle.std.specs.Prelude.{◌≡◌, ◌-◌, ℕ, Bool, true, false, List, [], ◌∷◌, ◌++◌, length, map, Option, Some, None, if◌then◌else◌, Result, Ok, Err}
+use Rattle.std.specs.Prelude.{◌≡◌, ◌≢◌, ◌-◌, ℕ, Bool, List, [], ◌∷◌, ◌++◌, length, map, Option, Some, None, if◌then◌else◌, Result, Ok, Err}
 use Rattle.std.specs.Str.{bytes_eq}
 use Rattle.value.specs.Datum.{Row}
 use Rattle.value.specs.declared.refusal.Refusal.{Refusal}
+use Rattle.value.specs.declared.refusal.Refusal.TheVariants as r
 use Rattle.tables.specs.declared.TheConstants.{MAX_ROWS}
-use Rattle.tables.specs.Loading.{Col, Contents, Fields, is_told, load_of}
+use Rattle.tables.specs.Loading.{Col, Contents, Fields, IsUnread, load_of}
 use Rattle.tables.specs.declared.LoadError.{LoadError}
+use Rattle.tables.specs.declared.LoadError.TheVariants as faults
 use Rattle.std.specs.List.{find}
 use Rattle.engine.specs.declared.store.StoreError.{StoreError}
 use Rattle.engine.specs.declared.store.StoreError.TheVariants as errors
-use Rattle.syntax.specs.Tree.{Name, ColumnEntry, Act, create_role, create_table, set_owner, enable_security, grant_select, create_policy}
+use Rattle.syntax.specs.Tree.{Name, ColumnEntry, Act}
+use Rattle.engine.specs.Plain.{PlainAct, create_role, create_table, set_owner, enable_security, grant_select, create_policy, plain_act}
 use Rattle.engine.specs.Entries.{Catalogue, Content}
-use Rattle.engine.specs.Changes.{at_first, changed, first_changed}
+use Rattle.engine.specs.Changes.{at_first, changed_plainly, first_changed}
 
 -- the contents of each table, by its name
 pub record World : Type 0 where
@@ -33,13 +36,13 @@ at_start = record { catalogue = at_first; contents = [] }
 -- ---- statements
 
 abbrev pub column_of : ColumnEntry → Col
-column_of c = record { name = c.name; kind = c.kind; required = false }
+column_of c = record { name = c.name; kind = c.kind; required = c.required }
 
 -- a new table has no rows
 abbrev pub empty_table : List ColumnEntry → Contents
 empty_table columns = record { columns = map column_of columns; rows = [] }
 
-abbrev pub contents_after : List (Name × Contents) → Act → List (Name × Contents)
+abbrev pub contents_after : List (Name × Contents) → PlainAct → List (Name × Contents)
 contents_after contents (create_table name columns) = contents ++ (name, empty_table columns) ∷ []
 contents_after contents (create_role name) = contents
 contents_after contents (set_owner name role) = contents
@@ -47,13 +50,21 @@ contents_after contents (enable_security name) = contents
 contents_after contents (grant_select name roles) = contents
 contents_after contents (create_policy p) = contents
 
-abbrev pub with_catalogue : World → Act → Result Catalogue Refusal → Result World Refusal
+abbrev pub with_catalogue : World → PlainAct → Result Catalogue Refusal → Result World Refusal
 with_catalogue world act (Ok cat) = Ok record { catalogue = cat; contents = contents_after world.contents act }
 with_catalogue world act (Err why) = Err why
 
+-- the world after a statement that is served, or its refusal
+abbrev pub changed_world_plainly : World → Name → PlainAct → Result World Refusal
+changed_world_plainly world actor act = with_catalogue world act (changed_plainly world.catalogue actor act)
+
+abbrev pub changed_world_if : World → Name → Option PlainAct → Result World Refusal
+changed_world_if world actor None = Err r.FeatureNotSupported
+changed_world_if world actor (Some act) = changed_world_plainly world actor act
+
 -- the world after a statement, or its refusal
 abbrev pub changed_world : World → Name → Act → Result World Refusal
-changed_world world actor act = with_catalogue world act (changed world.catalogue actor act)
+changed_world world actor act = changed_world_if world actor (plain_act act)
 
 -- ---- rows
 
@@ -69,9 +80,15 @@ abbrev pub due_rows : Contents → List Fields → Result (List Row) LoadError
 due_rows t recs = load_of t.columns (MAX_ROWS - length t.rows) recs
 
 -- A load of a text into the table of that name: the rows of its records come to the table's; or else nothing changes, and the
--- first fault is told, where neither memory nor the reader failed.
+-- first fault is told, want of memory aside.
 abbrev pub IsLoad : List (Name × Contents) → List (Name × Contents) → Name → List Fields → Result (Unit {0}) StoreError → Type 0
 IsLoad old new name recs (Ok u) =
     (entry : Name × Contents) × (rows : List Row) × (find (is_named name) old ≡ Some entry) × (due_rows entry.1 recs ≡ Ok rows) × (new ≡ first_changed (is_named name) (with_rows rows) old)
 IsLoad old new name recs (Err errors.UndefinedTable) = find (is_named name) old ≡ None
-IsLoad old new name recs (Err (errors.Data e)) = (entry : Name × Contents) × (find (is_named name) old ≡ Some entry) × (is_told true e ≡ true → due_rows entry.1 recs ≡ Err e)
+IsLoad old new name recs (Err (errors.Data e)) = (entry : Name × Contents) × (find (is_named name) old ≡ Some entry) × (e ≢ faults.OutOfMemory → due_rows entry.1 recs ≡ Err e)
+
+-- A load whose read failed at a row: that is told, or want of memory.
+abbrev pub IsUnreadLoad : ℕ → Result (Unit {0}) StoreError → Type 0
+IsUnreadLoad row (Ok u) = ⊥
+IsUnreadLoad row (Err errors.UndefinedTable) = ⊥
+IsUnreadLoad row (Err (errors.Data e)) = IsUnread {Y = Unit {0}} row (Err e)

@@ -1,5 +1,5 @@
 -- What a store is.
-use Rattle.std.specs.Prelude.{List, map}
+use Rattle.std.specs.Prelude.{map}
 use Rattle.tables.specs.Loading.{Contents}
 use Rattle.syntax.specs.Tree.{Name}
 use Rattle.engine.specs.declared.store.Stored.{Stored}

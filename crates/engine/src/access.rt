@@ -5,16 +5,15 @@ ghost use Rattle.std.specs.Str.{bytes_eq};
 ghost use Rattle.std.specs.List.{list_any};
 ghost use Rattle.value.specs.Datum.{datum, row_of, seen};
 ghost use Rattle.value.specs.Orders.{equal_of, is_true};
-ghost use Rattle.syntax.specs.View.{side_of};
+ghost use Rattle.engine.specs.PlainView.{side_of};
 ghost use Rattle.engine.specs.Access.{is_meant, granted, serves, cell, side_value, policy_truth, applies, sees};
 ghost use Rattle.engine.specs.Changes.{grants_to};
 ghost use Rattle.engine.specs.Names.{need};
 ghost use Rattle.engine.specs.Catalogue.{policy_entry, table_entry};
 
-use crate::catalog::{Catalog, Policy, TableDef};
+use crate::catalog::{Catalog, Operand, Policy, TableDef};
 use memory::Heap;
 use std::borrow::CowStr;
-use syntax::Operand;
 use text::Text;
 use value::{Truth, Val, Value, eq3};
 

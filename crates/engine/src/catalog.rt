@@ -9,18 +9,28 @@ ghost use Rattle.engine.specs.Names.{table_named};
 
 use memory::Heap;
 use std::marker::Model;
-use syntax::{ColumnDef, Operand};
+use syntax::ColumnDef;
 use text::{Items, Text};
+use value::Value;
 
 /// A role.
-#[derive(Debug, Drop)]
+#[derive(Drop)]
 pub struct Role<A: Heap> {
     pub name: Text<A>,
     pub superuser: bool,
 }
 
+/// What a policy compares its column with.
+#[derive(Drop)]
+pub enum Operand<A: Heap> {
+    /// The name of the role that asks.
+    CurrentUser,
+    /// A value.
+    Literal(Value<A>),
+}
+
 /// A permissive policy: the column at a place equals the operand, for some roles.
-#[derive(Debug, Drop)]
+#[derive(Drop)]
 pub struct Policy<A: Heap> {
     pub name: Text<A>,
     pub roles: Items<Text<A>, A>,
@@ -29,7 +39,7 @@ pub struct Policy<A: Heap> {
 }
 
 /// A table of the catalogue.
-#[derive(Debug, Drop)]
+#[derive(Drop)]
 pub struct TableDef<A: Heap> {
     pub name: Text<A>,
     pub columns: Items<ColumnDef<A>, A>,
@@ -42,7 +52,7 @@ pub struct TableDef<A: Heap> {
 }
 
 /// Roles and tables.
-#[derive(Debug, Drop)]
+#[derive(Drop)]
 pub struct Catalog<A: Heap> {
     pub(crate) alloc: A,
     pub(crate) roles: Vec<Role<A>, A>,

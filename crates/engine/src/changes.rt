@@ -3,18 +3,20 @@
 ghost use Rattle.std.specs.Prelude.{◌≡◌, ◌<◌, ◌++◌, ◌∷◌, [], IfOk, IfSome, OnErr, OnOk, length, map, true};
 ghost use Rattle.std.specs.Str.{bytes_eq};
 ghost use Rattle.std.specs.List.{position_from};
-ghost use Rattle.syntax.specs.Tree.{create_role, create_table, set_owner, enable_security, grant_select, create_policy};
-ghost use Rattle.syntax.specs.View.{act_of, column_entry, policy_text, side_of};
-ghost use Rattle.engine.specs.Catalogue.{policy_entry, table_entry};
-ghost use Rattle.engine.specs.Changes.{after, at_first, changed, fresh_table, grants_to, in_table, policy_of, IsChange};
+ghost use Rattle.engine.specs.Plain.{create_role, create_table, set_owner, enable_security, grant_select, create_policy};
+ghost use Rattle.syntax.specs.View.{act_of, column_entry};
+ghost use Rattle.engine.specs.PlainView.{plain_act_of, plain_policy_of, side_of};
+ghost use Rattle.engine.specs.Catalogue.{policy_entry, side_held, table_entry};
+ghost use Rattle.engine.specs.Changes.{after, at_first, changed, changed_plainly, fresh_table, grants_to, in_table, policy_of, IsChange};
 ghost use Rattle.engine.specs.Names.{place_of};
 
-use crate::catalog::{Catalog, Policy, Role, TableDef};
+use crate::catalog::{Catalog, Operand, Policy, Role, TableDef};
 use crate::objections::refusal;
+use crate::plain::{PlainOperand, PlainPolicy, PlainStatement, plain_statement};
 use crate::resolve::place;
 use memory::Heap;
 use std::alloc::AllocError;
-use syntax::{ColumnDef, Operand, PolicyDef, Statement};
+use syntax::{ColumnDef, Statement};
 use text::{Items, Text};
 use value::Refusal;
 
@@ -58,6 +60,7 @@ fn copy_column<A: Heap>(alloc: A, column: &ColumnDef<A>) -> Result<ColumnDef<A>,
     Ok(ColumnDef {
         name: Text::new(alloc, column.name.as_str())?,
         kind: column.kind,
+        required: column.required,
     })
 }
 
@@ -74,12 +77,12 @@ fn copy_columns<A: Heap>(
     Ok(copy)
 }
 
-fn copy_operand<A: Heap>(alloc: A, operand: &Operand<A>) -> Result<Operand<A>, AllocError>
-    ensures { IfOk result (λ copy. side_of copy ≡ side_of operand.now) }
+fn copy_operand<A: Heap>(alloc: A, operand: &PlainOperand<'_, A>) -> Result<Operand<A>, AllocError>
+    ensures { IfOk result (λ copy. side_held copy ≡ side_of operand.now) }
 {
     match operand {
-        Operand::CurrentUser => Ok(Operand::CurrentUser),
-        Operand::Literal(value) => Ok(Operand::Literal(value.copy(alloc)?)),
+        PlainOperand::CurrentUser => Ok(Operand::CurrentUser),
+        PlainOperand::Literal(value) => Ok(Operand::Literal(value.copy(alloc)?)),
     }
 }
 
@@ -117,8 +120,8 @@ fn table_place<A: Heap>(tables: &[TableDef<A>], name: &str) -> Option<usize>
     None
 }
 
-fn policy_place<A: Heap>(table: &TableDef<A>, policy: &PolicyDef<A>) -> usize
-    ensures { result ≡ (policy_of (policy_text policy.now) (table_entry table.now)).column }
+fn policy_place<A: Heap>(table: &TableDef<A>, policy: &PlainPolicy<'_, A>) -> usize
+    ensures { result ≡ (policy_of (plain_policy_of policy.now) (table_entry table.now)).column }
 {
     match place(table.columns.as_slice(), policy.column.name.as_str()) {
         Some(place) => place,
@@ -129,9 +132,9 @@ fn policy_place<A: Heap>(table: &TableDef<A>, policy: &PolicyDef<A>) -> usize
 fn new_policy<A: Heap>(
     alloc: A,
     table: &TableDef<A>,
-    policy: &PolicyDef<A>,
+    policy: &PlainPolicy<'_, A>,
 ) -> Result<Policy<A>, AllocError>
-    ensures { IfOk result (λ made. policy_entry made ≡ policy_of (policy_text policy.now) (table_entry table.now)) }
+    ensures { IfOk result (λ made. policy_entry made ≡ policy_of (plain_policy_of policy.now) (table_entry table.now)) }
 {
     let name = Text::new(alloc, policy.name.as_str())?;
     let roles = copy_names(alloc, policy.roles.as_slice())?;
@@ -179,9 +182,9 @@ fn add_readers_in<A: Heap>(
 fn add_policy_in<A: Heap>(
     alloc: A,
     tables: &mut [TableDef<A>],
-    policy: &PolicyDef<A>,
+    policy: &PlainPolicy<'_, A>,
 ) -> Result<(), AllocError>
-    ensures done { OnOk result (map (λ t. table_entry t) tables.new ≡ in_table policy.now.table (λ t. record t { policies = t.policies ++ policy_of (policy_text policy.now) t ∷ [] }) (map (λ t. table_entry t) tables.old)) }
+    ensures done { OnOk result (map (λ t. table_entry t) tables.new ≡ in_table policy.now.table.now (λ t. record t { policies = t.policies ++ policy_of (plain_policy_of policy.now) t ∷ [] }) (map (λ t. table_entry t) tables.old)) }
     ensures unchanged { OnErr result (tables.new ≡ tables.old) }
 {
     if let Some(i) = table_place(tables, policy.table.as_str()) {
@@ -237,30 +240,45 @@ impl<A: Heap> Catalog<A> {
     }
 
     // The effect of a statement that is not refused.
-    fn take(&mut self, actor: &str, statement: &Statement<A>) -> Result<(), AllocError>
-        ensures done { OnOk result (self.new ≡ after self.old actor.now (act_of statement.now)) }
+    fn take(&mut self, actor: &str, statement: &PlainStatement<'_, A>) -> Result<(), AllocError>
+        ensures done { OnOk result (self.new ≡ after self.old actor.now (plain_act_of statement.now)) }
         ensures unchanged { OnErr result (self.new ≡ self.old) }
     {
         match statement {
-            Statement::CreateRole(name) => self.create_role(name.as_str()),
-            Statement::CreateTable(name, columns) => {
+            PlainStatement::CreateRole(name) => self.create_role(name.as_str()),
+            PlainStatement::CreateTable(name, columns) => {
                 self.create_table(actor, name.as_str(), columns)
             }
-            Statement::SetOwner(name, role) => self.set_owner(name.as_str(), role.as_str()),
-            Statement::EnableRowSecurity(name) => {
+            PlainStatement::SetOwner(name, role) => self.set_owner(name.as_str(), role.as_str()),
+            PlainStatement::EnableRowSecurity(name) => {
                 self.enable_security(name.as_str());
                 Ok(())
             }
-            Statement::GrantSelect(name, roles) => {
+            PlainStatement::GrantSelect(name, roles) => {
                 self.add_readers(name.as_str(), roles.as_slice())
             }
-            Statement::CreatePolicy(policy) => self.add_policy(policy),
+            PlainStatement::CreatePolicy(policy) => self.add_policy(policy),
         }
     }
 
-    /// Applies a statement of an actor. A refused statement changes nothing.
+    /// Applies a statement of an actor. A refused statement changes nothing. What is not served yet is refused before all
+    /// else (0A000).
     pub fn apply(&mut self, actor: &str, statement: &Statement<A>) -> Result<(), Refusal>
         ensures { IsChange self.old self.new (changed self.old actor.now (act_of statement.now)) result }
+    {
+        match plain_statement(statement) {
+            Some(plain) => self.apply_plainly(actor, &plain),
+            None => Err(Refusal::FeatureNotSupported),
+        }
+    }
+
+    // The same of a statement that is served.
+    pub(crate) fn apply_plainly(
+        &mut self,
+        actor: &str,
+        statement: &PlainStatement<'_, A>,
+    ) -> Result<(), Refusal>
+        ensures { IsChange self.old self.new (changed_plainly self.old actor.now (plain_act_of statement.now)) result }
     {
         if let Some(why) = refusal(self, actor, statement) {
             return Err(why);
@@ -293,8 +311,8 @@ impl<A: Heap> Catalog<A> {
         add_readers_in(self.alloc, &mut self.tables, name, roles)
     }
 
-    fn add_policy(&mut self, policy: &PolicyDef<A>) -> Result<(), AllocError>
-        ensures done { OnOk result (self.new ≡ after self.old [] (create_policy (policy_text policy.now))) }
+    fn add_policy(&mut self, policy: &PlainPolicy<'_, A>) -> Result<(), AllocError>
+        ensures done { OnOk result (self.new ≡ after self.old [] (create_policy (plain_policy_of policy.now))) }
         ensures unchanged { OnErr result (self.new ≡ self.old) }
     {
         add_policy_in(self.alloc, &mut self.tables, policy)

@@ -6,6 +6,7 @@ mod answer;
 mod catalog;
 mod changes;
 mod objections;
+mod plain;
 mod reply;
 mod resolve;
 mod serving;
@@ -13,7 +14,6 @@ mod store;
 
 pub use access::{is_granted, is_seen};
 pub use catalog::{Catalog, TableDef};
-pub use objections::refusal;
 pub use reply::{Reply, reply_status, reply_text};
 pub use resolve::{BindError, Bound, NameFault, bind, is_qualified};
 pub use serving::{ask, hidden_rows, serve};

@@ -3,16 +3,18 @@
 ghost use Rattle.std.specs.Prelude.{◌≡◌, [], ◌&&◌, ◌||◌, map, true};
 ghost use Rattle.std.specs.List.{list_all};
 ghost use Rattle.value.specs.Datum.{datum};
-ghost use Rattle.syntax.specs.Tree.{create_role, create_table, set_owner, enable_security, grant_select, create_policy};
-ghost use Rattle.syntax.specs.View.{act_of, column_entry, policy_text, side_of};
+ghost use Rattle.engine.specs.Plain.{create_role, create_table, set_owner, enable_security, grant_select, create_policy};
+ghost use Rattle.syntax.specs.View.{column_entry};
+ghost use Rattle.engine.specs.PlainView.{plain_act_of, plain_policy_of, side_of};
 ghost use Rattle.engine.specs.Access.{belongs, is_superuser};
 ghost use Rattle.engine.specs.Catalogue.{table_entry};
 ghost use Rattle.engine.specs.Changes.{first_refusal, objections, refusal_of, condition_objections, owns, is_known, has_name, has_name_twice, is_of, side_is_of, fits};
 
 use crate::catalog::{Catalog, TableDef};
+use crate::plain::{PlainOperand, PlainPolicy, PlainStatement};
 use crate::resolve::is_qualified;
 use memory::Heap;
-use syntax::{ColumnDef, Operand, PolicyDef, Statement};
+use syntax::ColumnDef;
 use text::{Items, Text};
 use value::{ColType, Refusal, Value};
 
@@ -73,16 +75,16 @@ fn is_of<A: Heap>(kind: ColType, value: &Value<A>) -> bool
     }
 }
 
-fn side_is_of<A: Heap>(kind: ColType, operand: &Operand<A>) -> bool
+fn side_is_of<A: Heap>(kind: ColType, operand: &PlainOperand<'_, A>) -> bool
     ensures { result ≡ side_is_of kind (side_of operand.now) }
 {
     match operand {
-        Operand::CurrentUser => matches!(kind, ColType::Text),
-        Operand::Literal(value) => is_of(kind, value),
+        PlainOperand::CurrentUser => matches!(kind, ColType::Text),
+        PlainOperand::Literal(value) => is_of(kind, value),
     }
 }
 
-fn fits<A: Heap>(columns: &[ColumnDef<A>], name: &str, operand: &Operand<A>) -> bool
+fn fits<A: Heap>(columns: &[ColumnDef<A>], name: &str, operand: &PlainOperand<'_, A>) -> bool
     ensures { result ≡ fits (map (λ c. column_entry c) columns.now) name.now (side_of operand.now) }
 {
     for column in columns {
@@ -185,8 +187,8 @@ fn of_grant<A: Heap>(
     }
 }
 
-fn of_condition<A: Heap>(table: &TableDef<A>, policy: &PolicyDef<A>) -> Option<Refusal>
-    ensures { result ≡ first_refusal (condition_objections (table_entry table.now) (policy_text policy.now)) }
+fn of_condition<A: Heap>(table: &TableDef<A>, policy: &PlainPolicy<'_, A>) -> Option<Refusal>
+    ensures { result ≡ first_refusal (condition_objections (table_entry table.now) (plain_policy_of policy.now)) }
 {
     let columns = table.columns.as_slice();
     let name = policy.column.name.as_str();
@@ -201,8 +203,12 @@ fn of_condition<A: Heap>(table: &TableDef<A>, policy: &PolicyDef<A>) -> Option<R
     }
 }
 
-fn of_policy<A: Heap>(catalog: &Catalog<A>, actor: &str, policy: &PolicyDef<A>) -> Option<Refusal>
-    ensures { result ≡ first_refusal (objections catalog.now actor.now (create_policy (policy_text policy.now))) }
+fn of_policy<A: Heap>(
+    catalog: &Catalog<A>,
+    actor: &str,
+    policy: &PlainPolicy<'_, A>,
+) -> Option<Refusal>
+    ensures { result ≡ first_refusal (objections catalog.now actor.now (create_policy (plain_policy_of policy.now))) }
 {
     let Some(table) = catalog.table(policy.table.as_str()) else {
         return Some(Refusal::UndefinedTable);
@@ -221,31 +227,33 @@ fn of_policy<A: Heap>(catalog: &Catalog<A>, actor: &str, policy: &PolicyDef<A>) 
 fn of_statement<A: Heap>(
     catalog: &Catalog<A>,
     actor: &str,
-    statement: &Statement<A>,
+    statement: &PlainStatement<'_, A>,
 ) -> Option<Refusal>
-    ensures { result ≡ first_refusal (objections catalog.now actor.now (act_of statement.now)) }
+    ensures { result ≡ first_refusal (objections catalog.now actor.now (plain_act_of statement.now)) }
 {
     match statement {
-        Statement::CreateRole(name) => of_new_role(catalog, actor, name.as_str()),
-        Statement::CreateTable(name, columns) => { of_new_table(catalog, name.as_str(), columns) }
-        Statement::SetOwner(table, role) => {
+        PlainStatement::CreateRole(name) => of_new_role(catalog, actor, name.as_str()),
+        PlainStatement::CreateTable(name, columns) => {
+            of_new_table(catalog, name.as_str(), columns)
+        }
+        PlainStatement::SetOwner(table, role) => {
             of_new_owner(catalog, actor, table.as_str(), role.as_str())
         }
-        Statement::EnableRowSecurity(table) => of_security(catalog, actor, table.as_str()),
-        Statement::GrantSelect(table, roles) => {
+        PlainStatement::EnableRowSecurity(table) => of_security(catalog, actor, table.as_str()),
+        PlainStatement::GrantSelect(table, roles) => {
             of_grant(catalog, actor, table.as_str(), roles.as_slice())
         }
-        Statement::CreatePolicy(policy) => of_policy(catalog, actor, policy),
+        PlainStatement::CreatePolicy(policy) => of_policy(catalog, actor, policy),
     }
 }
 
-/// The refusal of a statement by an actor, if there is one.
-pub fn refusal<A: Heap>(
+/// The refusal of a statement that is served, by an actor, if there is one.
+pub(crate) fn refusal<A: Heap>(
     catalog: &Catalog<A>,
     actor: &str,
-    statement: &Statement<A>,
+    statement: &PlainStatement<'_, A>,
 ) -> Option<Refusal>
-    ensures { result ≡ refusal_of catalog.now actor.now (act_of statement.now) }
+    ensures { result ≡ refusal_of catalog.now actor.now (plain_act_of statement.now) }
 {
     if catalog.is_role(actor) {
         of_statement(catalog, actor, statement)

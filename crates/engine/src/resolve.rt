@@ -1,7 +1,8 @@
 //! What the names of a query stand for.
 
 ghost use Rattle.std.specs.Prelude.{◌≡◌, Option, IfOk, map, option_map};
-ghost use Rattle.syntax.specs.View.{column_word, column_entry, question_of};
+ghost use Rattle.syntax.specs.View.{column_word, column_entry};
+ghost use Rattle.engine.specs.PlainView.{plain_query_of};
 ghost use Rattle.engine.specs.Access.{denial};
 ghost use Rattle.engine.specs.Catalogue.{table_entry};
 ghost use Rattle.engine.specs.Names.{place_of, is_qualified, found_at, column_place, places_of, resolved, needed};
@@ -9,9 +10,10 @@ ghost use Rattle.engine.specs.Bind.{bound_of, Gives};
 ghost use Rattle.engine.specs.declared.resolve.BindError.TheVariants.{Memory};
 
 use crate::catalog::{Catalog, TableDef};
+use crate::plain::PlainQuery;
 use memory::Heap;
 use std::alloc::{AllocError, AllocFailed};
-use syntax::{ColumnDef, ColumnRef, Query};
+use syntax::{ColumnDef, ColumnRef};
 use text::{Items, Text};
 use value::Refusal;
 
@@ -129,9 +131,9 @@ fn names<A: Heap>(alloc: A, words: &[ColumnRef<A>]) -> Result<Items<Text<A>, A>,
 pub fn bind<'c, A: Heap>(
     alloc: A,
     catalog: &'c Catalog<A>,
-    query: &Query<A>,
+    query: &PlainQuery<A>,
 ) -> Result<Bound<'c, A>, BindError>
-    ensures { Gives (λ b. bound_of b) result (resolved catalog.now (question_of query.now)) }
+    ensures { Gives (λ b. bound_of b) result (resolved catalog.now (plain_query_of query.now)) }
 {
     let Some(table) = catalog.table(query.table.as_str()) else {
         return Err(BindError::Fault(NameFault {

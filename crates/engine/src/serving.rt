@@ -11,6 +11,7 @@ ghost use Rattle.engine.specs.Access.{visible};
 ghost use Rattle.engine.specs.Catalogue.{table_entry};
 ghost use Rattle.syntax.specs.Parsing.{parsed_query};
 ghost use Rattle.syntax.specs.View.{question_of};
+ghost use Rattle.engine.specs.PlainView.{plain_query_of};
 ghost use Rattle.engine.specs.Entries.{Catalogue, Content};
 ghost use Rattle.engine.specs.Names.{resolved};
 ghost use Rattle.engine.specs.Bind.{bound_of};
@@ -21,6 +22,7 @@ ghost use Rattle.engine.specs.Hidden.{SeesSame};
 
 use crate::answer::{answer_rows, denied};
 use crate::catalog::TableDef;
+use crate::plain::{PlainQuery, plain_query};
 use crate::reply::{Reply, reply_status, reply_text};
 use crate::resolve::{BindError, Bound, bind};
 use crate::store::{Store, rows_at};
@@ -78,18 +80,32 @@ fn answer_bound<A: Heap>(
     }
 }
 
+fn answer_plainly<A: Heap>(
+    alloc: A,
+    store: &Store<A>,
+    role: &str,
+    query: &PlainQuery<A>,
+) -> Result<Reply<A>, AllocError>
+    ensures { IfOk result (λ reply. outcome_of reply ≡ bound_reply store.now.catalogue (content_of store.now) role.now (resolved store.now.catalogue (plain_query_of query.now))) }
+{
+    match bind(alloc, &store.catalog, query) {
+        Ok(bound) => answer_bound(alloc, store, role, bound),
+        Err(BindError::Fault(fault)) => Ok(Reply::Refused(fault.why, Some(fault.at))),
+        Err(BindError::Memory) => Err(AllocError),
+    }
+}
+
 fn answer_query<A: Heap>(
     alloc: A,
     store: &Store<A>,
     role: &str,
     query: &Query<A>,
 ) -> Result<Reply<A>, AllocError>
-    ensures { IfOk result (λ reply. outcome_of reply ≡ bound_reply store.now.catalogue (content_of store.now) role.now (resolved store.now.catalogue (question_of query.now))) }
+    ensures { IfOk result (λ reply. outcome_of reply ≡ parsed_reply store.now.catalogue (content_of store.now) role.now (Ok (question_of query.now))) }
 {
-    match bind(alloc, &store.catalog, query) {
-        Ok(bound) => answer_bound(alloc, store, role, bound),
-        Err(BindError::Fault(fault)) => Ok(Reply::Refused(fault.why, Some(fault.at))),
-        Err(BindError::Memory) => Err(AllocError),
+    match plain_query(alloc, query)? {
+        Some(plain) => answer_plainly(alloc, store, role, &plain),
+        None => Ok(Reply::Refused(Refusal::FeatureNotSupported, None)),
     }
 }
 
@@ -102,7 +118,11 @@ fn answer_text<A: Heap>(
     ensures { IfOk result (λ reply. outcome_of reply ≡ parsed_reply store.now.catalogue (content_of store.now) role.now (parsed_query text.now)) }
 {
     match parse_query(alloc, text) {
-        Ok(query) => answer_query(alloc, store, role, &query),
+        Ok(query) => {
+            let reply = answer_query(alloc, store, role, &query);
+            drop(query);
+            reply
+        }
         Err(ParseError::Syntax(at)) => Ok(Reply::Refused(Refusal::SyntaxError, Some(at))),
         Err(ParseError::Limit) => Ok(Reply::Refused(Refusal::ProgramLimitExceeded, None)),
         Err(ParseError::Memory) => Err(AllocError),

@@ -1,16 +1,19 @@
 //! A catalogue with its tables.
 
-ghost use Rattle.std.specs.Prelude.{◌≡◌, List, IfOk, IfSome, OnErr, OnOk, ◌<◌, Option, Some, length, map, option_map, slice_get};
+ghost use Rattle.std.specs.Prelude.{◌≡◌, List, IfOk, IfSome, OnErr, OnOk, ◌<◌, true, false, Option, None, Some, length, map, option_map, slice_get};
 ghost use Rattle.value.specs.Datum.{row_of};
-ghost use Rattle.tables.specs.Loading.{Fields, col_of, records_of};
+ghost use Rattle.tables.specs.Loading.{Fields, col_of};
 ghost use Rattle.std.specs.List.{position_from};
-ghost use Rattle.syntax.specs.Tree.{create_table};
+ghost use Rattle.engine.specs.Plain.{create_table};
 ghost use Rattle.syntax.specs.View.{act_of, column_entry};
+ghost use Rattle.engine.specs.PlainView.{plain_act_of};
 ghost use Rattle.engine.specs.Changes.{IsChange};
-ghost use Rattle.engine.specs.Stored.{at_start, changed_world, column_of, empty_table, is_named, IsLoad, rows_in};
+ghost use Rattle.engine.specs.Stored.{at_start, changed_world, changed_world_plainly, column_of, empty_table, is_named, IsLoad, IsUnreadLoad, rows_in};
 ghost use Rattle.engine.specs.World.{stored_entry};
 
 use crate::catalog::Catalog;
+use crate::plain::{PlainStatement, plain_statement};
+use csv_records::Records;
 use memory::Heap;
 use std::alloc::AllocError;
 use std::io::Read;
@@ -88,7 +91,7 @@ fn table_column<A: Heap>(alloc: A, column: &ColumnDef<A>) -> Result<Column<A>, A
     Ok(Column {
         name: Text::new(alloc, column.name.as_str())?,
         kind: column.kind,
-        required: false,
+        required: column.required,
     })
 }
 
@@ -144,12 +147,12 @@ impl<A: Heap> Store<A> {
     fn add_table(
         &mut self,
         actor: &str,
-        statement: &Statement<A>,
+        statement: &PlainStatement<'_, A>,
         name: &str,
         columns: &[ColumnDef<A>],
     ) -> Result<(), Refusal>
-        requires { act_of statement.now ≡ create_table name.now (map (λ c. column_entry c) columns.now) }
-        ensures { IsChange self.old self.new (changed_world self.old actor.now (act_of statement.now)) result }
+        requires { plain_act_of statement.now ≡ create_table name.now (map (λ c. column_entry c) columns.now) }
+        ensures { IsChange self.old self.new (changed_world_plainly self.old actor.now (plain_act_of statement.now)) result }
     {
         let Ok(entry) = new_stored(self.alloc, name, columns) else {
             return Err(Refusal::OutOfMemory);
@@ -158,7 +161,7 @@ impl<A: Heap> Store<A> {
         if self.contents.push(entry).is_err() {
             return Err(Refusal::OutOfMemory);
         }
-        match self.catalog.apply(actor, statement) {
+        match self.catalog.apply_plainly(actor, statement) {
             Ok(()) => Ok(()),
             Err(why) => {
                 self.contents.truncate(before);
@@ -167,19 +170,34 @@ impl<A: Heap> Store<A> {
         }
     }
 
-    /// Applies a schema statement of an actor; a new table has no rows. A refused statement changes nothing.
+    /// Applies a schema statement of an actor; a new table has no rows. A refused statement changes nothing. What is not
+    /// served yet is refused before all else (0A000).
     pub fn change(&mut self, actor: &str, statement: &Statement<A>) -> Result<(), Refusal>
         ensures { IsChange self.old self.new (changed_world self.old actor.now (act_of statement.now)) result }
     {
+        match plain_statement(statement) {
+            Some(plain) => self.change_plainly(actor, &plain),
+            None => Err(Refusal::FeatureNotSupported),
+        }
+    }
+
+    // The same of a statement that is served.
+    fn change_plainly(
+        &mut self,
+        actor: &str,
+        statement: &PlainStatement<'_, A>,
+    ) -> Result<(), Refusal>
+        ensures { IsChange self.old self.new (changed_world_plainly self.old actor.now (plain_act_of statement.now)) result }
+    {
         match statement {
-            Statement::CreateTable(name, columns) => {
+            PlainStatement::CreateTable(name, columns) => {
                 self.add_table(actor, statement, name.as_str(), columns.as_slice())
             }
-            Statement::CreateRole(_)
-            | Statement::SetOwner(_, _)
-            | Statement::EnableRowSecurity(_)
-            | Statement::GrantSelect(_, _)
-            | Statement::CreatePolicy(_) => self.catalog.apply(actor, statement),
+            PlainStatement::CreateRole(_)
+            | PlainStatement::SetOwner(_, _)
+            | PlainStatement::EnableRowSecurity(_)
+            | PlainStatement::GrantSelect(_, _)
+            | PlainStatement::CreatePolicy(_) => self.catalog.apply_plainly(actor, statement),
         }
     }
 
@@ -200,19 +218,24 @@ impl<A: Heap> Store<A> {
         self.contents.len()
     }
 
-    /// Adds the rows of a comma-separated text, whose first record is the names of the columns, to the table of that name.
-    /// A refused text changes nothing.
-    pub fn load<R: Read + Drop>(&mut self, table: &str, rdr: R) -> Result<(), StoreError>
+    /// Adds the rows of records, of which none was read before and the first is the names of the columns, to the table of
+    /// that name. A refusal changes nothing. A contract sees of the records whether a read failed: where none did, a fault is
+    /// the first one of the records; where one did, it is told at the row that was not read.
+    pub fn load<R: Read>(&mut self, table: &str, records: &mut Records<R>) -> Result<(), StoreError>
+        requires expected { records.old.expected ≡ None }
+        requires given { records.old.given ≡ 0 }
+        requires fresh { records.old.failed ≡ false }
         ensures catalogue { self.new.catalogue ≡ self.old.catalogue }
         ensures unchanged { OnErr result (self.new ≡ self.old) }
-        ensures rows { IfSome (R.remaining rdr) (λ bytes. IsLoad self.old.contents self.new.contents table.now (records_of bytes) result) }
-        // Where the reader does not tell its bytes, these are some records.
-        ensures some_records { (recs : List Fields) × IsLoad self.old.contents self.new.contents table.now recs result }
+        ensures exact { records.new.failed ≡ false → IfSome records.old.records (λ recs. IsLoad self.old.contents self.new.contents table.now recs result) }
+        // The same of records that are not known: what was read were some records.
+        ensures some_records { records.new.failed ≡ false → (recs : List Fields) × IsLoad self.old.contents self.new.contents table.now recs result }
+        ensures failed { records.new.failed ≡ true → IsUnreadLoad records.new.given result }
     {
         let Some(i) = stored_place(&self.contents, table) else {
             return Err(StoreError::UndefinedTable);
         };
-        match self.contents[i].table.append(rdr) {
+        match self.contents[i].table.append(records) {
             Ok(()) => Ok(()),
             Err(error) => Err(StoreError::Data(error)),
         }

@@ -206,10 +206,10 @@ module _ (L : Language) where
         let a = facts_of g in
         record {
           none = λ ts. inl refl;
-          whole = λ ts t us s. inr (s.0, (s.1.0, s.1.1, s.1.2, s.1.3, a.whole s.1.1 t us s.1.4));
-          starts = λ ts t us s. inl (subst (λ l. head_in kind p l ≡ true) (sym s.1.2) s.1.3, shorter ts s.1.0 s.1.1 us (first L inner_first g) (nullable g) s.1.2 (a.starts s.1.1 t us s.1.4));
+          whole = λ ts t us s. inr (s.0, (t.0, s.1.0, s.1.1, s.1.2, a.whole s.1.0 t.1 us s.1.3));
+          starts = λ ts t us s. inl (subst (λ l. head_in kind p l ≡ true) (sym s.1.1) s.1.2, shorter ts t.0 s.1.0 us (first L inner_first g) (nullable g) s.1.1 (a.starts s.1.0 t.1 us s.1.3));
           begins = λ ts us. elim [ inl e ↦ inl e | inr s ↦ inr (subst (λ l. head_in kind p l ≡ true) (sym s.1.2) s.1.3) ];
-          more = λ ts t us s. (opens s.0, (s.1.0, s.1.1, s.1.2, s.1.3, a.more s.1.1 t us s.1.4));
+          more = λ ts t us s. (opens s.0, (s.1.0, s.1.1, s.1.2, a.more s.1.0 t.1 us s.1.3));
         }
       where
         shorter : (ts : List Token) (x : Token) (ms us : List Token) (f : Kind → Bool) (n : Bool) → ts ≡ x ∷ ms → Starts f n ms us → length us < length ts

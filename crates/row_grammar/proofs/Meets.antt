@@ -324,8 +324,8 @@ module _ (L : Language) where
 
   module _ {A I : Type 0} (S : I → Reading Token A) (F : I → Fronting Token) (f x : Kind → Bool) (null : Bool) (up : I → I)
       (facts : (i : I) → Facts L (S i) (F i) f null (S (up i))) (p : Kind → Bool) (opens : I → Bool) where
-    abbrev pub Nest : I → Reading Token A
-    Nest i ts t us = (opens i ≡ true) × ((y : Token) × (ms : List Token) × (ts ≡ y ∷ ms) × (p (kind y) ≡ true) × S i ms t us)
+    abbrev pub Nest : I → Reading Token (Token × A)
+    Nest i ts t us = (opens i ≡ true) × ((ms : List Token) × (ts ≡ t.0 ∷ ms) × (p (kind t.0) ≡ true) × S i ms t.1 us)
 
     abbrev pub NestFront : I → Fronting Token
     NestFront i ts us = (us ≡ ts) ⊎ ((opens i ≡ true) × ((y : Token) × (ms : List Token) × (ts ≡ y ∷ ms) × (p (kind y) ≡ true) × F i ms us))
@@ -338,22 +338,32 @@ module _ (L : Language) where
     tail_same : (y : Token) (ms : List Token) (z : Token) (ls : List Token) → y ∷ ms ≡ z ∷ ls → ls ≡ ms
     tail_same y ms z ls e = cc
 
+    head_same : (y : Token) (ms : List Token) (z : Token) (ls : List Token) → y ∷ ms ≡ z ∷ ls → z ≡ y
+    head_same y ms z ls e = cc
+
+    -- the token that opened the level, and what was read inside it
+    abbrev nested : Token → Outcome Token A → Outcome Token (Token × A)
+    nested y r = r >>= λ q. Ok ((y, q.0), q.1)
+
     module _ (here : I) (y : Token) (ms : List Token) (is : p (kind y) ≡ true) (open_ : opens here ≡ true) where
       nest_ends : (n : ℕ) (i : I) → ((vs : List Token) → F i ms vs → n ≤ length vs) → (vs : List Token) → NestFront i (y ∷ ms) vs → n ≤ length vs
       nest_ends n i ends vs (inl h) = let l = ends ms ((facts i).none ms) in omega (arith, ap length h)
       nest_ends n i ends vs (inr h) = ends vs (subst (λ l. F i l vs) (tail_same y ms h.1.0 h.1.1 h.1.2) h.1.4)
 
-      inside : (i : I) (t : A) (vs : List Token) → Nest i (y ∷ ms) t vs → S i ms t vs
-      inside i t vs h = subst (λ l. S i l t vs) (tail_same y ms h.1.0 h.1.1 h.1.2) h.1.4
+      inside : (i : I) (t : Token × A) (vs : List Token) → Nest i (y ∷ ms) t vs → S i ms t.1 vs
+      inside i t vs h = subst (λ l. S i l t.1 vs) (tail_same y ms t.0 h.1.0 h.1.1) h.1.3
 
-      nest_inside : (up_open : opens (up here) ≡ true) (r : Outcome Token A) → Meets S F x here (up here) ms r → Meets Nest NestFront x here (up here) (y ∷ ms) r
+      same_value : (i : I) (t : Token × A) (vs : List Token) (a : A) → Nest i (y ∷ ms) t vs → t.1 ≡ a → t ≡ (y, a)
+      same_value i t vs a h e = same_pair t y a (head_same y ms t.0 h.1.0 h.1.1) e
+
+      nest_inside : (up_open : opens (up here) ≡ true) (r : Outcome Token A) → Meets S F x here (up here) ms r → Meets Nest NestFront x here (up here) (y ∷ ms) (nested y r)
       nest_inside up_open (Ok q) m = record {
-        spells = (open_, (y, ms, refl, is, m.spells));
+        spells = (open_, (ms, refl, is, m.spells));
         ends = λ i. nest_ends (length q.1) i (m.ends i);
-        only = λ i t vs h. m.only i t vs (inside i t vs h);
+        only = λ i t vs h. elim (m.only i t.1 vs (inside i t vs h)) [ inl same ↦ inl (same_value i t vs q.0 h same.0, same.1) | inr e ↦ inr e ];
       }
-      nest_inside up_open (Err (syntax n)) m = record { rest = m.rest; count = m.count; front = inr (open_, (y, ms, refl, is, m.front)); ends = λ i. nest_ends n i (m.ends i); only = λ i t vs h. m.only i t vs (inside i t vs h) }
-      nest_inside up_open (Err (limit n)) m = record { rest = m.rest; count = m.count; front = inr (open_, (y, ms, refl, is, m.front)); ends = nest_ends n here m.ends; more = (m.more.0, m.more.1, inr (up_open, (y, ms, refl, is, m.more.2))); only = λ t vs h. m.only t vs (inside here t vs h) }
+      nest_inside up_open (Err (syntax n)) m = record { rest = m.rest; count = m.count; front = inr (open_, (y, ms, refl, is, m.front)); ends = λ i. nest_ends n i (m.ends i); only = λ i t vs h. m.only i t.1 vs (inside i t vs h) }
+      nest_inside up_open (Err (limit n)) m = record { rest = m.rest; count = m.count; front = inr (open_, (y, ms, refl, is, m.front)); ends = nest_ends n here m.ends; more = (m.more.0, m.more.1, inr (up_open, (y, ms, refl, is, m.more.2))); only = λ t vs h. m.only t.1 vs (inside here t vs h) }
 
     nest_limited : (here : I) (up_open : opens (up here) ≡ true) (y : Token) (ms : List Token) → p (kind y) ≡ true → opens here ≡ false → IsLimited Nest NestFront x here (up here) (y ∷ ms) (length (y ∷ ms))
     nest_limited here up_open y ms is closed = record {
@@ -371,18 +381,18 @@ module _ (L : Language) where
       count = refl;
       front = inl refl;
       ends = λ i vs. elim [ inl h ↦ omega (arith, ap length h) | inr h ↦ absurd (wrong h.1.0 h.1.1 h.1.2 h.1.3) ];
-      only = λ i t vs h. absurd (wrong h.1.0 h.1.1 h.1.2 h.1.3);
+      only = λ i t vs h. absurd (wrong t.0 h.1.0 h.1.1 h.1.2);
     }
       where
         wrong : (z : Token) (ls : List Token) → ts ≡ z ∷ ls → p (kind z) ≡ true → ⊥
         wrong z ls e h = let r : head_in kind p (z ∷ ls) ≡ false = subst (λ (l : List Token). head_in kind p l ≡ false) e not_in in cc
 
     pub nest_meets : (here : I) (up_open : opens (up here) ≡ true) (ts : List Token) (run : List Token → Outcome Token A) → (opens here ≡ true → (us : List Token) → Meets S F x here (up here) us (run us))
-        → Meets Nest NestFront x here (up here) ts (opened_at kind (opens here) p ts >>= λ x. run x.1)
+        → Meets Nest NestFront x here (up here) ts (opened_at kind (opens here) p ts >>= λ x. nested x.0 (run x.1))
     nest_meets here up_open [] run m = nest_stopped here [] refl
     nest_meets here up_open (y ∷ ms) run m = go (p (kind y)) refl (opens here) refl
       where
-        go : (b : Bool) → p (kind y) ≡ b → (o : Bool) → opens here ≡ o → Meets Nest NestFront x here (up here) (y ∷ ms) (◌>>=◌ {A = Token × List Token} (if b then (if o then Ok (y, ms) else Err (limit (length (y ∷ ms)))) else Err (syntax (length (y ∷ ms)))) (λ x. run x.1))
+        go : (b : Bool) → p (kind y) ≡ b → (o : Bool) → opens here ≡ o → Meets Nest NestFront x here (up here) (y ∷ ms) (◌>>=◌ {A = Token × List Token} (if b then (if o then Ok (y, ms) else Err (limit (length (y ∷ ms)))) else Err (syntax (length (y ∷ ms)))) (λ x. nested x.0 (run x.1)))
         go false e o e' = nest_stopped here (y ∷ ms) e
         go true e false e' = nest_limited here up_open y ms e e'
         go true e true e' = nest_inside here y ms e e' up_open (run ms) (m e' ms)

@@ -99,5 +99,6 @@ module _ (L : Language) (inner_first : L.Inner → L.Kind → Bool) where
     run (many lim g) ts = many_at kind lim (run g) (first g) (if lim then width else length ts) ts
     run (nest p g) ts = do
       x ← opened_at kind open_ p ts
-      run g x.1
+      y ← run g x.1
+      Ok ((x.0, y.0), y.1)
     run (inner r) ts = deep r ts

@@ -27,7 +27,7 @@ pub data Form (L : Language) : Type 0 → Type 1 where
   -- a form any number of times; or, under true, at most as often as the limit on runs
   many : {A : Type 0} → Bool → Form L A → Form L (List A)
   -- a token of one of these kinds, which opens a level, and a form inside it
-  nest : {A : Type 0} → (L.Kind → Bool) → Form L A → Form L A
+  nest : {A : Type 0} → (L.Kind → Bool) → Form L A → Form L (L.Token × A)
   -- a rule one level deeper
   inner : (r : L.Inner) → Form L (L.Tree r)
 

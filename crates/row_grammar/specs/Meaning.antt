@@ -54,7 +54,7 @@ module _ (L : Language) (open_ : Bool) (deep : (r : L.Inner) → Reading L.Token
   SpellsIn (either g h) ts t us = SpellsIn g ts t us ⊎ SpellsIn h ts t us
   SpellsIn (made {A} f g) ts t us = (x : A) × SpellsIn g ts x us × (t ≡ f x)
   SpellsIn (many lim g) ts xs us = Many (SpellsIn g) (room_of lim width) ts xs us
-  SpellsIn (nest p g) ts t us = (open_ ≡ true) × ((x : Token) × (ms : List Token) × (ts ≡ x ∷ ms) × (p (kind x) ≡ true) × SpellsIn g ms t us)
+  SpellsIn (nest p g) ts t us = (open_ ≡ true) × ((ms : List Token) × (ts ≡ t.0 ∷ ms) × (p (kind t.0) ≡ true) × SpellsIn g ms t.1 us)
   SpellsIn (inner r) ts t us = deep r ts t us
 
   module _ (deep_front : L.Inner → Fronting L.Token) where

@@ -1,5 +1,5 @@
 -- A lexeme ends behind an ASCII byte, so the text may be cut there.
-use Rattle.std.proofs.Common.{◌≡◌, ℕ, zero, suc, ◌+◌, ◌-◌, ◌<◌, ◌≤◌, ◌==◌, ◌^◌, nat_lt, Bool, true, false, cond, if◌then◌else◌, ◌||◌, Option, Some, None, List, [], ◌∷◌, length, get_or, take, drop, IsUtf8, refl, sym, subst, arith}
+use Rattle.std.proofs.Common.{◌≡◌, ℕ, zero, suc, ◌+◌, ◌-◌, ◌<◌, ◌≤◌, ◌==◌, ◌^◌, nat_lt, Bool, true, false, cond, if◌then◌else◌, Option, Some, None, List, [], ◌∷◌, length, get_or, take, drop, IsUtf8, refl, sym, ap, subst, arith}
 use Rattle.std.specs.Char.{is_ascii_digit}
 use Rattle.std.specs.List.{prefix_len, take_while}
 use Rattle.std.specs.Str.{IsCharBoundary, all_ascii_digits, bytes_eq}
@@ -11,7 +11,7 @@ use Rattle.std.proofs.lemmas.List.Sums.{prefix_len-le-length, prefix_len_passes,
 use Rattle.std.proofs.lemmas.Str.{IsCharBoundary-start, IsCharBoundary-after_ascii}
 use Rattle.row_tokens.specs.declared.lexeme.Lexeme.{Lexeme}
 use Rattle.row_tokens.specs.declared.token.Kind.{Kind}
-use Rattle.row_tokens.specs.Words.{is_letter, goes_on, begins, bad, plain, number_of, first_number, word_lexeme, one_more, closing, quoted_lexeme, sign_lexeme, lexeme}
+use Rattle.row_tokens.specs.Words.{is_letter, is_space, goes_on, begins, bad, plain, number_of, first_number, word_lexeme, one_more, closing, quoted_lexeme, minus_lexeme, sign_lexeme, lexeme}
 
 -- so many bytes are there, and the last of them is ASCII
 abbrev pub EndsInAscii : List ℕ → ℕ → Type 0
@@ -23,6 +23,12 @@ boundary bs (suc n) u h =
     let back : suc n - 1 + 1 ≡ suc n = omega arith in
     subst (IsCharBoundary bs) back (IsCharBoundary-after_ascii bs (suc n - 1) u (omega arith) (h.1 (omega arith)))
 
+pub behind_ascii : (text : List ℕ) (b : ℕ) (bs : List ℕ) → text ≡ b ∷ bs → IsUtf8 text → b < 128 → IsCharBoundary text 1
+behind_ascii text b bs e u small =
+    let long : 0 < length text = omega (arith, ap length e) in
+    let byte : get_or text 0 0 ≡ b = ap (λ cs. get_or cs 0 0) e in
+    IsCharBoundary-after_ascii text 0 u long (omega arith)
+
 pub run_ends : (p : ℕ → Bool) → ((b : ℕ) → p b ≡ true → b < 128) → (bs : List ℕ) → EndsInAscii bs (prefix_len p bs)
 run_ends p ascii bs =
     (prefix_len-le-length p bs, λ some. ascii _ (prefix_len_passes p bs (prefix_len p bs - 1) 0 (omega arith)))
@@ -32,6 +38,9 @@ goes_on_ascii b h = grind (arith, nat_tests)
 
 pub digit_ascii : (b : ℕ) → is_ascii_digit b ≡ true → b < 128
 digit_ascii b h = grind (arith, nat_tests)
+
+pub space_ascii : (b : ℕ) → is_space b ≡ true → b < 128
+space_ascii b h = grind (arith, nat_tests)
 
 -- a run of digits is all digits
 pub digits_run : (bs : List ℕ) → all_ascii_digits (take_while is_ascii_digit bs) ≡ true
@@ -107,16 +116,20 @@ module _ (b : ℕ) (bs : List ℕ) where
   single n kind other small h =
       cond_both (b == n) (plain kind 1) other Ends (λ e. one_byte (omega (arith, eqb-true b n e))) (λ _. h)
 
+  pub minus_ends : b ≡ 45 → Ends (minus_lexeme bs)
+  minus_ends e = cond_both (begins (λ c. c == 45) bs) bad _ Ends (λ _. nothing_ends (b ∷ bs)) (λ _. one_byte (omega (arith, e)))
+
   pub sign_ends : Ends (sign_lexeme b bs)
   sign_ends =
       single 40 _ _ (omega arith) (single 41 _ _ (omega arith) (single 44 _ _ (omega arith) (single 46 _ _ (omega arith)
-      (single 59 _ _ (omega arith) (single 61 _ _ (omega arith)
-      (cond_both (b == 42 || b == 37 || b == 43) _ _ Ends (λ e. one_byte (grind (arith, nat_tests)))
-      (λ _. cond_both (b == 45) _ _ Ends (λ e. cond_both (begins (λ c. c == 45) bs) bad _ Ends (λ _. nothing_ends (b ∷ bs)) (λ _. one_byte (omega (arith, eqb-true b 45 e))))
-      (λ _. cond_both (b == 47) _ _ Ends (λ e. cond_both (begins (λ c. c == 42) bs) bad _ Ends (λ _. nothing_ends (b ∷ bs)) (λ _. one_byte (omega (arith, eqb-true b 47 e))))
-      (λ _. cond_both (b == 60) _ _ Ends (λ e. cond_both (begins (λ c. c == 61 || c == 62) bs) _ _ Ends (λ t. two_bytes _ bs (λ c h. grind (arith, nat_tests)) t) (λ _. one_byte (omega (arith, eqb-true b 60 e))))
+      (single 59 _ _ (omega arith) (single 42 _ _ (omega arith) (single 37 _ _ (omega arith) (single 43 _ _ (omega arith)
+      (single 61 _ _ (omega arith)
+      (cond_both (b == 47) _ _ Ends (λ e. cond_both (begins (λ c. c == 42) bs) bad _ Ends (λ _. nothing_ends (b ∷ bs)) (λ _. one_byte (omega (arith, eqb-true b 47 e))))
+      (λ _. cond_both (b == 60) _ _ Ends
+      (λ e. cond_both (begins (λ c. c == 61) bs) _ _ Ends (λ t. two_bytes _ bs (λ c h. grind (arith, nat_tests)) t)
+      (λ _. cond_both (begins (λ c. c == 62) bs) _ _ Ends (λ t. two_bytes _ bs (λ c h. grind (arith, nat_tests)) t) (λ _. one_byte (omega (arith, eqb-true b 60 e)))))
       (λ _. cond_both (b == 62) _ _ Ends (λ e. cond_both (begins (λ c. c == 61) bs) _ _ Ends (λ t. two_bytes _ bs (λ c h. grind (arith, nat_tests)) t) (λ _. one_byte (omega (arith, eqb-true b 62 e))))
-      (λ _. nothing_ends (b ∷ bs))))))))))))
+      (λ _. nothing_ends (b ∷ bs)))))))))))))
 
 pub lexeme_ends : (bs : List ℕ) → EndsInAscii bs (lexeme bs).size
 unfolding lexeme
@@ -124,4 +137,5 @@ lexeme_ends [] = nothing_ends []
 lexeme_ends (b ∷ bs) =
     cond_both (is_letter b) _ _ (Ends b bs) (λ _. word_ends (b ∷ bs))
     (λ _. cond_both (is_ascii_digit b) _ _ (Ends b bs) (λ _. first_number_ends (b ∷ bs))
-    (λ _. cond_both (b == 39) _ _ (Ends b bs) (λ _. quoted_ends b bs (closing bs) (closes bs)) (λ _. sign_ends b bs)))
+    (λ _. cond_both (b == 39) _ _ (Ends b bs) (λ _. quoted_ends b bs (closing bs) (closes bs))
+    (λ _. cond_both (b == 45) _ _ (Ends b bs) (λ e. minus_ends b bs (eqb-true b 45 e)) (λ _. sign_ends b bs))))

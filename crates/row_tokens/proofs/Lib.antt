@@ -5,4 +5,6 @@ pub mod Fronts
 pub mod Steps
 pub mod Doubled
 pub mod Places
-pub mod Quoted
+pub mod Shapes
+pub mod Lasts
+pub mod Signs

@@ -9,10 +9,10 @@ use Rattle.row_tokens.specs.declared.lexeme.Lexeme.{Lexeme}
 use Rattle.row_tokens.specs.Words.{Word, is_space, lexeme, word_at, words_from}
 use Rattle.row_tokens.specs.Slices.{StandsIn, EndsBefore, AreSlices, AreInOrder}
 
-pairs_nil : {X : Type 0} (R : X → X → Type 0) → AllPairs R []
+pub pairs_nil : {X : Type 0} (R : X → X → Type 0) → AllPairs R []
 pairs_nil R i j d lt within = absurd (omega arith)
 
-pairs_cons : {X : Type 0} (R : X → X → Type 0) (x : X) (xs : List X) → All (R x) xs → AllPairs R xs → AllPairs R (x ∷ xs)
+pub pairs_cons : {X : Type 0} (R : X → X → Type 0) (x : X) (xs : List X) → All (R x) xs → AllPairs R xs → AllPairs R (x ∷ xs)
 pairs_cons R x xs first rest zero zero d lt within = absurd (omega arith)
 pairs_cons R x xs first rest zero (suc j) d lt within = first j d (omega arith)
 pairs_cons R x xs first rest (suc i) zero d lt within = absurd (omega arith)

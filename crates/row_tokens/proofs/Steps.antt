@@ -1,15 +1,14 @@
 -- One step along a text: white space or a token.
-use Rattle.std.proofs.Common.{◌≡◌, ℕ, zero, suc, ◌+◌, ◌-◌, ◌<◌, true, false, List, [], ◌∷◌, ◌++◌, length, get_or, take, drop, slice_get, Some, None, Bor, IsUtf8, refl, sym, ap, ◌∙◌, subst, append_assoc, arith}
+use Rattle.std.proofs.Common.{◌≡◌, ℕ, zero, suc, ◌+◌, ◌-◌, true, false, List, [], ◌∷◌, ◌++◌, length, take, drop, slice_get, Some, None, Bor, IsUtf8, refl, sym, ap, ◌∙◌, subst, append_assoc, arith}
 use Rattle.std.specs.Str.{IsCharBoundary}
 use Rattle.std.proofs.lemmas.Bool.{eq-eqb, ne_eqb}
-use Rattle.std.proofs.lemmas.Bool.Decides.{nat_tests}
 use Rattle.std.proofs.lemmas.List.{append-nil, length-drop, map_push}
-use Rattle.std.proofs.lemmas.Str.{IsUtf8-drop, IsCharBoundary-after_ascii}
+use Rattle.std.proofs.lemmas.Str.{IsUtf8-drop}
 use Rattle.row_tokens.specs.declared.lexeme.Lexeme.{Lexeme}
 use Rattle.row_tokens.specs.declared.token.Token.{Token}
 use Rattle.row_tokens.specs.View.{word_of, words_of}
 use Rattle.row_tokens.specs.Words.{Word, is_space, lexeme, word_at, words_from, words}
-use Rattle.row_tokens.proofs.Ends.{boundary, lexeme_ends}
+use Rattle.row_tokens.proofs.Ends.{behind_ascii, boundary, lexeme_ends, space_ascii}
 
 -- to pass bytes over is to begin behind them
 pub words_past : (n at : ℕ) (bs : List ℕ) → words_from n at bs ≡ words_from 0 (at + n) (drop n bs)
@@ -45,9 +44,6 @@ unfolding words_from
 words_end at [] e = refl
 words_end at (b ∷ bs) e = cc
 
-space_ascii : (b : ℕ) → is_space b ≡ true → b < 128
-space_ascii b h = grind (arith, nat_tests)
-
 -- a text by its first byte
 first_and_rest : (bs : List ℕ) (b : ℕ) → Some b ≡ slice_get bs 0 → bs ≡ b ∷ drop 1 bs
 first_and_rest [] b e = cc
@@ -75,10 +71,7 @@ module _ {text : List ℕ} {ts : List Token} {at : ℕ} {rest : List ℕ} (scann
 
   pub space_boundary : is_space b ≡ true → IsCharBoundary rest 1
   space_boundary space =
-      let long : 0 < length rest = omega (arith, ap length split) in
-      let byte : get_or rest 0 0 ≡ b = ap (λ bs. get_or bs 0 0) split in
-      let small : b < 128 = space_ascii b space in
-      IsCharBoundary-after_ascii rest 0 scanned.utf8 long (omega arith)
+      behind_ascii rest b (drop 1 rest) split scanned.utf8 (space_ascii b space)
 
   pub after_space : is_space b ≡ true → Scanned text ts (at + 1) (drop 1 rest)
   after_space space = record {

@@ -3,8 +3,5 @@ use Rattle.std.specs.Prelude.{ℕ, List, map}
 use denote.Ref.{Bor}
 use Rattle.row_tokens.specs.declared.token.Kind.{Kind}
 
-abbrev pub spellings : List (Bor (List ℕ)) → List (List ℕ)
-spellings words = map (λ w. w.now) words
-
 abbrev pub entries : List (Bor (List ℕ) × Kind) → List (List ℕ × Kind)
 entries keywords = map (λ e. (e.0.now, e.1)) keywords

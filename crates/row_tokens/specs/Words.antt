@@ -1,5 +1,5 @@
 -- The tokens of a text, by recursion over its bytes.
-use Rattle.std.specs.Prelude.{ℕ, zero, suc, ◌+◌, ◌-◌, ◌^◌, ◌==◌, nat_lt, Bool, false, ◌&&◌, ◌||◌, if◌then◌else◌, List, [], ◌∷◌, length, map, drop, take, slice_index, Option, Some, None, codes}
+use Rattle.std.specs.Prelude.{ℕ, zero, suc, ◌+◌, ◌-◌, ◌^◌, ◌==◌, nat_lt, Bool, true, false, ◌&&◌, ◌||◌, if◌then◌else◌, List, [], ◌∷◌, length, map, drop, take, slice_index, Option, Some, None, Result, Ok, Err, codes}
 use Rattle.std.specs.Char.{is_ascii_alphabetic, is_ascii_digit, to_ascii_lowercase}
 use Rattle.std.specs.List.{prefix_len, take_while}
 use Rattle.std.specs.Str.{bytes_eq, str_eq_ignore_ascii_case}
@@ -43,37 +43,41 @@ begins p (b ∷ bs) = p b
 abbrev pub folded : List ℕ → List ℕ
 folded word = map to_ascii_lowercase word
 
--- the words that are more than names
-abbrev pub keywords : List (List ℕ × Kind)
-keywords =
-    (codes "select", k.Select) ∷ (codes "from", k.From) ∷ (codes "on", k.On) ∷ (codes "to", k.To) ∷ (codes "using", k.Using)
-    ∷ (codes "current_user", k.CurrentUser) ∷ (codes "true", k.True) ∷ (codes "false", k.False) ∷ (codes "null", k.Null)
-    ∷ (codes "create", k.Create) ∷ (codes "role", k.Role) ∷ (codes "table", k.Table) ∷ (codes "policy", k.Policy)
-    ∷ (codes "alter", k.Alter) ∷ (codes "owner", k.Owner) ∷ (codes "enable", k.Enable) ∷ (codes "row", k.Row)
-    ∷ (codes "level", k.Level) ∷ (codes "security", k.Security) ∷ (codes "grant", k.Grant)
-    ∷ (codes "bigint", k.Bigint) ∷ (codes "text", k.Text) ∷ []
-
--- the reserved words that no rule uses
-abbrev pub reserved : List (List ℕ)
+-- the words that are no names; of the last fifteen no rule has any
+abbrev pub reserved : List (List ℕ × Kind)
 reserved =
-    codes "all" ∷ codes "and" ∷ codes "asc" ∷ codes "as" ∷ codes "between" ∷ codes "by" ∷ codes "case" ∷ codes "cast" ∷ codes "cross"
-    ∷ codes "desc" ∷ codes "distinct" ∷ codes "else" ∷ codes "end" ∷ codes "except" ∷ codes "exists" ∷ codes "fetch" ∷ codes "for"
-    ∷ codes "full" ∷ codes "group" ∷ codes "having" ∷ codes "in" ∷ codes "inner" ∷ codes "intersect" ∷ codes "is" ∷ codes "join"
-    ∷ codes "left" ∷ codes "like" ∷ codes "limit" ∷ codes "natural" ∷ codes "not" ∷ codes "offset" ∷ codes "or" ∷ codes "order"
-    ∷ codes "outer" ∷ codes "right" ∷ codes "then" ∷ codes "union" ∷ codes "when" ∷ codes "where" ∷ codes "window" ∷ codes "with" ∷ []
+    (codes "all", k.All) ∷ (codes "and", k.And) ∷ (codes "asc", k.Asc) ∷ (codes "as", k.As) ∷ (codes "between", k.Between)
+    ∷ (codes "by", k.By) ∷ (codes "case", k.Case) ∷ (codes "cast", k.Cast) ∷ (codes "cross", k.Cross)
+    ∷ (codes "current_user", k.CurrentUser) ∷ (codes "desc", k.Desc) ∷ (codes "else", k.Else) ∷ (codes "end", k.End)
+    ∷ (codes "false", k.False) ∷ (codes "for", k.For) ∷ (codes "from", k.From) ∷ (codes "group", k.Group)
+    ∷ (codes "having", k.Having) ∷ (codes "in", k.In) ∷ (codes "inner", k.Inner) ∷ (codes "is", k.Is) ∷ (codes "join", k.Join)
+    ∷ (codes "limit", k.Limit) ∷ (codes "not", k.Not) ∷ (codes "null", k.Null) ∷ (codes "on", k.On) ∷ (codes "or", k.Or)
+    ∷ (codes "order", k.Order) ∷ (codes "select", k.Select) ∷ (codes "then", k.Then) ∷ (codes "to", k.To) ∷ (codes "true", k.True)
+    ∷ (codes "using", k.Using) ∷ (codes "when", k.When) ∷ (codes "where", k.Where)
+    ∷ (codes "distinct", k.Reserved) ∷ (codes "except", k.Reserved) ∷ (codes "exists", k.Reserved) ∷ (codes "fetch", k.Reserved)
+    ∷ (codes "full", k.Reserved) ∷ (codes "intersect", k.Reserved) ∷ (codes "left", k.Reserved) ∷ (codes "like", k.Reserved)
+    ∷ (codes "natural", k.Reserved) ∷ (codes "offset", k.Reserved) ∷ (codes "outer", k.Reserved) ∷ (codes "right", k.Reserved)
+    ∷ (codes "union", k.Reserved) ∷ (codes "window", k.Reserved) ∷ (codes "with", k.Reserved) ∷ []
 
--- words are compared without regard to case
-abbrev pub among : List ℕ → List (List ℕ) → Bool
-among w [] = false
-among w (x ∷ xs) = str_eq_ignore_ascii_case w x || among w xs
+-- the words that are names but where a rule expects them
+abbrev pub by_place : List (List ℕ × Kind)
+by_place =
+    (codes "create", k.Create) ∷ (codes "role", k.Role) ∷ (codes "superuser", k.Superuser) ∷ (codes "bypassrls", k.Bypassrls)
+    ∷ (codes "grant", k.Grant) ∷ (codes "revoke", k.Revoke) ∷ (codes "table", k.Table) ∷ (codes "alter", k.Alter)
+    ∷ (codes "owner", k.Owner) ∷ (codes "enable", k.Enable) ∷ (codes "disable", k.Disable) ∷ (codes "force", k.Force)
+    ∷ (codes "no", k.No) ∷ (codes "row", k.Row) ∷ (codes "level", k.Level) ∷ (codes "security", k.Security)
+    ∷ (codes "index", k.Index) ∷ (codes "policy", k.Policy) ∷ (codes "permissive", k.Permissive) ∷ (codes "restrictive", k.Restrictive)
+    ∷ (codes "drop", k.Drop) ∷ (codes "bigint", k.Bigint) ∷ (codes "text", k.Text) ∷ (codes "boolean", k.Boolean)
+    ∷ (codes "count", k.Count) ∷ (codes "sum", k.Sum) ∷ (codes "min", k.Min) ∷ (codes "max", k.Max) ∷ []
 
+-- the kind beside a word in a list; words are compared without regard to case
 abbrev pub keyword_in : List (List ℕ × Kind) → Kind → List ℕ → Kind
 keyword_in [] other w = other
 keyword_in (e ∷ es) other w = if str_eq_ignore_ascii_case w e.0 then e.1 else keyword_in es other w
 
 -- the kind of a word
 unfoldable pub kind_of_word : List ℕ → Kind
-kind_of_word w = keyword_in keywords (if among w reserved then k.Reserved else k.Name) w
+kind_of_word w = keyword_in reserved (keyword_in by_place k.Name w) w
 
 -- ---- one token
 
@@ -118,7 +122,29 @@ abbrev pub quoted_lexeme : List ℕ → Option ℕ → Lexeme
 quoted_lexeme bs None = bad
 quoted_lexeme bs (Some n) = if bytes_eq (take n bs) (92 ∷ 78 ∷ 39 ∷ []) then bad else plain k.Quoted (n + 1)
 
--- the signs, the longest first; -- and /* would begin a comment
+-- the kinds of numbers
+abbrev pub is_number : Kind → Bool
+is_number k.Number = true
+is_number k.Greatest = true
+is_number _ = false
+
+-- a number stands at the front of a text
+abbrev pub begins_number : List ℕ → Bool
+begins_number text = begins is_ascii_digit text && is_number (first_number text).kind
+
+-- a text without the white space at its front
+abbrev pub behind_space : List ℕ → List ℕ
+behind_space text = drop (prefix_len is_space text) text
+
+-- a minus is negative if the next token is a number, with white space between or not
+abbrev pub minus_kind : List ℕ → Kind
+minus_kind after = if begins_number (behind_space after) then k.Negative else k.Minus
+
+-- a minus, by what follows it; -- would begin a comment
+abbrev pub minus_lexeme : List ℕ → Lexeme
+minus_lexeme after = if begins (λ c. c == 45) after then bad else plain (minus_kind after) 1
+
+-- the other signs, the longest first; /* would begin a comment
 abbrev pub sign_lexeme : ℕ → List ℕ → Lexeme
 sign_lexeme b bs =
     if b == 40 then plain k.Open 1
@@ -126,12 +152,13 @@ sign_lexeme b bs =
     else if b == 44 then plain k.Comma 1
     else if b == 46 then plain k.Dot 1
     else if b == 59 then plain k.Semicolon 1
+    else if b == 42 then plain k.Star 1
+    else if b == 37 then plain k.Percent 1
+    else if b == 43 then plain k.Plus 1
     else if b == 61 then plain k.Equal 1
-    else if b == 42 || b == 37 || b == 43 then plain k.Sign 1
-    else if b == 45 then (if begins (λ c. c == 45) bs then bad else plain k.Minus 1)
-    else if b == 47 then (if begins (λ c. c == 42) bs then bad else plain k.Sign 1)
-    else if b == 60 then (if begins (λ c. c == 61 || c == 62) bs then plain k.Sign 2 else plain k.Sign 1)
-    else if b == 62 then (if begins (λ c. c == 61) bs then plain k.Sign 2 else plain k.Sign 1)
+    else if b == 47 then (if begins (λ c. c == 42) bs then bad else plain k.Slash 1)
+    else if b == 60 then (if begins (λ c. c == 61) bs then plain k.LessEqual 2 else if begins (λ c. c == 62) bs then plain k.NotEqual 2 else plain k.Less 1)
+    else if b == 62 then (if begins (λ c. c == 61) bs then plain k.GreaterEqual 2 else plain k.Greater 1)
     else bad
 
 -- the token at the front of a text whose first byte is no white space
@@ -141,6 +168,7 @@ lexeme (b ∷ bs) =
     if is_letter b then word_lexeme (take_while goes_on (b ∷ bs))
     else if is_ascii_digit b then first_number (b ∷ bs)
     else if b == 39 then quoted_lexeme bs (closing bs)
+    else if b == 45 then minus_lexeme bs
     else sign_lexeme b bs
 
 -- ---- the tokens
@@ -159,6 +187,26 @@ words_from zero at (b ∷ bs) =
 
 abbrev pub words : List ℕ → List Word
 words text = words_from 0 0 text
+
+-- ---- the tokens, or where the first bad one begins
+
+-- bytes that are no token
+abbrev pub is_bad : Kind → Bool
+is_bad k.Bad = true
+is_bad _ = false
+
+-- where the first bad token begins
+abbrev pub first_bad : List Word → Option ℕ
+first_bad [] = None
+first_bad (w ∷ ws) = if is_bad w.kind then Some w.at else first_bad ws
+
+abbrev pub good_or_bad : List Word → Option ℕ → Result (List Word) ℕ
+good_or_bad ws None = Ok ws
+good_or_bad ws (Some at) = Err at
+
+-- all tokens of a text that has no bad one, else the byte at which the first bad one begins
+abbrev pub tokens_at : List ℕ → Result (List Word) ℕ
+tokens_at text = good_or_bad (words text) (first_bad (words text))
 
 -- ---- what tokens stand for
 

@@ -4,7 +4,7 @@ ghost use Rattle.std.specs.Prelude.{◌≡◌, ◌==◌, ◌<◌, ◌≤◌, len
 ghost use Rattle.std.specs.Char.{is_ascii_digit};
 ghost use Rattle.std.specs.List.{prefix_len};
 ghost use Rattle.std.specs.Str.{all_ascii_digits};
-ghost use Rattle.row_tokens.specs.Words.{bad, begins, closing, first_number, goes_on, is_letter, is_space, lexeme, number_lexeme, number_of, plain, quoted_lexeme, sign_lexeme, word_lexeme};
+ghost use Rattle.row_tokens.specs.Words.{bad, begins, begins_number, closing, first_number, goes_on, is_letter, is_space, lexeme, minus_kind, minus_lexeme, number_lexeme, number_of, plain, quoted_lexeme, sign_lexeme, word_lexeme};
 
 use crate::keyword::kind_of_word;
 use crate::token::Kind;
@@ -193,7 +193,59 @@ fn begins_with(text: &[u8], byte: u8) -> bool
     }
 }
 
-// A sign, by its first byte and what follows that.
+// How many bytes at the front are white space.
+fn space_size(text: &[u8]) -> usize
+    ensures { result ≡ prefix_len is_space text.now }
+{
+    for (i, byte) in text.iter().enumerate() {
+        if !is_space(*byte) {
+            return i;
+        }
+    }
+    text.len()
+}
+
+// Whether a digit stands first.
+fn begins_digits(text: &[u8]) -> bool
+    ensures { result ≡ begins is_ascii_digit text.now }
+{
+    match text {
+        [byte, ..] => byte.is_ascii_digit(),
+        [] => false,
+    }
+}
+
+// Whether a number stands first.
+fn begins_number(text: &str) -> bool
+    ensures { result ≡ begins_number text.now }
+{
+    begins_digits(text.as_bytes())
+        && matches!(first_number(text).kind, Kind::Number | Kind::Greatest)
+}
+
+// The kind of a minus, by what follows it.
+fn minus_kind(after: &str) -> Kind
+    ensures { result ≡ minus_kind after.now }
+{
+    let (_, behind) = after.split_at(space_size(after.as_bytes()));
+    if begins_number(behind) {
+        Kind::Negative
+    } else {
+        Kind::Minus
+    }
+}
+
+// A minus, by what follows it.
+fn minus_lexeme(after: &str) -> Lexeme
+    ensures { result ≡ minus_lexeme after.now }
+{
+    if begins_with(after.as_bytes(), b'-') {
+        return BAD;
+    }
+    plain(minus_kind(after), 1)
+}
+
+// A sign that is no minus, by its first byte and what follows that.
 fn sign_lexeme(byte: u8, after: &[u8]) -> Lexeme
     ensures { result ≡ sign_lexeme byte after.now }
 {
@@ -203,15 +255,17 @@ fn sign_lexeme(byte: u8, after: &[u8]) -> Lexeme
         b',' => plain(Kind::Comma, 1),
         b'.' => plain(Kind::Dot, 1),
         b';' => plain(Kind::Semicolon, 1),
+        b'*' => plain(Kind::Star, 1),
+        b'%' => plain(Kind::Percent, 1),
+        b'+' => plain(Kind::Plus, 1),
         b'=' => plain(Kind::Equal, 1),
-        b'*' | b'%' | b'+' => plain(Kind::Sign, 1),
-        b'-' if begins_with(after, b'-') => BAD,
-        b'-' => plain(Kind::Minus, 1),
         b'/' if begins_with(after, b'*') => BAD,
-        b'/' => plain(Kind::Sign, 1),
-        b'<' if begins_with(after, b'=') || begins_with(after, b'>') => plain(Kind::Sign, 2),
-        b'>' if begins_with(after, b'=') => plain(Kind::Sign, 2),
-        b'<' | b'>' => plain(Kind::Sign, 1),
+        b'/' => plain(Kind::Slash, 1),
+        b'<' if begins_with(after, b'=') => plain(Kind::LessEqual, 2),
+        b'<' if begins_with(after, b'>') => plain(Kind::NotEqual, 2),
+        b'<' => plain(Kind::Less, 1),
+        b'>' if begins_with(after, b'=') => plain(Kind::GreaterEqual, 2),
+        b'>' => plain(Kind::Greater, 1),
         _ => BAD,
     }
 }
@@ -230,6 +284,8 @@ pub fn first_lexeme(text: &str) -> Lexeme
         first_number(text)
     } else if *byte == b'\'' {
         quoted_lexeme(after)
+    } else if *byte == b'-' {
+        minus_lexeme(&text[1..])
     } else {
         sign_lexeme(*byte, after)
     }

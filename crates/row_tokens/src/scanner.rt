@@ -1,15 +1,20 @@
 //! The tokens of a text.
 
-ghost use Rattle.std.specs.Prelude.{◌≡◌, ◌<◌, ◌^◌, length, IfOk};
+ghost use Rattle.std.specs.Prelude.{◌≡◌, ◌<◌, ◌≤◌, ◌^◌, length, IfErr, IfOk};
+ghost use Rattle.row_tokens.specs.Faults.{Refuses};
 ghost use Rattle.row_tokens.specs.View.{words_of};
-ghost use Rattle.row_tokens.specs.Words.{words};
+ghost use Rattle.row_tokens.specs.Words.{is_bad, tokens_at, words};
 
+use crate::fault::TokenError;
 use crate::lexeme::{first_lexeme, is_space};
-use crate::token::Token;
+use crate::token::{Kind, Token};
 use memory::Heap;
 use std::alloc::AllocError;
 
-/// The tokens of a text, in order; a bad token is the last.
+// Beyond it offsets would not fit.
+const LONGEST: usize = u32::MAX as usize;
+
+/// The tokens of a text, in order; a bad token is the last. The one error is that memory is refused.
 pub fn scan<'a, A: Heap>(alloc: A, text: &'a str) -> Result<Vec<Token<'a>, A>, AllocError>
     requires { length text.now < 2 ^ 32 }
     ensures { IfOk result (λ v. words_of v.items ≡ words text.now) }
@@ -38,4 +43,27 @@ pub fn scan<'a, A: Heap>(alloc: A, text: &'a str) -> Result<Vec<Token<'a>, A>, A
         offset += lexeme.size as u32;
     }
     Ok(tokens)
+}
+
+// Whether a kind is that of bytes that are no token.
+fn is_bad(kind: Kind) -> bool
+    ensures { result ≡ is_bad kind }
+{
+    matches!(kind, Kind::Bad)
+}
+
+/// The tokens of a text, in order, if none is bad; else the byte at which the first bad one begins.
+pub fn tokens<'a, A: Heap>(alloc: A, text: &'a str) -> Result<Vec<Token<'a>, A>, TokenError>
+    ensures good { IfOk result (λ v. tokens_at text.now ≡ Ok (words_of v.items)) }
+    ensures refused { IfErr result (λ e. Refuses text.now e) }
+    ensures too_long { 2 ^ 32 ≤ length text.now → result ≡ Err TokenError.TooLong }
+{
+    if text.len() > LONGEST {
+        return Err(TokenError::TooLong);
+    }
+    let tokens = scan(alloc, text)?;
+    match tokens.as_slice().last() {
+        Some(token) if is_bad(token.kind) => Err(TokenError::Bad(token.offset)),
+        _ => Ok(tokens),
+    }
 }

@@ -1,32 +1,76 @@
 //! Tokens and their kinds.
 
-/// What a token is to the grammar. Words are compared folded to lower case.
+/// What a token is to the grammar (PostgreSQL: Lexical Structure). Words are compared folded to lower case.
 #[derive(Clone, Copy, Debug, PartialEq, Eq)]
 pub enum Kind {
-    Select,
-    From,
-    On,
-    To,
-    Using,
+    /// From here to `Where` reserved words, which are no names, each with a rule that uses it.
+    All,
+    And,
+    Asc,
+    As,
+    Between,
+    By,
+    Case,
+    Cast,
+    Cross,
+    /// `current_user`.
     CurrentUser,
-    True,
+    Desc,
+    Else,
+    End,
     False,
+    For,
+    From,
+    Group,
+    Having,
+    In,
+    Inner,
+    Is,
+    Join,
+    Limit,
+    Not,
     Null,
+    On,
+    Or,
+    Order,
+    Select,
+    Then,
+    To,
+    True,
+    Using,
+    When,
+    Where,
     /// A reserved word that no rule uses.
     Reserved,
+    /// From here to `Max` words that are names but where a rule expects them.
     Create,
     Role,
+    Superuser,
+    Bypassrls,
+    Grant,
+    Revoke,
     Table,
-    Policy,
     Alter,
     Owner,
     Enable,
+    Disable,
+    Force,
+    No,
     Row,
     Level,
     Security,
-    Grant,
+    Index,
+    Policy,
+    Permissive,
+    Restrictive,
+    Drop,
     Bigint,
     Text,
+    Boolean,
+    Count,
+    Sum,
+    Min,
+    Max,
     /// Any other word.
     Name,
     /// Digits of a number up to 9223372036854775807.
@@ -38,12 +82,27 @@ pub enum Kind {
     Comma,
     Dot,
     Semicolon,
+    /// `(`.
     Open,
+    /// `)`.
     Close,
-    Equal,
+    Star,
+    Slash,
+    Percent,
+    Plus,
+    /// Any `-` that is not `Negative`.
     Minus,
-    /// A sign that no rule uses.
-    Sign,
+    /// A `-` whose next token is a number, with white space between or not.
+    Negative,
+    Equal,
+    /// `<>`.
+    NotEqual,
+    Less,
+    /// `<=`.
+    LessEqual,
+    Greater,
+    /// `>=`.
+    GreaterEqual,
     /// Bytes that are no token; nothing after them is read.
     Bad,
 }

@@ -7,7 +7,7 @@ use memory::Heap;
 use std::alloc::AllocError;
 use text::Text;
 
-/// A word in lower case.
+/// A word in lower case, as names and key words are compared (PostgreSQL: Identifiers and Key Words).
 pub fn folded<A: Heap>(alloc: A, word: &str) -> Result<Text<A>, AllocError>
     ensures { IfOk result (λ t. t ≡ folded word.now) }
 {
@@ -29,7 +29,7 @@ fn between_quotes(literal: &str) -> &str
     between
 }
 
-/// The value of a text in quotes.
+/// The value of a text in quotes, each doubled quote once (PostgreSQL: String Constants).
 pub fn unquoted<A: Heap>(alloc: A, literal: &str) -> Result<Text<A>, AllocError>
     ensures { IfOk result (λ t. t ≡ quoted_value literal.now) }
 {

@@ -1,6 +1,7 @@
 //! The store of a schema text and its tables.
 
 use crate::faults::Fault;
+use csv_records::Records;
 use engine::{Store, StoreError};
 use std::alloc::{AllocError, Global};
 use std::fs::File;
@@ -90,7 +91,8 @@ fn load_table<R: Files>(
         Ok(file) => file,
         Err(error) => return Err(unreadable(alloc, path.as_str(), &error)),
     };
-    match store.load(name, file) {
+    let mut records = Records::new(alloc, file);
+    match store.load(name, &mut records) {
         Ok(()) => Ok(()),
         // There is no such table, so there is nothing to read.
         Err(StoreError::UndefinedTable) => Ok(()),

@@ -1,42 +1,108 @@
 -- One token decides in each rule.
 use Rattle.std.proofs.Common.{◌≡◌, Bool, true, false, List, [], ◌∷◌, refl}
 use denote.Enum.Bare.{sameb, same_true}
-use Rattle.row_grammar.proofs.Check.{any_of, all_at, HasEvery, good, IsDecided}
+use Rattle.row_grammar.specs.Decoder.{nullable, first}
+use Rattle.row_grammar.proofs.Check.{any_of, all_at, within, HasEvery, ext, good, IsDecided}
 use Rattle.row_tokens.specs.contracts.token.Kind.{the_type}
 use Rattle.row_tokens.specs.declared.token.Kind.{Kind}
 use Rattle.row_tokens.specs.declared.token.Kind.TheVariants as k
-use Rattle.syntax.specs.Rules.{Nested, language, grammar, is, nested_first, column, next_column, columns, query, name, next_name, names, type_name, column_def, next_column_def, column_defs, new_role, new_table, word_literal, literal, operand, condition, policy_roles, new_policy, create, owner, security, alter, grant, statement, ended_statement, schema}
+use Rattle.syntax.specs.Language.{Nested, an_expression, a_negation, a_unary, language, is, of}
+use Rattle.syntax.specs.Expressions.{grammar, rule, nested_first, name, next_name, names, dot_name, column, next_column, columns, type_name, word_literal, unsigned_literal, literal, value, next_value, value_list, parenthesized, cast, arm, arms, otherwise, case, counted_rows, count_tail, count, aggregate_tail, aggregate, constant, plain_column, primary, unary, factor, product, addend, sum, between, in_list, range, negated_range, range_tail, ranged_sum, compared_with, comparison, null_word, is_null, null_test, negation, and_operand, conjunction, or_operand, expression}
+use Rattle.syntax.specs.Queries.{condition, item_alias, item, next_item, item_list, selection, entry_alias, entry, plain_join, join, join_list, chain, next_chain, from, filter, groups, having, target, direction, key, next_key, keys, order, limit, clauses, query}
+use Rattle.syntax.specs.Statements.{superuser, bypassrls, new_role, column_type, required, column_def, next_column_def, column_defs, new_table, new_index, strength, command, policy_roles, using, new_policy, create, owner, security_setting, security, alter, grant_columns, granted, grant, revoke, drop, statement, ended_statement, schema}
 
 abbrev pub kinds : List Kind
 kinds =
-    k.Select ∷ k.From ∷ k.On ∷ k.To ∷ k.Using ∷ k.CurrentUser ∷ k.True ∷ k.False ∷ k.Null ∷ k.Reserved
-    ∷ k.Create ∷ k.Role ∷ k.Table ∷ k.Policy ∷ k.Alter ∷ k.Owner ∷ k.Enable ∷ k.Row ∷ k.Level ∷ k.Security ∷ k.Grant
-    ∷ k.Bigint ∷ k.Text ∷ k.Name ∷ k.Number ∷ k.Greatest ∷ k.Quoted ∷ k.Comma ∷ k.Dot ∷ k.Semicolon ∷ k.Open ∷ k.Close
-    ∷ k.Equal ∷ k.Minus ∷ k.Sign ∷ k.Bad ∷ []
+    k.All ∷ k.And ∷ k.Asc ∷ k.As ∷ k.Between ∷ k.By ∷ k.Case ∷ k.Cast ∷ k.Cross ∷ k.CurrentUser ∷ k.Desc ∷ k.Else ∷ k.End ∷ k.False ∷ k.For
+    ∷ k.From ∷ k.Group ∷ k.Having ∷ k.In ∷ k.Inner ∷ k.Is ∷ k.Join ∷ k.Limit ∷ k.Not ∷ k.Null ∷ k.On ∷ k.Or ∷ k.Order ∷ k.Select ∷ k.Then
+    ∷ k.To ∷ k.True ∷ k.Using ∷ k.When ∷ k.Where ∷ k.Reserved ∷ k.Create ∷ k.Role ∷ k.Superuser ∷ k.Bypassrls ∷ k.Grant ∷ k.Revoke ∷ k.Table
+    ∷ k.Alter ∷ k.Owner ∷ k.Enable ∷ k.Disable ∷ k.Force ∷ k.No ∷ k.Row ∷ k.Level ∷ k.Security ∷ k.Index ∷ k.Policy ∷ k.Permissive
+    ∷ k.Restrictive ∷ k.Drop ∷ k.Bigint ∷ k.Text ∷ k.Boolean ∷ k.Count ∷ k.Sum ∷ k.Min ∷ k.Max ∷ k.Name ∷ k.Number ∷ k.Greatest ∷ k.Quoted
+    ∷ k.Comma ∷ k.Dot ∷ k.Semicolon ∷ k.Open ∷ k.Close ∷ k.Star ∷ k.Slash ∷ k.Percent ∷ k.Plus ∷ k.Minus ∷ k.Negative ∷ k.Equal ∷ k.NotEqual
+    ∷ k.Less ∷ k.LessEqual ∷ k.Greater ∷ k.GreaterEqual ∷ k.Bad ∷ []
 
 listed : (k : Kind) → any_of (sameb the_type k) kinds ≡ true
-listed k.Select = refl
+listed k.All = refl
 listed _ = refl
 
 every_kind : HasEvery kinds
 every_kind p e k = all_at (sameb the_type) (same_true the_type tt) p kinds e k (listed k)
 
+-- the kinds by which a unary expression goes on
+abbrev pub extends_unary : Kind → Bool
+extends_unary k.Dot = true
+extends_unary k.Open = true
+extends_unary _ = false
+
+-- and a negation
+abbrev pub extends_negation : Kind → Bool
+extends_negation k.Is = true
+extends_negation k.Not = true
+extends_negation k.Between = true
+extends_negation k.In = true
+extends_negation k.Equal = true
+extends_negation k.NotEqual = true
+extends_negation k.Less = true
+extends_negation k.LessEqual = true
+extends_negation k.Greater = true
+extends_negation k.GreaterEqual = true
+extends_negation k.Plus = true
+extends_negation k.Minus = true
+extends_negation k.Negative = true
+extends_negation k.Star = true
+extends_negation k.Slash = true
+extends_negation k.Percent = true
+extends_negation kind = extends_unary kind
+
+-- and an expression
+abbrev pub extends_expression : Kind → Bool
+extends_expression k.And = true
+extends_expression k.Or = true
+extends_expression kind = extends_negation kind
+
 abbrev pub nested_ext : Nested → Kind → Bool
-nested_ext r k = false
+nested_ext an_expression kind = extends_expression kind
+nested_ext a_negation kind = extends_negation kind
+nested_ext a_unary kind = extends_unary kind
 
 pub decided : IsDecided grammar kinds nested_ext
+unfolding is of name next_name names dot_name column next_column columns type_name word_literal unsigned_literal literal value next_value value_list parenthesized cast arm arms otherwise case counted_rows count_tail count aggregate_tail aggregate constant plain_column primary unary factor product addend sum between in_list range negated_range range_tail ranged_sum compared_with comparison null_word is_null null_test negation and_operand conjunction or_operand expression
 decided = record {
   every = every_kind;
-  first_fits = λ r. absurd r;
-  never_null = λ r. absurd r;
-  ext_fits = λ r. absurd r;
-  rules_good = λ r. absurd r;
+  first_fits = first_fits;
+  never_null = never_null;
+  ext_fits = ext_fits;
+  rules_good = rules_good;
 }
+  where
+    first_fits : (r : Nested) → within kinds (first language nested_first (rule r)) (nested_first r) ≡ true
+    first_fits an_expression = refl
+    first_fits a_negation = refl
+    first_fits a_unary = refl
+
+    never_null : (r : Nested) → nullable (rule r) ≡ false
+    never_null an_expression = refl
+    never_null a_negation = refl
+    never_null a_unary = refl
+
+    ext_fits : (r : Nested) → within kinds (ext language nested_first nested_ext (rule r)) (nested_ext r) ≡ true
+    ext_fits an_expression = refl
+    ext_fits a_negation = refl
+    ext_fits a_unary = refl
+
+    rules_good : (r : Nested) → good language nested_first nested_ext kinds false (rule r) ≡ true
+    rules_good an_expression = refl
+    rules_good a_negation = refl
+    rules_good a_unary = refl
 
 pub query_good : good language nested_first nested_ext kinds false query ≡ true
-unfolding query columns next_column column is
+unfolding is of condition item_alias item next_item item_list selection entry_alias entry plain_join join join_list chain next_chain from filter groups having target direction key next_key keys order limit clauses query name next_name names dot_name column next_column columns type_name word_literal unsigned_literal literal value next_value value_list parenthesized cast arm arms otherwise case counted_rows count_tail count aggregate_tail aggregate constant plain_column primary unary factor product addend sum between in_list range negated_range range_tail ranged_sum compared_with comparison null_word is_null null_test negation and_operand conjunction or_operand expression
 query_good = refl
 
 pub schema_good : good language nested_first nested_ext kinds false schema ≡ true
-unfolding schema ended_statement statement grant alter security owner create new_policy policy_roles condition operand literal word_literal new_table new_role column_defs next_column_def column_def type_name names next_name name column is
+unfolding is of superuser bypassrls new_role column_type required column_def next_column_def column_defs new_table new_index strength command policy_roles using new_policy create owner security_setting security alter grant_columns granted grant revoke drop statement ended_statement schema name next_name names dot_name column next_column columns type_name word_literal unsigned_literal literal value next_value value_list parenthesized cast arm arms otherwise case counted_rows count_tail count aggregate_tail aggregate constant plain_column primary unary factor product addend sum between in_list range negated_range range_tail ranged_sum compared_with comparison null_word is_null null_test negation and_operand conjunction or_operand expression
 schema_good = refl
+
+pub statement_good : good language nested_first nested_ext kinds false statement ≡ true
+unfolding is of superuser bypassrls new_role column_type required column_def next_column_def column_defs new_table new_index strength command policy_roles using new_policy create owner security_setting security alter grant_columns granted grant revoke drop statement ended_statement schema name next_name names dot_name column next_column columns type_name word_literal unsigned_literal literal value next_value value_list parenthesized cast arm arms otherwise case counted_rows count_tail count aggregate_tail aggregate constant plain_column primary unary factor product addend sum between in_list range negated_range range_tail ranged_sum compared_with comparison null_word is_null null_test negation and_operand conjunction or_operand expression
+statement_good = refl

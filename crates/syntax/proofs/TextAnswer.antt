@@ -7,12 +7,16 @@ use Rattle.row_grammar.specs.Limits.{reads, whole_at}
 use Rattle.row_grammar.proofs.Answer.{found, only, refused, one_tree}
 use Rattle.row_grammar.proofs.Check.{good}
 use Rattle.row_tokens.specs.Words.{Word, words}
-use Rattle.syntax.specs.Tree.{Question, Act}
-use Rattle.syntax.specs.Rules.{language, nested_first, Rule, grammar, query, schema, run_limit, depth_limit}
-use Rattle.syntax.specs.Parsing.{Spells, StopsAt, PassesLimit, query_bytes, schema_bytes, most_columns, RefusesQuery, RefusesSchema, TextFault, wrong_at, over_limit, of_text, read_within, of_size, parsed_query, parsed_schema, text_fault, IsTextFault, Gives, IsDetermined, IsSmall, Fits}
+use Rattle.syntax.specs.Tree.{Question}
+use Rattle.syntax.specs.Language.{language, Rule}
+use Rattle.syntax.specs.Expressions.{nested_first, grammar, run_limit, depth_limit}
+use Rattle.syntax.specs.Queries.{query}
+use Rattle.syntax.specs.Statements.{schema, statement}
+use Rattle.syntax.specs.Limits.{is_small}
+use Rattle.syntax.specs.Parsing.{Spells, StopsAt, PassesLimit, query_bytes, schema_bytes, statement_bytes, RefusesQuery, Refuses, TextFault, wrong_at, over_limit, of_text, read_within, of_size, parsed_query, parsed_schema, parsed_statement, text_fault, IsTextFault, Gives, IsDetermined, IsSmall, Fits}
 use Rattle.syntax.specs.declared.fault.ParseError.{ParseError}
 use Rattle.syntax.specs.declared.fault.ParseError.TheVariants as errors
-use Rattle.syntax.proofs.Decides.{kinds, nested_ext, decided, query_good, schema_good}
+use Rattle.syntax.proofs.Decides.{kinds, nested_ext, decided, query_good, schema_good, statement_good}
 
 -- ---- a text that is not too long
 
@@ -64,12 +68,42 @@ module _ {A : Type 0} (f : Rule A) (decides : good language nested_first nested_
   pub within_is : (ts : List Word) (t : A) → ts ≡ words text → length text ≤ most → whole_at grammar run_limit depth_limit f ts ≡ Ok t → read_within most f text ≡ Ok t
   within_is ts t s l e = let w : whole ≡ Ok t = rw (← s) e in rw (le-ltb most (length text) l, w) refl
 
--- tokens are left over
-pub left_over : {A : Type 0} (f : Rule A) (ts : List Word) (t : A) (us : List Word) (n : ℕ) → reads grammar run_limit depth_limit f ts ≡ Ok (t, us) → length us ≡ n → 0 < n
-    → whole_at grammar run_limit depth_limit f ts ≡ Err (syntax n)
-unfolding whole_at
-left_over f ts t [] n e q l = absurd (omega arith)
-left_over f ts t (u ∷ us) n e q l = rw (e, ← q) refl
+-- ---- tokens, read within limits that are these
+
+module _ {A : Type 0} (w d : ℕ) (wide : w ≡ run_limit) (deep : d ≡ depth_limit) (f : Rule A) (ts : List Word) (t : A) where
+  -- no token is left over
+  pub none_left : (us : List Word) (n : ℕ) → reads grammar w d f ts ≡ Ok (t, us) → length us ≡ n → n ≡ 0 → whole_at grammar run_limit depth_limit f ts ≡ Ok t
+  unfolding whole_at
+  none_left [] n e q z = rw (← wide, ← deep, e) refl
+  none_left (u ∷ us) n e q z = absurd (omega arith)
+
+  -- tokens are left over
+  pub left_over : (us : List Word) (n : ℕ) → reads grammar w d f ts ≡ Ok (t, us) → length us ≡ n → 0 < n → whole_at grammar run_limit depth_limit f ts ≡ Err (syntax n)
+  unfolding whole_at
+  left_over [] n e q l = absurd (omega arith)
+  left_over (u ∷ us) n e q l = rw (← wide, ← deep, e, ← q) refl
+
+-- ---- a text that has no further limits
+
+module _ {A : Type 0} (f : Rule A) (decides : good language nested_first nested_ext kinds false f ≡ true) (most : ℕ) where
+  limits : (text : List ℕ) → (most < length text) ⊎ PassesLimit f text → (most < length text) ⊎ (PassesLimit f text ⊎ ((t : A) × Spells f text t × (Fits t → ⊥)))
+  limits text (inl l) = inl l
+  limits text (inr p) = inr (inl p)
+
+  pub within_determined : IsDetermined f most Fits (read_within most f)
+  within_determined = record {
+    found = λ text t e. let w = within_found f decides most text t e in (w.0, w.1, tt);
+    only = λ text t h l s. within_only f decides most text t h l;
+    stops = λ text at e. (within_stops f decides most text at e).0;
+    limits = λ text e. limits text (within_limit f decides most text e);
+    one_tree = λ text t t' h h'. within_one f decides most text t t' h h';
+  }
+
+  pub within_refused : {X : Type 0} (text : List ℕ) (view : X → A) (r : Result X ParseError) → Gives view r (read_within most f text) → IfErr r (λ e. Refuses most f text e)
+  within_refused text view (Ok x) g = tt
+  within_refused text view (Err errors.Memory) g = tt
+  within_refused text view (Err (errors.Syntax at)) g = within_stops f decides most text at g
+  within_refused text view (Err errors.Limit) g = within_limit f decides most text g
 
 -- ---- a query
 
@@ -77,44 +111,47 @@ module _ (text : List ℕ) where
   abbrev read : Result Question TextFault
   read = read_within query_bytes query text
 
+  abbrev sized : Question → Bool → Result Question TextFault
+  sized x b = if b then Ok x else Err over_limit
+
   pub query_found : (q : Question) → parsed_query text ≡ Ok q → Spells query text q × (length text ≤ query_bytes) × IsSmall q
   unfolding parsed_query
   query_found q e = of_size_ok read refl e
     where
-      small : (x : Question) (b : Bool) → nat_lt most_columns (length x.columns) ≡ b → (let r : Result Question TextFault = if b then Err over_limit else Ok x in r) ≡ Ok q → (x ≡ q) × IsSmall x
-      small x true b e = cc
-      small x false b e = ((cc), ltb-false most_columns (length x.columns) b)
+      small : (x : Question) (b : Bool) → is_small x ≡ b → sized x b ≡ Ok q → (x ≡ q) × IsSmall x
+      small x true b e = ((cc), b)
+      small x false b e = cc
 
       of_size_ok : (r : Result Question TextFault) → read ≡ r → of_size r ≡ Ok q → Spells query text q × (length text ≤ query_bytes) × IsSmall q
       of_size_ok (Err e) r h = cc
       of_size_ok (Ok x) r h =
-          let s = small x (nat_lt most_columns (length x.columns)) refl h in
+          let s = small x (is_small x) refl h in
           let w = within_found query query_good query_bytes text x r in
           rw (← s.0) (w.0, w.1, s.1)
 
   pub query_only : (q : Question) → Spells query text q → length text ≤ query_bytes → IsSmall q → parsed_query text ≡ Ok q
   unfolding parsed_query
-  query_only q h l s = rw (within_only query query_good query_bytes text q h l, le-ltb most_columns (length q.columns) s) refl
+  query_only q h l s = rw (within_only query query_good query_bytes text q h l, s) refl
 
   pub query_stops : (at : ℕ) → parsed_query text ≡ Err (wrong_at at) → StopsAt query text at × (length text ≤ query_bytes)
   unfolding parsed_query
   query_stops at e = of_size_err read refl e
     where
-      small : (x : Question) (b : Bool) → (let r : Result Question TextFault = if b then Err over_limit else Ok x in r) ≡ Err (wrong_at at) → ⊥
+      small : (x : Question) (b : Bool) → sized x b ≡ Err (wrong_at at) → ⊥
       small x true e = cc
       small x false e = cc
 
       of_size_err : (r : Result Question TextFault) → read ≡ r → of_size r ≡ Err (wrong_at at) → StopsAt query text at × (length text ≤ query_bytes)
       of_size_err (Err e) r h = within_stops query query_good query_bytes text at (r ∙ h)
-      of_size_err (Ok x) r h = absurd (small x (nat_lt most_columns (length x.columns)) h)
+      of_size_err (Ok x) r h = absurd (small x (is_small x) h)
 
   pub query_limit : parsed_query text ≡ Err over_limit → RefusesQuery text errors.Limit
   unfolding parsed_query
   query_limit e = of_size_limit read refl e
     where
-      small : (x : Question) (b : Bool) → nat_lt most_columns (length x.columns) ≡ b → (let r : Result Question TextFault = if b then Err over_limit else Ok x in r) ≡ Err over_limit → most_columns < length x.columns
-      small x true b e = ltb-true most_columns (length x.columns) b
-      small x false b e = cc
+      small : (x : Question) (b : Bool) → is_small x ≡ b → sized x b ≡ Err over_limit → is_small x ≡ false
+      small x true b e = cc
+      small x false b e = b
 
       wider : (query_bytes < length text) ⊎ PassesLimit query text → RefusesQuery text errors.Limit
       wider (inl l) = inl l
@@ -122,16 +159,18 @@ module _ (text : List ℕ) where
 
       of_size_limit : (r : Result Question TextFault) → read ≡ r → of_size r ≡ Err over_limit → RefusesQuery text errors.Limit
       of_size_limit (Err e) r h = wider (within_limit query query_good query_bytes text (r ∙ h))
-      of_size_limit (Ok x) r h = inr (inr (x, (within_found query query_good query_bytes text x r).0, small x (nat_lt most_columns (length x.columns)) refl h))
+      of_size_limit (Ok x) r h = inr (inr (x, (within_found query query_good query_bytes text x r).0, small x (is_small x) refl h))
+
+  pub query_refused : {X : Type 0} (view : X → Question) (r : Result X ParseError) → Gives view r (parsed_query text) → IfErr r (λ e. RefusesQuery text e)
+  query_refused view (Ok x) g = tt
+  query_refused view (Err errors.Memory) g = tt
+  query_refused view (Err (errors.Syntax at)) g = query_stops at g
+  query_refused view (Err errors.Limit) g = query_limit g
 
 query_limits : (text : List ℕ) → RefusesQuery text errors.Limit → (query_bytes < length text) ⊎ (PassesLimit query text ⊎ ((q : Question) × Spells query text q × (IsSmall q → ⊥)))
 query_limits text (inl l) = inl l
 query_limits text (inr (inl p)) = inr (inl p)
-query_limits text (inr (inr h)) = inr (inr (h.0, h.1, λ small. let more = h.2 in omega arith))
-
-schema_limits : (text : List ℕ) → (schema_bytes < length text) ⊎ PassesLimit schema text → (schema_bytes < length text) ⊎ (PassesLimit schema text ⊎ ((acts : List Act) × Spells schema text acts × (Fits acts → ⊥)))
-schema_limits text (inl l) = inl l
-schema_limits text (inr p) = inr (inl p)
+query_limits text (inr (inr h)) = inr (inr (h.0, h.1, λ small. let big = h.2 in cc))
 
 pub query_determined : IsDetermined query query_bytes IsSmall parsed_query
 query_determined = record {
@@ -142,33 +181,15 @@ query_determined = record {
   one_tree = λ text t t' h h'. within_one query query_good query_bytes text t t' h h';
 }
 
--- ---- a schema
-
-module _ (text : List ℕ) where
-  pub schema_found : (acts : List Act) → parsed_schema text ≡ Ok acts → Spells schema text acts × (length text ≤ schema_bytes) × Fits acts
-  unfolding parsed_schema
-  schema_found acts e = let w = within_found schema schema_good schema_bytes text acts e in (w.0, w.1, tt)
-
-  pub schema_only : (acts : List Act) → Spells schema text acts → length text ≤ schema_bytes → Fits acts → parsed_schema text ≡ Ok acts
-  unfolding parsed_schema
-  schema_only acts h l s = within_only schema schema_good schema_bytes text acts h l
-
-  pub schema_stops : (at : ℕ) → parsed_schema text ≡ Err (wrong_at at) → StopsAt schema text at × (length text ≤ schema_bytes)
-  unfolding parsed_schema
-  schema_stops at e = within_stops schema schema_good schema_bytes text at e
-
-  pub schema_limit : parsed_schema text ≡ Err over_limit → RefusesSchema text errors.Limit
-  unfolding parsed_schema
-  schema_limit e = within_limit schema schema_good schema_bytes text e
+-- ---- schema statements
 
 pub schema_determined : IsDetermined schema schema_bytes Fits parsed_schema
-schema_determined = record {
-  found = schema_found;
-  only = schema_only;
-  stops = λ text at e. (schema_stops text at e).0;
-  limits = λ text e. schema_limits text (schema_limit text e);
-  one_tree = λ text t t' h h'. within_one schema schema_good schema_bytes text t t' h h';
-}
+unfolding parsed_schema
+schema_determined = within_determined schema schema_good schema_bytes
+
+pub statement_determined : IsDetermined statement statement_bytes Fits parsed_statement
+unfolding parsed_statement
+statement_determined = within_determined statement statement_good statement_bytes
 
 -- ---- what a call returned
 
@@ -184,16 +205,3 @@ module _ {A X : Type 0} {f : Rule A} {most : ℕ} {fits : A → Type 0} {parsed 
       go : (e : Option TextFault) → IsTextFault e (parsed text) → IsTextFault {B = A} e (Ok t)
       go None g = tt
       go (Some e) g = sym (d.only text t h l s) ∙ g
-
-module _ {X : Type 0} (text : List ℕ) where
-  pub query_refused : (view : X → Question) (r : Result X ParseError) → Gives view r (parsed_query text) → IfErr r (λ e. RefusesQuery text e)
-  query_refused view (Ok x) g = tt
-  query_refused view (Err errors.Memory) g = tt
-  query_refused view (Err (errors.Syntax at)) g = query_stops text at g
-  query_refused view (Err errors.Limit) g = query_limit text g
-
-  pub schema_refused : (view : X → List Act) (r : Result X ParseError) → Gives view r (parsed_schema text) → IfErr r (λ e. RefusesSchema text e)
-  schema_refused view (Ok x) g = tt
-  schema_refused view (Err errors.Memory) g = tt
-  schema_refused view (Err (errors.Syntax at)) g = schema_stops text at g
-  schema_refused view (Err errors.Limit) g = schema_limit text g

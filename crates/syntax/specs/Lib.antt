@@ -1,5 +1,9 @@
 pub mod Tree
 pub mod View
-pub mod Rules
+pub mod Language
+pub mod Expressions
+pub mod Queries
+pub mod Statements
 pub mod Reading
+pub mod Limits
 pub mod Parsing

@@ -1,10 +1,14 @@
--- What a text is: a query or a schema, or the first fault.
-use Rattle.std.specs.Prelude.{◌≡◌, ◌⊎◌, ◌-◌, ◌<◌, ◌≤◌, ℕ, nat_lt, List, [], ◌∷◌, length, drop, Option, Some, None, Result, Ok, Err, if◌then◌else◌}
+-- What a text is: a query, a schema or a statement, or the first fault.
+use Rattle.std.specs.Prelude.{◌≡◌, ◌⊎◌, ◌-◌, ◌<◌, ◌≤◌, ℕ, nat_lt, true, false, List, [], ◌∷◌, length, drop, Option, Some, None, Result, Ok, Err, if◌then◌else◌}
 use Rattle.row_grammar.specs.Decoder.{Stop, syntax, limit}
 use Rattle.row_grammar.specs.Limits.{Spells as SpellsWithin, IsLongest, IsPassed, whole_at}
 use Rattle.row_tokens.specs.Words.{Word, words}
 use Rattle.syntax.specs.Tree.{Question, Act}
-use Rattle.syntax.specs.Rules.{Rule, grammar, query, schema, run_limit, depth_limit}
+use Rattle.syntax.specs.Language.{Rule}
+use Rattle.syntax.specs.Expressions.{grammar, run_limit, depth_limit}
+use Rattle.syntax.specs.Queries.{query}
+use Rattle.syntax.specs.Statements.{schema, statement}
+use Rattle.syntax.specs.Limits.{is_small}
 use Rattle.syntax.specs.declared.fault.ParseError.{ParseError}
 use Rattle.syntax.specs.declared.fault.ParseError.TheVariants as errors
 
@@ -30,26 +34,37 @@ StopsAt f text at = (n : ℕ) × IsLongest grammar run_limit depth_limit f (word
 abbrev pub PassesLimit : {A : Type 0} → Rule A → List ℕ → Type 0
 PassesLimit f text = (n : ℕ) × IsPassed grammar run_limit depth_limit f (words text) n
 
--- a query's text has at most 65,536 bytes and 64 columns, a schema's 1,048,576 bytes
+-- a query's text, or that of a statement alone, has at most 65,536 bytes, a schema's 1,048,576
 abbrev pub query_bytes : ℕ
 query_bytes = 65536
+
+abbrev pub statement_bytes : ℕ
+statement_bytes = 65536
 
 abbrev pub schema_bytes : ℕ
 schema_bytes = 1048576
 
-abbrev pub most_columns : ℕ
-most_columns = 64
+-- the limits on a query's parts are kept
+abbrev pub IsSmall : Question → Type 0
+IsSmall q = is_small q ≡ true
 
 -- why a text is no query: the byte from which on it goes wrong, or a limit
 abbrev pub RefusesQuery : List ℕ → ParseError → Type 0
 RefusesQuery text errors.Memory = Unit {0}
 RefusesQuery text (errors.Syntax at) = StopsAt query text at × (length text ≤ query_bytes)
-RefusesQuery text errors.Limit = (query_bytes < length text) ⊎ (PassesLimit query text ⊎ ((q : Question) × Spells query text q × (most_columns < length q.columns)))
+RefusesQuery text errors.Limit = (query_bytes < length text) ⊎ (PassesLimit query text ⊎ ((q : Question) × Spells query text q × (is_small q ≡ false)))
+
+-- the same of a text that has no further limits
+abbrev pub Refuses : {A : Type 0} → ℕ → Rule A → List ℕ → ParseError → Type 0
+Refuses most f text errors.Memory = Unit {0}
+Refuses most f text (errors.Syntax at) = StopsAt f text at × (length text ≤ most)
+Refuses most f text errors.Limit = (most < length text) ⊎ PassesLimit f text
 
 abbrev pub RefusesSchema : List ℕ → ParseError → Type 0
-RefusesSchema text errors.Memory = Unit {0}
-RefusesSchema text (errors.Syntax at) = StopsAt schema text at × (length text ≤ schema_bytes)
-RefusesSchema text errors.Limit = (schema_bytes < length text) ⊎ PassesLimit schema text
+RefusesSchema text e = Refuses schema_bytes schema text e
+
+abbrev pub RefusesStatement : List ℕ → ParseError → Type 0
+RefusesStatement text e = Refuses statement_bytes statement text e
 
 -- ---- as a function
 
@@ -72,7 +87,7 @@ read_within most f text = if nat_lt most (length text) then Err over_limit else 
 
 abbrev pub of_size : Result Question TextFault → Result Question TextFault
 of_size (Err e) = Err e
-of_size (Ok q) = if nat_lt most_columns (length q.columns) then Err over_limit else Ok q
+of_size (Ok q) = if is_small q then Ok q else Err over_limit
 
 -- the query that a text is, or its first fault
 unfoldable pub parsed_query : List ℕ → Result Question TextFault
@@ -81,6 +96,10 @@ parsed_query text = of_size (read_within query_bytes query text)
 -- the statements that a schema text is, or its first fault
 unfoldable pub parsed_schema : List ℕ → Result (List Act) TextFault
 parsed_schema text = read_within schema_bytes schema text
+
+-- the statement that a text is, or its first fault
+unfoldable pub parsed_statement : List ℕ → Result Act TextFault
+parsed_statement text = read_within statement_bytes statement text
 
 -- the fault that an error stands for, if it stands for one
 abbrev pub text_fault : ParseError → Option TextFault
@@ -97,7 +116,7 @@ abbrev pub Gives : {A B : Type 0} → (A → B) → Result A ParseError → Resu
 Gives view (Ok x) due = due ≡ Ok (view x)
 Gives view (Err e) due = IsTextFault (text_fault e) due
 
--- The function above is what spelling and fronts determine.
+-- A function of a text is what spelling and fronts determine.
 pub record IsDetermined {A : Type 0} (f : Rule A) (most : ℕ) (fits : A → Type 0) (parsed : List ℕ → Result A TextFault) : Type 0 where
   pub found : (text : List ℕ) (t : A) → parsed text ≡ Ok t → Spells f text t × (length text ≤ most) × fits t
   pub only : (text : List ℕ) (t : A) → Spells f text t → length text ≤ most → fits t → parsed text ≡ Ok t
@@ -106,8 +125,6 @@ pub record IsDetermined {A : Type 0} (f : Rule A) (most : ℕ) (fits : A → Typ
   -- a text has at most one tree
   pub one_tree : (text : List ℕ) (t t' : A) → Spells f text t → Spells f text t' → t ≡ t'
 
-abbrev pub IsSmall : Question → Type 0
-IsSmall q = length q.columns ≤ most_columns
-
-abbrev pub Fits : List Act → Type 0
-Fits acts = Unit {0}
+-- where there are no further limits
+abbrev pub Fits : {A : Type 0} → A → Type 0
+Fits t = Unit {0}

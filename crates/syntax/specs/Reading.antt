@@ -1,6 +1,6 @@
 -- What the functions of the parser return, over tokens.
 use Rattle.std.specs.Prelude.{Option, Some, None, Result}
-use Rattle.row_grammar.specs.Decoder.{Stop, syntax, Gives as Gives_by}
+use Rattle.row_grammar.specs.Decoder.{Stop, syntax, limit, Gives as Gives_by}
 use Rattle.syntax.specs.declared.reader.ReadError.{ReadError}
 use Rattle.syntax.specs.declared.reader.ReadError.TheVariants as errors
 
@@ -8,6 +8,7 @@ use Rattle.syntax.specs.declared.reader.ReadError.TheVariants as errors
 abbrev pub stop_of : ReadError → Option Stop
 stop_of errors.Memory = None
 stop_of (errors.Syntax n) = Some (syntax n)
+stop_of (errors.Limit n) = Some (limit n)
 
 -- what a function of the parser returned, seen by view, is what one token ahead reads, unless memory ran out
 abbrev pub Reads : {A B : Type 0} → (A → B) → Result A ReadError → Result B Stop → Type 0

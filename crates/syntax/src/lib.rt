@@ -1,15 +1,22 @@
 //! Queries and schema statements, read from text.
 #![tactic(auto)]
 
+mod creating;
+mod expressions;
 mod fault;
+mod limits;
 mod literals;
 mod names;
 mod parsing;
+mod parts;
 mod queries;
 mod reader;
 mod statements;
 mod tree;
 
 pub use fault::ParseError;
-pub use parsing::{parse_query, parse_schema, parsing_is_determined};
-pub use tree::{ColumnDef, ColumnRef, Operand, PolicyDef, Query, Statement};
+pub use parsing::{parse_query, parse_schema, parse_statement, parsing_is_determined};
+pub use tree::{
+    Arithmetic, Arm, Chain, ColumnDef, ColumnRef, Comparison, Condition, Entry, Expr, Function,
+    Grant, Item, Join, Key, PolicyDef, Query, RowSecurity, Selection, Statement, Target,
+};

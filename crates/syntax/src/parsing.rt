@@ -4,16 +4,19 @@ ghost use Rattle.std.specs.Prelude.{◌≡◌, ◌<◌, ◌≤◌, ◌^◌, List
 ghost use Rattle.row_grammar.specs.Limits.{whole_at};
 ghost use Rattle.row_tokens.specs.View.{words_of};
 ghost use Rattle.row_tokens.specs.Words.{words};
-ghost use Rattle.syntax.specs.Parsing.{Spells, Gives, RefusesQuery, RefusesSchema, IsSmall, IsDetermined, Fits, query_bytes, schema_bytes, read_within, parsed_query, parsed_schema, offset_of, fault_of, text_fault};
+ghost use Rattle.syntax.specs.Expressions.{grammar, run_limit, depth_limit};
+ghost use Rattle.syntax.specs.Parsing.{Spells, Gives, RefusesQuery, RefusesSchema, RefusesStatement, IsSmall, IsDetermined, Fits, query_bytes, schema_bytes, statement_bytes, read_within, parsed_query, parsed_schema, parsed_statement, offset_of, fault_of, text_fault};
+ghost use Rattle.syntax.specs.Queries as queries;
 ghost use Rattle.syntax.specs.Reading.{Reads, stop_of};
-ghost use Rattle.syntax.specs.Rules.{grammar, run_limit, depth_limit, query as query_rule, schema as schema_rule};
+ghost use Rattle.syntax.specs.Statements as statements;
 ghost use Rattle.syntax.specs.Tree.{Question, Act};
 ghost use Rattle.syntax.specs.View.{question_of, act_of};
 
 use crate::fault::ParseError;
+use crate::limits::is_small;
 use crate::queries::query;
-use crate::reader::ReadError;
-use crate::statements::schema;
+use crate::reader::{ReadError, Reader};
+use crate::statements::{schema, statement};
 use crate::tree::{Query, Statement};
 use memory::Heap;
 use row_tokens::{Token, scan};
@@ -22,11 +25,30 @@ use text::Items;
 /// How many bytes a query's text may have.
 const QUERY_BYTES: usize = 65_536;
 
+/// How many bytes the text of a statement alone may have.
+const STATEMENT_BYTES: usize = 65_536;
+
 /// How many bytes a schema's text may have.
 const SCHEMA_BYTES: usize = 1_048_576;
 
-/// How many columns a query may name.
-const MOST_COLUMNS: usize = 64;
+/// How many operands may follow the first of a run.
+const RUN_LIMIT: usize = 63;
+
+/// How deep a text may nest.
+const DEPTH_LIMIT: usize = 64;
+
+// Reads from the start of a text.
+#[tactic(auto, unfolding(crate::specs::Expressions::run_limit, crate::specs::Expressions::depth_limit))]
+fn reader<A: Heap>(alloc: A) -> Reader<A>
+    ensures width { result.width ≡ run_limit }
+    ensures depth { result.depth ≡ depth_limit }
+{
+    Reader {
+        alloc,
+        width: RUN_LIMIT,
+        depth: DEPTH_LIMIT,
+    }
+}
 
 // Where the token begins from which on there are so many; the end of the text for none.
 fn offset_of(text: &str, tokens: &[Token<'_>], left: usize) -> u32
@@ -48,6 +70,7 @@ fn fault_of(text: &str, tokens: &[Token<'_>], error: ReadError) -> ParseError
 {
     match error {
         ReadError::Syntax(left) => ParseError::Syntax(offset_of(text, tokens, left)),
+        ReadError::Limit(_) => ParseError::Limit,
         ReadError::Memory => ParseError::Memory,
     }
 }
@@ -55,18 +78,18 @@ fn fault_of(text: &str, tokens: &[Token<'_>], error: ReadError) -> ParseError
 // The query that tokens are, all of them.
 #[tactic(auto, unfolding(row_grammar::specs::Limits::whole_at))]
 fn whole_query<A: Heap>(alloc: A, tokens: &[Token<'_>]) -> Result<Query<A>, ReadError>
-    ensures { Reads (λ q. question_of q) result (whole_at grammar run_limit depth_limit query_rule (words_of tokens.now)) }
+    ensures { Reads (λ q. question_of q) result (whole_at grammar run_limit depth_limit queries.query (words_of tokens.now)) }
 {
-    let (tree, rest) = query(alloc, tokens)?;
+    let (tree, rest) = query(reader(alloc), tokens)?;
     match rest {
         [] => Ok(tree),
         [_, ..] => Err(ReadError::Syntax(rest.len())),
     }
 }
 
-// The query that a text is, of any number of columns.
+// The query that a text is, with parts of any size.
 fn read_query<A: Heap>(alloc: A, text: &str) -> Result<Query<A>, ParseError>
-    ensures { Gives (λ q. question_of q) result (read_within query_bytes query_rule text.now) }
+    ensures { Gives (λ q. question_of q) result (read_within query_bytes queries.query text.now) }
 {
     if text.len() > QUERY_BYTES {
         return Err(ParseError::Limit);
@@ -84,20 +107,22 @@ fn small_query<A: Heap>(alloc: A, text: &str) -> Result<Query<A>, ParseError>
     ensures { Gives (λ q. question_of q) result (parsed_query text.now) }
 {
     let query = read_query(alloc, text)?;
-    if query.columns.len() > MOST_COLUMNS {
-        return Err(ParseError::Limit);
+    if is_small(&query) {
+        Ok(query)
+    } else {
+        Err(ParseError::Limit)
     }
-    Ok(query)
 }
 
 /// The query that a text is. The error is `Syntax` (42601) at the byte from which on the grammar does not go on,
-/// and `Limit` (54000) for more than 65,536 bytes or, in a text of the grammar, more than 64 columns.
+/// and `Limit` (54000) for more than 65,536 bytes, for nesting or a run that goes on behind the limit or, in a
+/// text of the grammar, for parts that are too many.
 pub fn parse_query<A: Heap>(alloc: A, text: &str) -> Result<Query<A>, ParseError>
     ensures reading { Gives (λ q. question_of q) result (parsed_query text.now) }
     // What is found is spelled so.
-    ensures found { IfOk result (λ q. Spells query_rule text.now (question_of q)) }
+    ensures found { IfOk result (λ q. Spells queries.query text.now (question_of q)) }
     // What is spelled so, and within the limits, is found, unless memory runs out.
-    ensures only { (q : Question) → Spells query_rule text.now q → length text.now ≤ query_bytes → IsSmall q → Gives (λ q. question_of q) result (Ok q) }
+    ensures only { (q : Question) → Spells queries.query text.now q → length text.now ≤ query_bytes → IsSmall q → Gives (λ q. question_of q) result (Ok q) }
     // A refusal is at the byte after the longest front, or a limit is passed.
     ensures refused { IfErr result (λ e. RefusesQuery text.now e) }
 {
@@ -110,9 +135,9 @@ fn whole_schema<A: Heap>(
     alloc: A,
     tokens: &[Token<'_>],
 ) -> Result<Items<Statement<A>, A>, ReadError>
-    ensures { Reads (λ acts. map (λ s. act_of s) acts) result (whole_at grammar run_limit depth_limit schema_rule (words_of tokens.now)) }
+    ensures { Reads (λ acts. map (λ s. act_of s) acts) result (whole_at grammar run_limit depth_limit statements.schema (words_of tokens.now)) }
 {
-    let (statements, rest) = schema(alloc, tokens)?;
+    let (statements, rest) = schema(reader(alloc), tokens)?;
     match rest {
         [] => Ok(statements),
         [_, ..] => Err(ReadError::Syntax(rest.len())),
@@ -121,7 +146,7 @@ fn whole_schema<A: Heap>(
 
 // The statements that a schema text is.
 fn read_schema<A: Heap>(alloc: A, text: &str) -> Result<Items<Statement<A>, A>, ParseError>
-    ensures { Gives (λ acts. map (λ s. act_of s) acts) result (read_within schema_bytes schema_rule text.now) }
+    ensures { Gives (λ acts. map (λ s. act_of s) acts) result (read_within schema_bytes statements.schema text.now) }
 {
     if text.len() > SCHEMA_BYTES {
         return Err(ParseError::Limit);
@@ -134,22 +159,66 @@ fn read_schema<A: Heap>(alloc: A, text: &str) -> Result<Items<Statement<A>, A>, 
 }
 
 /// The statements that a schema text is, each followed by a semicolon. The error is `Syntax` (42601) at the byte
-/// from which on the grammar does not go on, and `Limit` (54000) for more than 1,048,576 bytes.
+/// from which on the grammar does not go on, and `Limit` (54000) for more than 1,048,576 bytes or for nesting or
+/// a run that goes on behind the limit.
 #[tactic(auto, unfolding(crate::specs::Parsing::parsed_schema))]
 pub fn parse_schema<A: Heap>(alloc: A, text: &str) -> Result<Items<Statement<A>, A>, ParseError>
     ensures reading { Gives (λ acts. map (λ s. act_of s) acts) result (parsed_schema text.now) }
     // What is found is spelled so.
-    ensures found { IfOk result (λ acts. Spells schema_rule text.now (map (λ s. act_of s) acts)) }
-    // What is spelled so, and within the limit, is found, unless memory runs out.
-    ensures only { (acts : List Act) → Spells schema_rule text.now acts → length text.now ≤ schema_bytes → Gives (λ found. map (λ s. act_of s) found) result (Ok acts) }
-    // A refusal is at the byte after the longest front, or the limit is passed.
+    ensures found { IfOk result (λ acts. Spells statements.schema text.now (map (λ s. act_of s) acts)) }
+    // What is spelled so, and within the limits, is found, unless memory runs out.
+    ensures only { (acts : List Act) → Spells statements.schema text.now acts → length text.now ≤ schema_bytes → Gives (λ found. map (λ s. act_of s) found) result (Ok acts) }
+    // A refusal is at the byte after the longest front, or a limit is passed.
     ensures refused { IfErr result (λ e. RefusesSchema text.now e) }
 {
     read_schema(alloc, text)
 }
 
-/// The functions `parsed_query` and `parsed_schema` are what spelling and fronts determine.
+// The statement that tokens are, all of them.
+#[tactic(auto, unfolding(row_grammar::specs::Limits::whole_at))]
+fn whole_statement<A: Heap>(alloc: A, tokens: &[Token<'_>]) -> Result<Statement<A>, ReadError>
+    ensures { Reads (λ s. act_of s) result (whole_at grammar run_limit depth_limit statements.statement (words_of tokens.now)) }
+{
+    let (tree, rest) = statement(reader(alloc), tokens)?;
+    match rest {
+        [] => Ok(tree),
+        [_, ..] => Err(ReadError::Syntax(rest.len())),
+    }
+}
+
+// The statement that a text is.
+fn read_statement<A: Heap>(alloc: A, text: &str) -> Result<Statement<A>, ParseError>
+    ensures { Gives (λ s. act_of s) result (read_within statement_bytes statements.statement text.now) }
+{
+    if text.len() > STATEMENT_BYTES {
+        return Err(ParseError::Limit);
+    }
+    let tokens = scan(alloc, text)?;
+    match whole_statement(alloc, tokens.as_slice()) {
+        Ok(statement) => Ok(statement),
+        Err(error) => Err(fault_of(text, tokens.as_slice(), error)),
+    }
+}
+
+/// The schema statement that a text is, without a semicolon. The error is `Syntax` (42601) at the byte from which
+/// on the grammar does not go on, and `Limit` (54000) for more than 65,536 bytes or for nesting or a run that goes
+/// on behind the limit.
+#[tactic(auto, unfolding(crate::specs::Parsing::parsed_statement))]
+pub fn parse_statement<A: Heap>(alloc: A, text: &str) -> Result<Statement<A>, ParseError>
+    ensures reading { Gives (λ s. act_of s) result (parsed_statement text.now) }
+    // What is found is spelled so.
+    ensures found { IfOk result (λ s. Spells statements.statement text.now (act_of s)) }
+    // What is spelled so, and within the limits, is found, unless memory runs out.
+    ensures only { (act : Act) → Spells statements.statement text.now act → length text.now ≤ statement_bytes → Gives (λ s. act_of s) result (Ok act) }
+    // A refusal is at the byte after the longest front, or a limit is passed.
+    ensures refused { IfErr result (λ e. RefusesStatement text.now e) }
+{
+    read_statement(alloc, text)
+}
+
+/// The functions `parsed_query`, `parsed_schema` and `parsed_statement` are what spelling and fronts determine.
 pub fn parsing_is_determined()
-    ensures query { IsDetermined query_rule query_bytes IsSmall parsed_query }
-    ensures schema { IsDetermined schema_rule schema_bytes Fits parsed_schema }
+    ensures query { IsDetermined queries.query query_bytes IsSmall parsed_query }
+    ensures schema { IsDetermined statements.schema schema_bytes Fits parsed_schema }
+    ensures statement { IsDetermined statements.statement statement_bytes Fits parsed_statement }
 {}

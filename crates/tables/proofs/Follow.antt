@@ -1,12 +1,12 @@
 -- What was read follows from the records.
-use Rattle.std.proofs.Common.{ℕ, zero, suc, ◌≡◌, ◌≢◌, ◌+◌, ◌-◌, ◌<◌, ◌≤◌, Bool, true, false, List, [], ◌∷◌, ◌++◌, length, take, Option, Some, None, Result, Ok, Err, IfSome, option_map, refl, sym, ap, ◌∙◌, arith, rules, length-append, Vec}
+use Rattle.std.proofs.Common.{ℕ, zero, suc, ◌≡◌, ◌≢◌, ◌+◌, ◌-◌, ◌<◌, ◌≤◌, ◌^◌, inl, inr, Bool, true, false, List, [], ◌∷◌, ◌++◌, length, take, Option, Some, None, Result, Ok, Err, IfSome, refl, sym, ap, ◌∙◌, arith, rules, length-append, Vec}
 use Rattle.std.specs.Option.{unwrap_or}
-use Rattle.csv_records.specs.Left.{Left, Fits_length, Gives, GivesOf, NextIsUneven}
+use Rattle.csv_records.specs.Left.{Left, counted, Fits_length, Gives, GivesOf, NextIsUneven}
 use Rattle.value.specs.declared.types.Value.{Value}
 use Rattle.value.specs.Datum.{Row}
 use Rattle.tables.specs.declared.LoadError.{LoadError}
 use Rattle.tables.specs.declared.LoadError.TheVariants as error
-use Rattle.tables.specs.Loading.{Appends, Col, Fields, StopsAfterGood, cells_of, is_told, load_of, names, records_of, rows_data, rows_of}
+use Rattle.tables.specs.Loading.{Appends, Col, Fields, IsUnread, StopsAfterGood, cells_of, is_told, load_of, names, rows_data, rows_of}
 use Rattle.tables.specs.Reading.{AreKnown, HeaderIs, LoadFollows, Refuses, RowsFollow}
 use Rattle.tables.proofs.Records.{Leaves, cell_fault, leaves_all, leaves_none, leaves_one_less, leaves_other, leaves_some, one_more_row, rows_of-nil, take-seen, too_many, uneven_fault}
 
@@ -87,12 +87,15 @@ no_room_left A cols room done rows known old new r failed same (seen, len, was, 
 reader_row : (row done : ℕ) → error.Reader (done + 1) ≡ error.Reader row → row - 1 ≡ done
 reader_row row done is = let same : row ≡ done + 1 = cc is in omega arith
 
+seen_within : (seen rest : List Fields) (n : ℕ) → length seen ≡ n → n ≤ length (seen ++ rest)
+seen_within seen rest n e = rw length-append (omega (arith, e))
+
 -- the next record was not read
 unread : (A : Type 0) (cols : List Col) (room done : ℕ) (rows : List Row) (known : Option (List Fields)) (old : Left) (failed : Bool) → done ≤ room
     → SeenRows cols room done rows known old.records → old.expected ≡ Some (length cols) → (failed ≡ false → NextIsUneven old) → RowsFollow {A = A} cols room known failed (Err (error.Reader (done + 1)))
 unread A cols room done rows known old true le (seen, len, was, leaves) expected uneven =
     let rest = leaves_some known seen old.records leaves in
-    (seen ++ rest.0, rest.1, λ told. cc told, λ row is. (rows, rw (reader_row row done is, take-seen seen rest.0 done len) was))
+    (seen ++ rest.0, rest.1, λ told. cc told, λ row is. (rw (reader_row row done is) (seen_within seen rest.0 done len), rows, rw (reader_row row done is, take-seen seen rest.0 done len) was))
 unread A cols room done rows known old false le (seen, len, was, leaves) expected uneven =
     let next = uneven refl in
     let n : next.0 ≡ length cols = cc (next.1, expected) in
@@ -100,7 +103,7 @@ unread A cols room done rows known old false le (seen, len, was, leaves) expecte
       seen ++ o.0 ∷ o.1,
       o.3,
       λ told. uneven_fault cols room done seen rows o.0 o.1 le len was (λ e. o.2 (e ∙ sym n)),
-      λ row is. (rows, rw (reader_row row done is, take-seen seen (o.0 ∷ o.1) done len) was),
+      λ row is. (rw (reader_row row done is) (seen_within seen (o.0 ∷ o.1) done len), rows, rw (reader_row row done is, take-seen seen (o.0 ∷ o.1) done len) was),
     )
 
 -- memory ran out
@@ -133,6 +136,9 @@ known_after None new h recs gives known = tt
 known_after (Some []) new h recs gives known = cc gives
 known_after (Some (r ∷ rs)) new h recs (here, is, left) known = let same = rw left at known in cc (is, same)
 
+one_more : (row n : ℕ) → 0 < row → row - 1 ≤ n → row ≤ suc n
+one_more row n pos h = omega (arith, pos, h)
+
 pub header_then_rows : {A : Type 0} (cols : List Col) (room : ℕ) (old mid : Left) (failed : Bool) (result : Result (Vec (List (Value A)) A) LoadError)
     → HeaderIs cols old mid (Ok tt) → RowsFollow cols room mid.records failed result → LoadFollows cols room old.records failed result
 header_then_rows cols room old mid failed (Ok rows) (h, named, gives) (recs, known, follows, stops) =
@@ -141,31 +147,54 @@ header_then_rows cols room old mid failed (Err e) (h, named, gives) (recs, known
   h ∷ recs,
   known_after old.records mid.records h recs gives known,
   rw named follows,
-  λ row same pos. let s = stops row same in (s.0, load-take cols room row h recs named pos ∙ s.1),
+  λ row same pos. let s = stops row same in (one_more row (length recs) pos s.0, s.1, load-take cols room row h recs named pos ∙ s.2),
 )
 
--- ---- of a text
+-- ---- where a read failed
 
--- what is due of the records of a text, where a row is refused
-pub told_of_text : (A : Type 0) (cols : List Col) (room : ℕ) (text : Option (List ℕ)) (failed : Bool) (e : LoadError) (old new : List Row) → LoadFollows {A = A} cols room (option_map records_of text) failed (Err e)
-    → IfSome text (λ bytes. Appends (load_of cols room (records_of bytes)) old new (Err e))
-told_of_text A cols room None failed e old new follows = tt
-told_of_text A cols room (Some bytes) failed e old new (recs, known, due, stops) = rw known (λ told. due (told_failed failed e told))
+-- the next record was not read, or memory ran out
+pub refuses_unread : (row given : ℕ) (old new : Left) (e : LoadError) → given ≡ row → Refuses row old new e → IsUnread {Y = Unit {0}} given (Err e)
+refuses_unread row given old new (error.Reader at) same (is, uneven) = inr (ap error.Reader (is ∙ sym same))
+refuses_unread row given old new error.OutOfMemory same h = inl refl
+refuses_unread row given old new error.Header same h = absurd h
+refuses_unread row given old new (error.Cell at column) same h = absurd h
+refuses_unread row given old new (error.NotNull at column) same h = absurd h
+refuses_unread row given old new error.TooMany same h = absurd h
 
-pub told_of_some : (A : Type 0) (cols : List Col) (room : ℕ) (known : Option (List Fields)) (failed : Bool) (e : LoadError) (old new : List Row) → LoadFollows {A = A} cols room known failed (Err e)
-    → (recs : List Fields) × Appends (load_of cols room recs) old new (Err e)
-told_of_some A cols room known failed e old new (recs, are, due, stops) = (recs, λ told. due (told_failed failed e told))
+-- one more record was given, and there is room for its number
+pub counted_one : (done room : ℕ) (old new : ℕ) (found : Bool) → done < room → room < 2 ^ 64 - 1 → found ≡ true → new ≡ counted found old → old ≡ done + 1 → new ≡ done + 1 + 1
+counted_one done room old new found lt few is count was = let first = rw is at count in omega (arith, lt, few, first, was)
 
-pub stops_of_text : (A : Type 0) (cols : List Col) (room : ℕ) (text : Option (List ℕ)) (failed : Bool) (e : LoadError) → LoadFollows {A = A} cols room (option_map records_of text) failed (Err e)
-    → IfSome text (λ bytes. StopsAfterGood {Y = Unit {0}} cols room (records_of bytes) (Err e))
-stops_of_text A cols room None failed e follows = tt
-stops_of_text A cols room (Some bytes) failed e (recs, known, due, stops) = rw known stops
+-- ---- what came to the rows that were there
 
--- the rows of a text came to those that were there
-pub rows_of_text : {A : Type 0} (cols : List Col) (room : ℕ) (text : Option (List ℕ)) (failed : Bool) (rows : Vec (List (Value A)) A) (old new : List Row) → LoadFollows cols room (option_map records_of text) failed (Ok rows)
-    → new ≡ old ++ rows_data rows.items → IfSome text (λ bytes. Appends (load_of cols room (records_of bytes)) old new (Ok tt))
-rows_of_text cols room None failed rows old new follows all = tt
-rows_of_text cols room (Some bytes) failed rows old new (recs, known, due, stops) all = rw known (rows_data rows.items, due, all)
+told_exactly : (e : LoadError) → e ≢ error.OutOfMemory → is_told false e ≡ true
+told_exactly error.Header h = refl
+told_exactly (error.Reader row) h = refl
+told_exactly (error.Cell row column) h = refl
+told_exactly (error.NotNull row column) h = refl
+told_exactly error.TooMany h = refl
+told_exactly error.OutOfMemory h = absurd (h refl)
+
+-- a fault of records
+pub fault_of_known : (A : Type 0) (cols : List Col) (room : ℕ) (known : Option (List Fields)) (failed : Bool) (e : LoadError) (old new : List Row) → LoadFollows {A = A} cols room known failed (Err e)
+    → failed ≡ false → IfSome known (λ recs. Appends (load_of cols room recs) old new (Err e))
+fault_of_known A cols room None failed e old new follows whole = tt
+fault_of_known A cols room (Some known) failed e old new (recs, are, due, stops) whole = rw are (λ other. due (rw whole (told_exactly e other)))
+
+pub fault_of_some : (A : Type 0) (cols : List Col) (room : ℕ) (known : Option (List Fields)) (failed : Bool) (e : LoadError) (old new : List Row) → LoadFollows {A = A} cols room known failed (Err e)
+    → failed ≡ false → (recs : List Fields) × Appends (load_of cols room recs) old new (Err e)
+fault_of_some A cols room known failed e old new (recs, are, due, stops) whole = (recs, λ other. due (rw whole (told_exactly e other)))
+
+pub stops_of_known : (A : Type 0) (cols : List Col) (room : ℕ) (known : Option (List Fields)) (failed : Bool) (e : LoadError) → LoadFollows {A = A} cols room known failed (Err e)
+    → IfSome known (λ recs. StopsAfterGood {Y = Unit {0}} cols room recs (Err e))
+stops_of_known A cols room None failed e follows = tt
+stops_of_known A cols room (Some known) failed e (recs, are, due, stops) = rw are stops
+
+-- rows of records
+pub rows_of_known : {A : Type 0} (cols : List Col) (room : ℕ) (known : Option (List Fields)) (failed : Bool) (rows : Vec (List (Value A)) A) (old new : List Row) → LoadFollows cols room known failed (Ok rows)
+    → new ≡ old ++ rows_data rows.items → IfSome known (λ recs. Appends (load_of cols room recs) old new (Ok tt))
+rows_of_known cols room None failed rows old new follows all = tt
+rows_of_known cols room (Some known) failed rows old new (recs, are, due, stops) all = rw are (rows_data rows.items, due, all)
 
 pub rows_of_some : {A : Type 0} (cols : List Col) (room : ℕ) (known : Option (List Fields)) (failed : Bool) (rows : Vec (List (Value A)) A) (old new : List Row) → LoadFollows cols room known failed (Ok rows)
     → new ≡ old ++ rows_data rows.items → (recs : List Fields) × Appends (load_of cols room recs) old new (Ok tt)

@@ -1,7 +1,6 @@
 -- The rows that the records of a text give, or the first fault.
-use Rattle.std.specs.Prelude.{ℕ, zero, suc, ◌+◌, ◌<◌, ◌==◌, ◌&&◌, not, ◌≡◌, Bool, true, false, List, [], ◌∷◌, ◌++◌, length, map, take, get_or, Result, Ok, Err, IfErr, if◌then◌else◌}
+use Rattle.std.specs.Prelude.{ℕ, zero, suc, ◌+◌, ◌<◌, ◌≤◌, ◌==◌, ◌&&◌, not, ◌≡◌, ◌≢◌, ◌⊎◌, Bool, true, false, List, [], ◌∷◌, ◌++◌, length, map, take, get_or, Result, Ok, Err, IfErr, if◌then◌else◌}
 use Rattle.std.specs.Str.{bytes_eq, is_utf8}
-use Rattle.csv.specs.Reading.{default_config, records, strip_bom}
 use Rattle.value.specs.declared.types.ColType.{ColType}
 use Rattle.value.specs.declared.types.Kind.{Kind}
 use Rattle.value.specs.declared.types.Value.{Value}
@@ -28,10 +27,6 @@ pub record Contents : Type 0 where
 -- the fields of a record, each as its bytes
 abbrev pub Fields : Type 0
 Fields = List (List ℕ)
-
--- the records of a text: comma-separated, and the header is one of them
-abbrev pub records_of : List ℕ → List Fields
-records_of bytes = records default_config (strip_bom bytes)
 
 -- the field that stands for null: a backslash and N
 abbrev pub null_field : List ℕ
@@ -93,19 +88,25 @@ abbrev pub Follows : {X Y : Type 0} → (Y → X) → Bool → Result X LoadErro
 Follows view failed due (Ok y) = due ≡ Ok (view y)
 Follows view failed due (Err e) = is_told failed e ≡ true → due ≡ Err e
 
--- a table has the rows that are due, or a fault is the one that is due; a read may have failed
+-- the rows that are due stand in the table, or a fault is the one that is due, want of memory aside
 abbrev pub Loads : Result (List Row) LoadError → Result Contents LoadError → Type 0
-Loads due result = Follows (λ t. t.rows) true due result
+Loads due (Ok t) = due ≡ Ok t.rows
+Loads due (Err e) = e ≢ error.OutOfMemory → due ≡ Err e
 
--- the rows that are due came to those that were there, or a fault is the one that is due; a read may have failed
+-- the rows that are due came to those that were there, or the fault is the one that is due, or memory ran out
 abbrev pub Appends : Result (List Row) LoadError → List Row → List Row → Result (Unit {0}) LoadError → Type 0
 Appends due old new (Ok u) = (rows : List Row) × (due ≡ Ok rows) × (new ≡ old ++ rows)
-Appends due old new (Err e) = is_told true e ≡ true → due ≡ Err e
+Appends due old new (Err e) = e ≢ error.OutOfMemory → due ≡ Err e
 
--- where a row was not read, the header and the rows before it are without fault
+-- the row was not read, or memory ran out
+abbrev pub IsUnread : {Y : Type 0} → ℕ → Result Y LoadError → Type 0
+IsUnread row (Ok y) = ⊥
+IsUnread row (Err e) = (e ≡ error.OutOfMemory) ⊎ (e ≡ error.Reader row)
+
+-- where a row was not read, the header and the rows before it are there and without fault
 abbrev pub StopsAfterGood : {Y : Type 0} → List Col → ℕ → List Fields → Result Y LoadError → Type 0
 StopsAfterGood cols room recs result =
-    IfErr result (λ e. (row : ℕ) → e ≡ error.Reader row → 0 < row → (rows : List Row) × (load_of cols room (take row recs) ≡ Ok rows))
+    IfErr result (λ e. (row : ℕ) → e ≡ error.Reader row → 0 < row → (row ≤ length recs) × (rows : List Row) × (load_of cols room (take row recs) ≡ Ok rows))
 
 abbrev pub rows_data : {A : Type 0} → List (List (Value A)) → List Row
 rows_data rs = map (λ r. row_of r) rs

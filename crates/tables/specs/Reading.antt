@@ -1,5 +1,5 @@
 -- How a text is read, record by record.
-use Rattle.std.specs.Prelude.{ℕ, ◌-◌, ◌≡◌, Bool, true, false, List, [], take, Option, Some, None, unwrap_or, Result, Ok, Err, IfErr, ⊤, Vec}
+use Rattle.std.specs.Prelude.{ℕ, ◌-◌, ◌≤◌, ◌≡◌, Bool, true, false, List, [], length, take, Option, Some, None, unwrap_or, Result, Ok, Err, IfErr, ⊤, Vec}
 use Rattle.csv_records.specs.Left.{Left, GivesOf, NextIsUneven}
 use Rattle.value.specs.declared.types.Value.{Value}
 use Rattle.value.specs.Datum.{Row}
@@ -31,7 +31,7 @@ HeaderIs cols old new (Err e) = (is_told new.failed e ≡ true → (room : ℕ) 
 abbrev pub RowsFollow : {A : Type 0} → List Col → ℕ → Option (List Fields) → Bool → Result (Vec (List (Value A)) A) LoadError → Type 0
 RowsFollow cols room known failed result = (recs : List Fields) × AreKnown known recs
     × Follows (λ rows. rows_data rows.items) failed (rows_of cols room 1 recs) result
-    × IfErr result (λ e. (row : ℕ) → e ≡ error.Reader row → (rows : List Row) × (rows_of cols room 1 (take (row - 1) recs) ≡ Ok rows))
+    × IfErr result (λ e. (row : ℕ) → e ≡ error.Reader row → (row - 1 ≤ length recs) × (rows : List Row) × (rows_of cols room 1 (take (row - 1) recs) ≡ Ok rows))
 
 -- the same of a text with its header
 abbrev pub LoadFollows : {A : Type 0} → List Col → ℕ → Option (List Fields) → Bool → Result (Vec (List (Value A)) A) LoadError → Type 0

@@ -1,10 +1,10 @@
 //! Rows from records.
 
-ghost use Rattle.std.specs.Prelude.{◌≡◌, ◌≢◌, ◌+◌, ◌-◌, ◌<◌, ◌≤◌, ◌^◌, ℕ, length, map, true, false, None, Some, All, IfOk, IfErr, OnOk};
+ghost use Rattle.std.specs.Prelude.{◌≡◌, ◌≢◌, ◌+◌, ◌-◌, ◌<◌, ◌≤◌, ◌^◌, ℕ, length, map, true, false, None, Some, All, IfOk, IfErr, OnErr, OnOk};
 ghost use Rattle.csv.specs.Records.{fields_of};
-ghost use Rattle.csv_records.specs.Left.{Gives};
+ghost use Rattle.csv_records.specs.Left.{Gives, counted};
 ghost use Rattle.value.specs.Datum.{datum, row_of};
-ghost use Rattle.tables.specs.Loading.{Follows, cell_of, cells_of, col_of, names};
+ghost use Rattle.tables.specs.Loading.{Follows, IsUnread, cell_of, cells_of, col_of, names};
 ghost use Rattle.tables.specs.Reading.{HeaderIs, LoadFollows, Refuses, RowsFollow};
 ghost use Rattle.tables.specs.declared.LoadError.TheVariants.{Reader};
 
@@ -56,14 +56,14 @@ fn read_row<A: Heap>(
     ensures cells { Follows (λ values. row_of values) false (cells_of (map col_of columns.now) row 0 (fields_of cells.now)) result }
     ensures no_reader { IfErr result (λ e. (r : ℕ) → e ≢ Reader r) }
 {
-    let mut values = Items::new(alloc);
+    let mut values = Vec::with_capacity(alloc, columns.len())?;
     for (i, column) in columns.iter().enumerate() {
         let Some(field) = cells.get(i) else {
             return Err(LoadError::Reader { row });
         };
         values.push(read_cell(alloc, column, field, row, i as u64)?)?;
     }
-    Ok(values)
+    Ok(Items::from(values))
 }
 
 // Reads the next record, and tells whether there was one.
@@ -73,6 +73,8 @@ fn next_record<R: Read>(
     row: u64,
 ) -> Result<bool, LoadError>
     ensures gives { IfOk result (λ found. Gives records.old records.new found (fields_of cells.new)) }
+    ensures given { IfOk result (λ found. records.new.given ≡ counted found records.old.given) }
+    ensures no_more { OnErr result (records.new.given ≡ records.old.given) }
     ensures goes_on { OnOk result (records.new.failed ≡ records.old.failed) }
     ensures refuses { IfErr result (λ e. Refuses row records.old records.new e) }
 {
@@ -91,10 +93,12 @@ fn read_rows<A: Heap, R: Read>(
     room: u64,
 ) -> Result<Vec<Items<Value<A>, A>, A>, LoadError>
     requires expected { records.old.expected ≡ Some (length columns.now) }
+    requires given { records.old.given ≡ 1 }
     requires fresh { records.old.failed ≡ false }
     requires room { room < 2 ^ 64 - 1 }
     ensures wide { IfOk result (λ rows. All (λ r. length r ≡ length columns.now) rows.items) }
     ensures few { IfOk result (λ rows. length rows.items ≤ room) }
+    ensures failed { records.new.failed ≡ true → IsUnread records.new.given result }
     ensures rows { RowsFollow (map col_of columns.now) room records.old.records records.new.failed result }
 {
     let mut rows = Vec::new(alloc);
@@ -138,9 +142,12 @@ fn read_header<A: Heap, R: Read>(
     records: &mut Records<R>,
 ) -> Result<(), LoadError>
     requires expected { records.old.expected ≡ None }
+    requires given { records.old.given ≡ 0 }
     requires fresh { records.old.failed ≡ false }
     ensures expected { OnOk result (records.new.expected ≡ Some (length columns.now)) }
+    ensures given { OnOk result (records.new.given ≡ 1) }
     ensures fresh { OnOk result (records.new.failed ≡ false) }
+    ensures failed { records.new.failed ≡ true → IsUnread records.new.given result }
     ensures header { HeaderIs (map col_of columns.now) records.old records.new result }
 {
     let mut cells = ByteRecord::new(alloc.global());
@@ -159,10 +166,12 @@ pub(crate) fn read_table<A: Heap, R: Read>(
     room: u64,
 ) -> Result<Vec<Items<Value<A>, A>, A>, LoadError>
     requires expected { records.old.expected ≡ None }
+    requires given { records.old.given ≡ 0 }
     requires fresh { records.old.failed ≡ false }
     requires room { room < 2 ^ 64 - 1 }
     ensures wide { IfOk result (λ rows. All (λ r. length r ≡ length columns.now) rows.items) }
     ensures few { IfOk result (λ rows. length rows.items ≤ room) }
+    ensures failed { records.new.failed ≡ true → IsUnread records.new.given result }
     ensures rows { LoadFollows (map col_of columns.now) room records.old.records records.new.failed result }
 {
     read_header(alloc, columns, records)?;

@@ -1,8 +1,8 @@
 //! A table and its rows.
 
-ghost use Rattle.std.specs.Prelude.{◌≡◌, ◌-◌, ◌<◌, ◌≤◌, List, [], length, map, All, IfOk, OnErr, IfSome};
+ghost use Rattle.std.specs.Prelude.{◌≡◌, ◌-◌, ◌<◌, ◌≤◌, true, false, None, List, [], length, map, All, IfOk, OnErr, IfSome};
 ghost use Rattle.value.specs.Datum.{row_of, seen};
-ghost use Rattle.tables.specs.Loading.{Appends, Fields, Loads, StopsAfterGood, cell_at, col_of, load_of, records_of};
+ghost use Rattle.tables.specs.Loading.{Appends, Fields, IsUnread, Loads, StopsAfterGood, cell_at, col_of, load_of};
 ghost use Rattle.tables.specs.declared.TheConstants.{MAX_ROWS};
 
 use crate::load::read_table;
@@ -47,35 +47,45 @@ impl<A: Heap> Table<A> {
         }
     }
 
-    /// The table of a text, whose first record is the names of the columns.
-    pub fn load<R: Read + Drop>(
+    /// The table of records, of which none was read before and the first is the names of the columns (PostgreSQL: COPY with
+    /// `FORMAT csv`, `HEADER MATCH` and `NULL '\N'`, but here a quoted `\N` is null too). A contract sees of the records
+    /// whether a read failed. Where none did, a fault is the first one of the records; where one did, it is told at the row
+    /// that was not read.
+    pub fn load<R: Read>(
         alloc: A,
-        rdr: R,
+        records: &mut Records<R>,
         columns: Items<Column<A>, A>,
     ) -> Result<Table<A>, LoadError>
+        requires expected { records.old.expected ≡ None }
+        requires given { records.old.given ≡ 0 }
+        requires fresh { records.old.failed ≡ false }
         ensures columns { IfOk result (λ t. t.columns ≡ map col_of columns) }
-        ensures rows { IfSome (R.remaining rdr) (λ bytes. Loads (load_of (map col_of columns) MAX_ROWS (records_of bytes)) result) }
-        // The same of a reader whose bytes are not known: what it gave were some records.
-        ensures some_records { (recs : List Fields) × Loads (load_of (map col_of columns) MAX_ROWS recs) result }
-        ensures stops { IfSome (R.remaining rdr) (λ bytes. StopsAfterGood (map col_of columns) MAX_ROWS (records_of bytes) result) }
+        ensures exact { records.new.failed ≡ false → IfSome records.old.records (λ recs. Loads (load_of (map col_of columns) MAX_ROWS recs) result) }
+        // The same of records that are not known: what was read were some records.
+        ensures some_records { records.new.failed ≡ false → (recs : List Fields) × Loads (load_of (map col_of columns) MAX_ROWS recs) result }
+        ensures failed { records.new.failed ≡ true → IsUnread records.new.given result }
+        ensures stops { IfSome records.old.records (λ recs. StopsAfterGood (map col_of columns) MAX_ROWS recs result) }
     {
         let mut table = Table::new(alloc, columns);
-        table.append(rdr)?;
+        table.append(records)?;
         Ok(table)
     }
 
-    /// Adds all the rows of a text, whose first record is the names of the columns, or else none.
-    pub fn append<R: Read + Drop>(&mut self, rdr: R) -> Result<(), LoadError>
+    /// Adds all the rows of records, as `load` reads them, or tells a fault and adds none.
+    pub fn append<R: Read>(&mut self, records: &mut Records<R>) -> Result<(), LoadError>
+        requires expected { records.old.expected ≡ None }
+        requires given { records.old.given ≡ 0 }
+        requires fresh { records.old.failed ≡ false }
         ensures columns { self.new.columns ≡ self.old.columns }
         ensures unchanged { OnErr result (self.new ≡ self.old) }
-        ensures rows { IfSome (R.remaining rdr) (λ bytes. Appends (load_of self.old.columns (MAX_ROWS - length self.old.rows) (records_of bytes)) self.old.rows self.new.rows result) }
-        // The same of a reader whose bytes are not known: what it gave were some records.
-        ensures some_records { (recs : List Fields) × Appends (load_of self.old.columns (MAX_ROWS - length self.old.rows) recs) self.old.rows self.new.rows result }
-        ensures stops { IfSome (R.remaining rdr) (λ bytes. StopsAfterGood self.old.columns (MAX_ROWS - length self.old.rows) (records_of bytes) result) }
+        ensures exact { records.new.failed ≡ false → IfSome records.old.records (λ recs. Appends (load_of self.old.columns (MAX_ROWS - length self.old.rows) recs) self.old.rows self.new.rows result) }
+        // The same of records that are not known: what was read were some records.
+        ensures some_records { records.new.failed ≡ false → (recs : List Fields) × Appends (load_of self.old.columns (MAX_ROWS - length self.old.rows) recs) self.old.rows self.new.rows result }
+        ensures failed { records.new.failed ≡ true → IsUnread records.new.given result }
+        ensures stops { IfSome records.old.records (λ recs. StopsAfterGood self.old.columns (MAX_ROWS - length self.old.rows) recs result) }
     {
         let room = MAX_ROWS - self.rows.len() as u64;
-        let mut records = Records::new(self.alloc.global(), rdr);
-        let mut rows = read_table(self.alloc, self.columns.as_slice(), &mut records, room)?;
+        let mut rows = read_table(self.alloc, self.columns.as_slice(), records, room)?;
         self.rows.append(&mut rows)?;
         Ok(())
     }

@@ -1,3 +1,4 @@
 pub mod Spelling
 pub mod OneSpelling
 pub mod DatumOrder
+pub mod ReadBack

@@ -1,11 +1,11 @@
 -- A bigint has one text.
-use Rattle.std.proofs.Common.{◌≡◌, ◌≢◌, ℕ, ℤ, pos, negsuc, neg_ℤ, zero, suc, Bool, true, false, ◌&&◌, not, ◌==◌, cond, List, [], ◌∷◌, length, get_or, ◌<◌, ◌≤◌, ◌^◌, Result, Ok, Err, refl, sym, ◌∙◌, ap, arith, rules, ◌⊎◌, inl, inr}
+use Rattle.std.proofs.Common.{◌≡◌, ◌≢◌, ℕ, ℤ, pos, negsuc, neg_ℤ, zero, suc, Bool, true, false, not, ◌==◌, cond, List, [], ◌∷◌, length, get_or, ◌<◌, ◌^◌, Result, Ok, Err, refl, sym, ◌∙◌, ap, arith, rules, ◌⊎◌, inl, inr}
 use Rattle.std.specs.List.{list_all}
 use Rattle.std.specs.Str.{all_ascii_digits, bytes_eq}
 use Rattle.std.specs.Char.{is_ascii_digit}
 use Rattle.std.specs.Fmt.{signed_decimal, decimal}
 use Rattle.std.specs.Str.Parse.{digits_value}
-use Rattle.std.proofs.lemmas.Fmt.{decimal_digit, first_decimal, digits_decimal, digits_value-decimal, decimal-digits_value, decimal_nonempty}
+use Rattle.std.proofs.lemmas.Fmt.{decimal_digit, first_decimal, digits_decimal, digits_value-decimal, decimal-digits_value}
 use Rattle.std.proofs.lemmas.Slice.Eq.{bytes_eq-Decides}
 use Rattle.std.proofs.lemmas.Bool.Decides.{nat_tests}
 use Rattle.value.specs.declared.types.Kind.{Kind}
@@ -14,7 +14,7 @@ use Rattle.value.specs.Exact.{in_range, is_bigint}
 use Rattle.value.specs.Texts.{is_positive, is_spelled, spelled, bigint_at}
 use Rattle.value.proofs.Spelling.{own, same_test, both}
 
-chosen : {A : Type 0} (b : Bool) (x y z : A) → cond b x y ≡ z → ((b ≡ true) × (x ≡ z)) ⊎ ((b ≡ false) × (y ≡ z))
+pub chosen : {A : Type 0} (b : Bool) (x y z : A) → cond b x y ≡ z → ((b ≡ true) × (x ≡ z)) ⊎ ((b ≡ false) × (y ≡ z))
 chosen true x y z h = inl (refl, h)
 chosen false x y z h = inr (refl, h)
 

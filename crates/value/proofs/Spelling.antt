@@ -1,13 +1,11 @@
 -- What `parse` gives of a text that is spelled as a bigint.
-use Rattle.std.proofs.Common.{◌≡◌, ℕ, ℤ, pos, negsuc, neg_ℤ, suc, zero, Bool, true, false, ◌&&◌, not, ◌==◌, cond, List, [], ◌∷◌, length, drop, get_or, ◌<◌, ◌≤◌, ◌≢◌, ◌^◌, Result, Ok, Err, OkIff, refl, sym, ◌∙◌, ap, arith, rules, FitsSigned, w64}
+use Rattle.std.proofs.Common.{◌≡◌, ℕ, ℤ, Bool, true, false, ◌&&◌, not, ◌==◌, cond, List, [], ◌∷◌, Err, refl, sym, ◌∙◌, ap, arith, FitsSigned, w64}
 use Rattle.std.specs.List.{list_all}
 use Rattle.std.specs.Str.{all_ascii_digits}
 use Rattle.std.specs.Char.{is_ascii_digit}
-use Rattle.std.specs.Fmt.{signed_decimal, decimal}
-use Rattle.std.specs.Str.Parse.{ParsesSigned, IsNumeral, digits_value, without_leading_sign, signed_digits_value}
+use Rattle.std.specs.Str.Parse.{IsNumeral, digits_value, without_leading_sign, signed_digits_value}
 use Rattle.std.proofs.lemmas.Str.Parse.{IsNumeralModel, numerals_by_value, tells_all_ascii_digits}
 use Rattle.std.proofs.lemmas.Bool.Decides.{nat_tests}
-use Rattle.std.proofs.lemmas.Grind.{common_steps}
 use Rattle.value.specs.declared.types.Kind.TheVariants.{Range}
 use Rattle.value.specs.Exact.{in_range, is_bigint}
 use Rattle.value.specs.Texts.{is_positive, is_spelled, spelled, bigint_at}

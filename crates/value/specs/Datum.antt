@@ -1,5 +1,5 @@
 -- A value without its place in memory.
-use Rattle.std.specs.Prelude.{ℕ, ℤ, Bool, List, map}
+use Rattle.std.specs.Prelude.{ℕ, ℤ, Bool, List, map, Result, Ok, Err}
 use Rattle.std.specs.Cow.{cow_str_bytes}
 use Rattle.value.specs.declared.types.Value.{Value}
 use Rattle.value.specs.declared.types.Value.TheVariants as owned
@@ -32,3 +32,8 @@ seen (lent.Bool b) = bool b
 
 abbrev pub row_of : {A : Type 0} → List (Value A) → Row
 row_of values = map datum values
+
+-- what a function of values returned
+abbrev pub sees : {A E : Type 0} → Result (Val A) E → Result Datum E
+sees (Ok v) = Ok (seen v)
+sees (Err e) = Err e

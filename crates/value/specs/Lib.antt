@@ -1,5 +1,9 @@
 pub mod Datum
 pub mod Orders
+pub mod Truths
+pub mod Conditions
 pub mod Exact
 pub mod Texts
+pub mod Casts
+pub mod Faults
 pub mod Codes

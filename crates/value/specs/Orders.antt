@@ -52,6 +52,9 @@ compared test (bool b) y = of_bool (test (datum_cmp (bool b) y))
 abbrev pub equal_of : Datum → Datum → Truth
 equal_of = compared is_eq
 
+abbrev pub less_of : Datum → Datum → Truth
+less_of = compared is_lt
+
 abbrev pub is_true : Truth → Bool
 is_true True = true
 is_true False = false

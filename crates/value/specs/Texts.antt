@@ -1,6 +1,6 @@
 -- The texts of values.
 use Rattle.std.specs.Fmt.{signed_decimal}
-use Rattle.std.specs.Prelude.{◌≡◌, ℕ, ℤ, pos, neg_ℤ, Bool, true, false, not, ◌&&◌, ◌==◌, if◌then◌else◌, List, [], ◌∷◌, drop, codes, Result, Ok, Err}
+use Rattle.std.specs.Prelude.{◌≡◌, ℕ, ℤ, pos, neg_ℤ, Bool, true, false, not, ◌&&◌, ◌==◌, if◌then◌else◌, List, [], ◌∷◌, codes, Option, Some, None, Result, Ok, Err}
 use Rattle.std.specs.List.{list_all}
 use Rattle.std.specs.Str.{bytes_eq}
 use Rattle.std.specs.Char.{is_ascii_digit}
@@ -8,7 +8,7 @@ use Rattle.std.specs.Str.Parse.{digits_value}
 use Rattle.value.specs.declared.types.Kind.{Kind}
 use Rattle.value.specs.declared.types.Kind.TheVariants.{BadText}
 use Rattle.value.specs.Exact.{in_range, is_bigint, as_number}
-use Rattle.value.specs.Datum.{Datum, text, bool, datum}
+use Rattle.value.specs.Datum.{Datum, null, int, text, bool, datum}
 use Rattle.value.specs.declared.types.ColType.{ColType}
 use Rattle.value.specs.declared.types.ColType.TheVariants as types
 use Rattle.value.specs.declared.types.Value.{Value}
@@ -57,3 +57,28 @@ abbrev pub Reads : {A : Type 0} → Result (Value A) ReadError → Result Datum 
 Reads (Ok v) due = due ≡ Ok (datum v)
 Reads (Err (errors.Kind k)) due = due ≡ Err k
 Reads (Err errors.Memory) due = Unit {0}
+
+-- ---- writing
+
+-- the text of a value: a number in decimal, t or f, or the text itself; null has none
+abbrev pub text_at : Datum → Option (List ℕ)
+text_at null = None
+text_at (int n) = Some (signed_decimal n)
+text_at (text t) = Some t
+text_at (bool true) = Some (codes "t")
+text_at (bool false) = Some (codes "f")
+
+-- the value is of the type
+abbrev pub is_of : ColType → Datum → Bool
+is_of types.Bigint (int n) = is_bigint n
+is_of types.Text (text t) = true
+is_of types.Boolean (bool b) = true
+is_of kind d = false
+
+-- the text of a value of a type reads as the value
+abbrev pub WrittenReadsBack : Type 0
+WrittenReadsBack = (kind : ColType) (d : Datum) (t : List ℕ) → is_of kind d ≡ true → text_at d ≡ Some t → value_at kind t ≡ Ok d
+
+-- what reads as a value of a type is the text of the value
+abbrev pub ReadIsWritten : Type 0
+ReadIsWritten = (kind : ColType) (d : Datum) (t : List ℕ) → value_at kind t ≡ Ok d → text_at d ≡ Some t

@@ -3,7 +3,7 @@
 ghost use Rattle.std.specs.Prelude.{◌≡◌, IsTrue, ◌↔◌, List, map, IsPermutation, IsSorted};
 ghost use Rattle.bags.specs.Sorting.{sorted_by};
 ghost use Rattle.value.specs.Datum.{Row, seen, null, row_of};
-ghost use Rattle.value.specs.Orders.{datum_cmp, row_cmp, equal_of, class};
+ghost use Rattle.value.specs.Orders.{datum_cmp, row_cmp, compared, equal_of, less_of, class};
 
 use crate::types::{Val, Value};
 use memory::Heap;
@@ -50,17 +50,31 @@ fn is_null<A: Heap>(a: &Val<'_, A>) -> bool
     matches!(a, Val::Null)
 }
 
-/// Whether two values are equal; unknown where one is null (PostgreSQL: Comparison Functions and Operators).
-pub fn eq3<A: Heap>(a: &Val<'_, A>, b: &Val<'_, A>) -> Truth
-    ensures { result ≡ equal_of (seen a.now) (seen b.now) }
+// What a comparison says; unknown where a value is null.
+fn unless_null<A: Heap>(a: &Val<'_, A>, b: &Val<'_, A>, holds: bool) -> Truth
+    ensures { result ≡ compared (λ _. holds) (seen a.now) (seen b.now) }
 {
     if is_null(a) || is_null(b) {
         Truth::Unknown
-    } else if cmp_values(a, b).is_eq() {
+    } else if holds {
         Truth::True
     } else {
         Truth::False
     }
+}
+
+/// Whether two values are equal; unknown where one is null (PostgreSQL: Comparison Functions and Operators).
+pub fn eq3<A: Heap>(a: &Val<'_, A>, b: &Val<'_, A>) -> Truth
+    ensures { result ≡ equal_of (seen a.now) (seen b.now) }
+{
+    unless_null(a, b, cmp_values(a, b).is_eq())
+}
+
+/// Whether a value is less than another; unknown where one is null (PostgreSQL: Comparison Functions and Operators).
+pub fn lt3<A: Heap>(a: &Val<'_, A>, b: &Val<'_, A>) -> Truth
+    ensures { result ≡ less_of (seen a.now) (seen b.now) }
+{
+    unless_null(a, b, cmp_values(a, b).is_lt())
 }
 
 /// The order of rows, by all columns from left to right.

@@ -62,6 +62,57 @@ fn refused_by_root(rt: HostRuntime) {
     }
 }
 
+// What is not served yet is refused before all else: names that nothing has, and an actor that may not.
+#[test]
+fn not_served_yet(rt: HostRuntime) {
+    let rows = [
+        "CREATE ROLE alice SUPERUSER;",
+        "CREATE ROLE new BYPASSRLS;",
+        "GRANT alice TO boss;",
+        "GRANT nosuch TO nosuch;",
+        "REVOKE alice FROM boss;",
+        "CREATE INDEX i ON nosuch (id);",
+        "ALTER TABLE nosuch DISABLE ROW LEVEL SECURITY;",
+        "ALTER TABLE deal FORCE ROW LEVEL SECURITY;",
+        "ALTER TABLE deal NO FORCE ROW LEVEL SECURITY;",
+        "GRANT SELECT (id) ON nosuch TO nosuch;",
+        "GRANT SELECT (id, owner) ON deal TO lone;",
+        "REVOKE SELECT ON nosuch FROM nosuch;",
+        "REVOKE SELECT (id) ON deal FROM PUBLIC;",
+        "DROP POLICY own ON deal;",
+        "CREATE POLICY p ON nosuch USING (id > 1);",
+        "CREATE POLICY p ON nosuch AS RESTRICTIVE USING (id = 1);",
+        "CREATE POLICY p ON nosuch TO nosuch USING (1 = id);",
+        "CREATE POLICY p ON deal USING (id = 1 AND owner = 'x');",
+        "CREATE POLICY p ON deal USING (TRUE);",
+        "CREATE POLICY p ON deal USING (id = id);",
+        "CREATE POLICY p ON deal USING (id = 1 IS NULL);",
+        "CREATE POLICY p ON deal USING (id + 1 = 2);",
+        "CREATE POLICY p ON deal USING (NOT id = 1);",
+    ];
+    for text in rows {
+        for actor in ["root", "lone", "zed"] {
+            let mut store = made(&rt);
+            let done = apply(rt.alloc(), &mut store, actor, text);
+            let want = Err(Stop::Statement(Refusal::FeatureNotSupported));
+            assert_eq!(rt; done, want, "{actor}: {text}");
+            assert_eq!(rt; store.catalog().roles(), 4);
+            assert_eq!(rt; store.catalog().tables(), 1);
+        }
+    }
+}
+
+#[test]
+fn served_with_all_words(rt: HostRuntime) {
+    let mut store = made(&rt);
+    let text = "CREATE TABLE t (a bigint NOT NULL, b boolean);
+        CREATE POLICY p ON t AS PERMISSIVE FOR SELECT TO lone, PUBLIC USING ((b = TRUE));";
+    assert_eq!(rt; apply(rt.alloc(), &mut store, "alice", text), Ok(()));
+    let text = "CREATE TABLE u (a text); CREATE POLICY p ON u FOR ALL USING (u.a = CURRENT_USER);";
+    assert_eq!(rt; apply(rt.alloc(), &mut store, "alice", text), Ok(()));
+    assert_eq!(rt; store.catalog().tables(), 3);
+}
+
 #[test]
 fn refused_policies(rt: HostRuntime) {
     let rows = [
@@ -93,6 +144,14 @@ fn refused_policies(rt: HostRuntime) {
             "CREATE POLICY p ON t USING (a = CURRENT_USER);",
             Refusal::DatatypeMismatch,
         ),
+        (
+            "CREATE POLICY p ON t USING (d = 't');",
+            Refusal::DatatypeMismatch,
+        ),
+        (
+            "CREATE POLICY p ON t USING (d = CURRENT_USER);",
+            Refusal::DatatypeMismatch,
+        ),
     ];
     for (text, why) in rows {
         let mut store = made(&rt);
@@ -101,7 +160,7 @@ fn refused_policies(rt: HostRuntime) {
             alloc,
             &mut store,
             "root",
-            "CREATE TABLE t (a bigint, b text);",
+            "CREATE TABLE t (a bigint, b text, d boolean);",
         );
         assert_eq!(rt; table, Ok(()));
         let done = apply(alloc, &mut store, "root", text);
@@ -186,13 +245,8 @@ fn refused_schema_texts(rt: HostRuntime) {
         ("CREATE ROLE a", 13),
         ("CREATE ROLE select;", 12),
         ("CREATE TABLE t ();", 16),
-        ("CREATE TABLE t (a boolean);", 18),
-        ("CREATE TABLE t (a bigint NOT NULL);", 25),
-        ("GRANT SELECT (id) ON t TO a;", 13),
-        ("CREATE POLICY p ON t USING (a < 1);", 30),
         ("CREATE POLICY p ON t USING (a = 9223372036854775808);", 32),
         ("CREATE POLICY p ON t USING (a = '\\N');", 32),
-        ("ALTER TABLE t DISABLE ROW LEVEL SECURITY;", 14),
         ("; CREATE ROLE a;", 0),
         ("CREATE ROLE a; -- more", 15),
     ];

@@ -1,5 +1,6 @@
 //! Texts of queries, and where they are refused.
 
+use crate::shown::{Printer, show_query};
 use std::alloc::{AllocError, Global};
 use std::process::Abort;
 use std::test::Fail;
@@ -19,10 +20,9 @@ fn refused_at_the_token_behind_the_longest_front(rt: HostRuntime) {
         ("SELECT a b FROM t", 9),
         ("SELECT a, FROM t", 10),
         ("SELECT a.b.c FROM t", 10),
-        ("SELECT a FROM t, u", 15),
-        ("SELECT a FROM t WHERE a = 1", 16),
-        ("SELECT * FROM t", 7),
-        ("SELECT 1 FROM t", 7),
+        ("SELECT a FROM t, 1", 17),
+        ("SELECT a FROM t WHERE a = 1 = 2", 28),
+        ("SELECT *, a FROM t", 8),
         ("SELECT a FROM t;", 15),
         ("SELECT a -- x", 9),
         ("SELECT a /* x", 9),
@@ -92,21 +92,19 @@ fn at_most_65536_bytes(rt: HostRuntime) -> Result<(), Fail> {
 }
 
 #[test]
-fn words_are_folded(rt: HostRuntime) {
-    let found = parse_query(rt.alloc(), "sElEcT Deal . ID, Role FROM Table");
-    match found {
+fn words_are_folded(rt: HostRuntime) -> Result<(), AllocError> {
+    let alloc = rt.alloc();
+    match parse_query(alloc, "sElEcT Deal . ID, Role FROM Table") {
         Ok(query) => {
-            assert_eq!(rt; query.table.as_str(), "table");
-            assert_eq!(rt; query.table_offset, 28);
-            let columns = query.columns.as_slice();
-            assert_eq!(rt; columns.len(), 2);
-            assert_eq!(rt; columns[0].name.as_str(), "id");
-            assert_eq!(rt; columns[0].offset, 7);
-            assert!(rt; columns[0].table.is_some());
-            assert_eq!(rt; columns[1].name.as_str(), "role");
-            assert_eq!(rt; columns[1].offset, 18);
-            assert!(rt; columns[1].table.is_none());
+            let mut out = Printer {
+                text: String::new(alloc),
+                placed: true,
+            };
+            show_query(&query, &mut out)?;
+            let want = "SELECT deal.id@7, role@18 FROM table@28";
+            assert_eq!(rt; out.text.as_str(), want);
         }
         Err(error) => panic!(rt; "{error:?}"),
     }
+    Ok(())
 }

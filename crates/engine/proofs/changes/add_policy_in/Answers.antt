@@ -1,18 +1,18 @@
-use Rattle.std.proofs.Common.{◌++◌, ◌∷◌, [], get_or, map, sym, refl, ap, ◌∙◌}
+use Rattle.std.proofs.Common.{◌++◌, ◌∷◌, [], get_or, map, sym}
 use Rattle.std.proofs.lemmas.List.{map-append}
-use Rattle.syntax.specs.View.{policy_text}
+use Rattle.engine.specs.PlainView.{plain_policy_of}
 use Rattle.std.specs.Str.{bytes_eq}
-use Rattle.engine.specs.Catalogue.{policy_entry, table_entry}
+use Rattle.engine.specs.Catalogue.{table_entry}
 use Rattle.engine.specs.Changes.{policy_of}
 use Rattle.engine.proofs.Places.{set_at, none_at, with_policies}
 use Rattle.engine.proofs.changes.add_policy_in.Goals as goal
 
 pub returns-in_ok-push-clause-done : goal.returns-in_ok-push-clause-done
 returns-in_ok-push-clause-done g c =
-    set_at (λ t. bytes_eq t.name c.args.policy.now.table) (λ t. table_entry t) c.index-tables-i.result (λ t. record t { policies = t.policies ++ policy_of (policy_text c.args.policy.now) t ∷ [] }) _ c.args.tables.now c.in-Some.i
+    set_at (λ t. bytes_eq t.name c.args.policy.now.table.now) (λ t. table_entry t) c.index-tables-i.result (λ t. record t { policies = t.policies ++ policy_of (plain_policy_of c.args.policy.now) t ∷ [] }) _ c.args.tables.now c.in-Some.i
     (rw c.as_str.ensures at (sym c.in-Some.ensures.place))
     (with_policies (table_entry (get_or c.args.tables.now c.in-Some.i c.index-tables-i.result)) _ _ (rw (c.in_ok-push.ensures.ok, map-append, c.in_ok-made.ensures)))
 
 pub returns-in_default-clause-done : goal.returns-in_default-clause-done
 returns-in_default-clause-done g c =
-    sym (none_at (λ t. bytes_eq t.name c.args.policy.now.table) (λ t. record t { policies = t.policies ++ policy_of (policy_text c.args.policy.now) t ∷ [] }) (map (λ t. table_entry t) c.args.tables.now) (rw c.as_str.ensures at (sym c.in_default.ensures.place)))
+    sym (none_at (λ t. bytes_eq t.name c.args.policy.now.table.now) (λ t. record t { policies = t.policies ++ policy_of (plain_policy_of c.args.policy.now) t ∷ [] }) (map (λ t. table_entry t) c.args.tables.now) (rw c.as_str.ensures at (sym c.in_default.ensures.place)))

@@ -1,5 +1,4 @@
-use Rattle.std.proofs.Common.{◌++◌, get_or, map, sym, refl, ap, ◌∙◌}
-use Rattle.std.proofs.lemmas.List.{map-append}
+use Rattle.std.proofs.Common.{◌++◌, get_or, map, sym, ap, ◌∙◌}
 use Rattle.std.specs.Str.{bytes_eq}
 use Rattle.engine.specs.Catalogue.{table_entry}
 use Rattle.engine.specs.Changes.{grants_to}

@@ -1,5 +1,6 @@
 use Rattle.std.proofs.Common.{◌≡◌, drop, map}
-use Rattle.syntax.specs.View.{column_entry, side_of}
+use Rattle.syntax.specs.View.{column_entry}
+use Rattle.engine.specs.PlainView.{side_of}
 use Rattle.engine.specs.Changes.{fits}
 use Rattle.engine.proofs.objections.fits.Given as goal
 

@@ -1,5 +1,7 @@
 use Rattle.row_tokens.proofs.Places.{are_slices, are_in_order}
-use Rattle.row_tokens.proofs.Quoted.{are_in_quotes}
+use Rattle.row_tokens.proofs.Shapes.{are_in_quotes}
+use Rattle.row_tokens.proofs.Lasts.{are_good_but_last}
+use Rattle.row_tokens.proofs.Signs.{have_their_signs}
 use Rattle.row_tokens.proofs.laws.tokens_stand_in_text.Goals as goal
 
 pub returns-clause-slices : goal.returns-clause-slices
@@ -10,3 +12,9 @@ returns-clause-order c = are_in_order
 
 pub returns-clause-quotes : goal.returns-clause-quotes
 returns-clause-quotes c = are_in_quotes
+
+pub returns-clause-good : goal.returns-clause-good
+returns-clause-good c = are_good_but_last
+
+pub returns-clause-signs : goal.returns-clause-signs
+returns-clause-signs c = have_their_signs

@@ -2,9 +2,11 @@ use Rattle.std.proofs.Common.{◌≡◌, ◌-◌, map}
 use Rattle.row_grammar.specs.Limits.{reads}
 use Rattle.row_tokens.specs.declared.token.Kind.TheVariants as k
 use Rattle.row_tokens.specs.View.{word_of}
-use Rattle.syntax.specs.Rules.{grammar, run_limit, depth_limit, is, next_name, names}
+use Rattle.syntax.specs.Language.{is}
+use Rattle.syntax.specs.Expressions.{grammar}
+use Rattle.syntax.specs.Expressions.{next_name, names}
 use Rattle.syntax.proofs.Lists.{listed}
 use Rattle.syntax.proofs.names.names.Given as goal
 
 abbrev pub invariant-loop : goal.invariant-loop
-invariant-loop g l = listed (λ x. x) next_name (is k.Comma) l.all (l.most - l.counter) (map word_of l.rest) ≡ reads grammar run_limit depth_limit names (map word_of l.tokens)
+invariant-loop g l = listed l.reader.width l.reader.depth (λ x. x) next_name (is k.Comma) l.all (l.most - l.counter) (map word_of l.rest) ≡ reads grammar l.reader.width l.reader.depth names (map word_of l.tokens)

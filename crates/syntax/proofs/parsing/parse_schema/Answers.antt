@@ -1,7 +1,9 @@
 use Rattle.std.proofs.Common.{map}
-use Rattle.syntax.proofs.TextAnswer.{schema_determined, gives_found, gives_only, schema_refused}
-use Rattle.syntax.specs.Parsing.{parsed_schema}
+use Rattle.syntax.specs.Parsing.{parsed_schema, schema_bytes}
+use Rattle.syntax.specs.Statements.{schema}
 use Rattle.syntax.specs.View.{act_of}
+use Rattle.syntax.proofs.Decides.{schema_good}
+use Rattle.syntax.proofs.TextAnswer.{schema_determined, gives_found, gives_only, within_refused}
 use Rattle.syntax.proofs.parsing.parse_schema.Goals as goal
 
 pub returns-clause-found : goal.returns-clause-found
@@ -10,8 +12,7 @@ returns-clause-found g c = gives_found schema_determined (λ found. map (λ s. a
 
 pub returns-clause-only : goal.returns-clause-only
 unfolding parsed_schema
-returns-clause-only g c = λ acts h l. gives_only schema_determined (λ found. map (λ s. act_of s) found) c.args.text.now c.read_schema.result c.read_schema.ensures acts h l tt
+returns-clause-only g c = λ t h l. gives_only schema_determined (λ found. map (λ s. act_of s) found) c.args.text.now c.read_schema.result c.read_schema.ensures t h l tt
 
 pub returns-clause-refused : goal.returns-clause-refused
-unfolding parsed_schema
-returns-clause-refused g c = schema_refused c.args.text.now (λ found. map (λ s. act_of s) found) c.read_schema.result c.read_schema.ensures
+returns-clause-refused g c = within_refused schema schema_good schema_bytes c.args.text.now (λ found. map (λ s. act_of s) found) c.read_schema.result c.read_schema.ensures

@@ -1,6 +1,6 @@
 use Rattle.std.proofs.Common.{map, ap, ◌∙◌}
 use Rattle.row_tokens.specs.View.{word_of}
-use Rattle.syntax.specs.Rules.{schema}
+use Rattle.syntax.specs.Statements.{schema}
 use Rattle.syntax.specs.Parsing.{schema_bytes}
 use Rattle.syntax.specs.View.{act_of}
 use Rattle.syntax.proofs.Decides.{schema_good}

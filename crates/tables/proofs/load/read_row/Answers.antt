@@ -13,15 +13,15 @@ returns-in_default g c =
 
 pub loop-i-preserved : goal.loop-i-preserved
 loop-i-preserved g c =
-    let items = c.in_ok-push.ensures.ok in
-    let next = one_cell c.args.columns.now (fields_of c.args.cells.now) c.args.row c.loop-i.i c.index-columns-i.result c.in-Some.field.now (row_of c.loop-i.values) _ c.loop-i-test.true c.index-columns-i.is c.in-Some.ensures.value c.loop-i.invariant.1 in
+    let items = c.in_ok-push.ensures.items in
+    let next = one_cell c.args.columns.now (fields_of c.args.cells.now) c.args.row c.loop-i.i c.index-columns-i.result c.in-Some.field.now (row_of c.loop-i.values.items) _ c.loop-i-test.true c.index-columns-i.is c.in-Some.ensures.value c.loop-i.invariant.1 in
     (rw items (search (rules, length-append)), rw (items, map-append) (rw (c.in_ok-read_cell.ensures.cell, after-both) at next))
 
 pub returns-in_err-read_cell-clause-cells : goal.returns-in_err-read_cell-clause-cells
 returns-in_err-read_cell-clause-cells g c =
-    let p = err_from_is_err_and c.from_residual.result c.from_residual.ensures.1 in
-    let next = one_cell c.args.columns.now (fields_of c.args.cells.now) c.args.row c.loop-i.i c.index-columns-i.result c.in-Some.field.now (row_of c.loop-i.values) _ c.loop-i-test.true c.index-columns-i.is c.in-Some.ensures.value c.loop-i.invariant.1 in
+    let p = err_from_is_err_and c.from_residual-in_err-read_cell.result c.from_residual-in_err-read_cell.ensures.1 in
+    let next = one_cell c.args.columns.now (fields_of c.args.cells.now) c.args.row c.loop-i.i c.index-columns-i.result c.in-Some.field.now (row_of c.loop-i.values.items) _ c.loop-i-test.true c.index-columns-i.is c.in-Some.ensures.value c.loop-i.invariant.1 in
     rw (p.1, p.2) (λ told. rw (c.in_err-read_cell.ensures.cell told) at next)
 
 pub returns-clause-cells : goal.returns-clause-cells
-returns-clause-cells g c = c.loop-i.invariant.1 ∙ no_cells _ _ c.args.row c.loop-i.i _ (rw length-map c.loop-i-test.false)
+returns-clause-cells g c = rw c.from.ensures (c.loop-i.invariant.1 ∙ no_cells _ _ c.args.row c.loop-i.i _ (rw length-map c.loop-i-test.false))

@@ -7,4 +7,4 @@ use Rattle.tables.proofs.load.read_row.Given as goal
 
 abbrev pub invariant-loop-i : goal.invariant-loop-i
 invariant-loop-i g l =
-    (length l.values ≡ l.i) × (cells_of (map col_of l.columns) l.row 0 (fields_of l.cells) ≡ after (row_of l.values) (cells_of (drop l.i (map col_of l.columns)) l.row l.i (drop l.i (fields_of l.cells))))
+    (length l.values.items ≡ l.i) × (cells_of (map col_of l.columns) l.row 0 (fields_of l.cells) ≡ after (row_of l.values.items) (cells_of (drop l.i (map col_of l.columns)) l.row l.i (drop l.i (fields_of l.cells))))

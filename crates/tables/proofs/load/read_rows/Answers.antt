@@ -1,16 +1,17 @@
-use Rattle.std.proofs.Common.{rules, arith, ◌≡◌, ◌≤◌, map, length, Some, refl, ◌∙◌}
+use Rattle.std.proofs.Common.{rules, arith, ◌≡◌, ◌≤◌, ◌+◌, map, length, Some, refl, ◌∙◌}
 use Rattle.std.proofs.lemmas.List.{length-append, length-map, map-append}
 use Rattle.std.proofs.lemmas.List.Elements.{All-push}
 use Rattle.std.proofs.lemmas.Result.{err_from_is_err_and}
 use Rattle.csv.specs.Records.{fields_of}
 use Rattle.tables.specs.Loading.{col_of, rows_data}
-use Rattle.tables.proofs.Follow.{all_seen, cell_refused, no_room_left, one_more_seen, out_of_memory, refused, start_seen, width}
+use Rattle.tables.proofs.Follow.{all_seen, cell_refused, counted_one, no_room_left, one_more_seen, out_of_memory, refused, refuses_unread, start_seen, width}
 use Rattle.tables.proofs.load.read_rows.Goals as goal
 
 pub loop-done-init : goal.loop-done-init
 loop-done-init g c = record {
   count = search rules;
   expected = c.requires.expected;
+  given = c.requires.given;
   fresh = c.requires.fresh;
   wide = search rules;
   seen = rw c.new-rows.ensures.items (start_seen (map col_of c.args.columns.now) c.args.room c.args.records.now.records);
@@ -51,6 +52,7 @@ loop-done-preserved g c =
     record {
       count = rw items (search (rules, length-append));
       expected = rw length-map at (width (length cols) c.loop-done.records c.next_record.new.records (fields_of c.next_record.new.cells) gives expected).1;
+      given = counted_one c.loop-done.done c.args.room _ _ _ c.loop-done-test.true c.requires.room c.if-not-branch.false c.in_ok-next_record.ensures.given c.loop-done.invariant.given;
       fresh = c.in_ok-next_record.ensures.goes_on ∙ c.loop-done.invariant.fresh;
       wide = rw items (All-push (λ r. length r ≡ length c.args.columns.now) c.loop-done.rows.items _ c.loop-done.invariant.wide c.in_ok-read_row.ensures.wide);
       seen = rw (items, map-append) (one_more_seen cols c.args.room c.loop-done.done (rows_data c.loop-done.rows.items) _ c.args.records.now.records c.loop-done.records c.next_record.new.records (fields_of c.next_record.new.cells) c.loop-done-test.true c.loop-done.invariant.seen gives expected c.in_ok-read_row.ensures.cells);
@@ -78,3 +80,17 @@ pub returns-clause-rows : goal.returns-clause-rows
 returns-clause-rows g c =
     let gives = rw c.if-branch.false at c.in_ok-next_record-2.ensures.gives in
     all_seen (map col_of c.args.columns.now) c.args.room c.loop-done.done c.loop-done.rows c.args.records.now.records c.loop-done.records c.next_record-2.new.records (fields_of c.next_record-2.new.cells) c.next_record-2.new.records.failed c.loop-done.invariant.seen gives
+
+pub returns-in_err-next_record-clause-failed : goal.returns-in_err-next_record-clause-failed
+returns-in_err-next_record-clause-failed g c =
+    let p = err_from_is_err_and c.from_residual.result c.from_residual.ensures.1 in
+    let given = c.in_err-next_record.ensures.no_more ∙ c.loop-done.invariant.given in
+    rw (p.1, p.2) (λ _. refuses_unread (c.loop-done.done + 1) _ c.loop-done.records c.next_record.new.records _ given c.in_err-next_record.ensures.refuses)
+
+pub returns-in_err-next_record-2-clause-failed : goal.returns-in_err-next_record-2-clause-failed
+returns-in_err-next_record-2-clause-failed g c =
+    let p = err_from_is_err_and c.from_residual-in_err-next_record-2.result c.from_residual-in_err-next_record-2.ensures.1 in
+    let full : c.args.room ≡ c.loop-done.done = omega arith in
+    let given = c.in_err-next_record-2.ensures.no_more ∙ c.loop-done.invariant.given in
+    let refuses = rw full at c.in_err-next_record-2.ensures.refuses in
+    rw (p.1, p.2) (λ _. refuses_unread (c.loop-done.done + 1) _ c.loop-done.records c.next_record-2.new.records _ given refuses)

@@ -1,5 +1,4 @@
-use Rattle.std.proofs.Common.{sym, ◌∙◌, ap, rules}
-use Rattle.value.specs.Texts.{is_spelled}
+use Rattle.std.proofs.Common.{rules}
 use Rattle.value.proofs.Spelling.{parsed_err}
 use Rattle.value.proofs.reading.read_bigint.Goals as goal
 

@@ -1,5 +1,4 @@
 use Rattle.std.proofs.Common.{[], map, sym, refl}
-use Rattle.tables.specs.Loading.{records_of}
 use Rattle.engine.specs.Stored.{is_named}
 use Rattle.engine.specs.World.{stored_entry}
 use Rattle.engine.proofs.Places.{none_found}
@@ -7,28 +6,30 @@ use Rattle.engine.proofs.Loads.{IfSome-all, IfSome-map, rows_loaded, fault_told}
 use Rattle.engine.proofs.store.Store.load.Goals as goal
 use Rattle.engine.proofs.store.Store.load.Goals.{in-Ok, in-Err}
 
-pub returns-in_default-clause-rows : goal.returns-in_default-clause-rows
-returns-in_default-clause-rows g c =
-    rw (← c.self.view_is) (IfSome-all (g.R.Read.remaining c.args.rdr) _ (λ bytes. none_found (is_named c.args.table.now) _ (sym (rw c.deref.ensures.value at c.in_default.ensures.place))))
+pub returns-in_default-clause-exact : goal.returns-in_default-clause-exact
+returns-in_default-clause-exact g c =
+    λ fine. rw (← c.self.view_is) (IfSome-all c.args.records.now.records _ (λ recs. none_found (is_named c.args.table.now) _ (sym (rw c.deref.ensures.value at c.in_default.ensures.place))))
 
 pub returns-in_default-clause-some_records : goal.returns-in_default-clause-some_records
 returns-in_default-clause-some_records g c =
-    rw (← c.self.view_is) ([], none_found (is_named c.args.table.now) _ (sym (rw c.deref.ensures.value at c.in_default.ensures.place)))
+    λ fine. rw (← c.self.view_is) ([], none_found (is_named c.args.table.now) _ (sym (rw c.deref.ensures.value at c.in_default.ensures.place)))
 
-pub returns-clause-rows : goal.returns-clause-rows
-returns-clause-rows g c =
+pub returns-clause-exact : goal.returns-clause-exact
+returns-clause-exact g c =
+    λ fine.
     let entries = c.self.inside.contents.items in
     let at = sym (rw c.deref.ensures.value at c.in-Some.ensures.place) in
     elim c.match-append.branch [
-      | in-Ok w ↦ rw (← c.self.view_is, w.result-is) (IfSome-map (g.R.Read.remaining c.args.rdr) _ _ (λ bytes h. rows_loaded (λ e. stored_entry e) c.args.table.now (records_of bytes) c.index_mut.result.now entries c.in-Some.i at c.index_mut.ensures.value _ _ refl c.append.ensures.columns h) (rw w.in-Ok.is at c.append.ensures.rows))
-      | in-Err w ↦ rw (← c.self.view_is, w.result-is) (IfSome-map (g.R.Read.remaining c.args.rdr) _ _ (λ bytes h. fault_told (λ e. stored_entry e) c.args.table.now (records_of bytes) c.index_mut.result.now entries c.in-Some.i at c.index_mut.ensures.value (map (λ e. stored_entry e) entries) _ h) (rw w.in-Err.is at c.append.ensures.rows))
+      | in-Ok w ↦ rw (← c.self.view_is, w.result-is) (IfSome-map c.args.records.now.records _ _ (λ recs h. rows_loaded (λ e. stored_entry e) c.args.table.now recs c.index_mut.result.now entries c.in-Some.i at c.index_mut.ensures.value _ _ refl c.append.ensures.columns h) ((rw w.in-Ok.is at c.append.ensures.exact) fine))
+      | in-Err w ↦ rw (← c.self.view_is, w.result-is) (IfSome-map c.args.records.now.records _ _ (λ recs h. fault_told (λ e. stored_entry e) c.args.table.now recs c.index_mut.result.now entries c.in-Some.i at c.index_mut.ensures.value (map (λ e. stored_entry e) entries) _ h) ((rw w.in-Err.is at c.append.ensures.exact) fine))
     ]
 
 pub returns-clause-some_records : goal.returns-clause-some_records
 returns-clause-some_records g c =
+    λ fine.
     let entries = c.self.inside.contents.items in
     let at = sym (rw c.deref.ensures.value at c.in-Some.ensures.place) in
     elim c.match-append.branch [
-      | in-Ok w ↦ let h = rw w.in-Ok.is at c.append.ensures.some_records in rw (← c.self.view_is, w.result-is) (h.0, rows_loaded (λ e. stored_entry e) c.args.table.now h.0 c.index_mut.result.now entries c.in-Some.i at c.index_mut.ensures.value _ _ refl c.append.ensures.columns h.1)
-      | in-Err w ↦ let h = rw w.in-Err.is at c.append.ensures.some_records in rw (← c.self.view_is, w.result-is) (h.0, fault_told (λ e. stored_entry e) c.args.table.now h.0 c.index_mut.result.now entries c.in-Some.i at c.index_mut.ensures.value (map (λ e. stored_entry e) entries) _ h.1)
+      | in-Ok w ↦ let h = (rw w.in-Ok.is at c.append.ensures.some_records) fine in rw (← c.self.view_is, w.result-is) (h.0, rows_loaded (λ e. stored_entry e) c.args.table.now h.0 c.index_mut.result.now entries c.in-Some.i at c.index_mut.ensures.value _ _ refl c.append.ensures.columns h.1)
+      | in-Err w ↦ let h = (rw w.in-Err.is at c.append.ensures.some_records) fine in rw (← c.self.view_is, w.result-is) (h.0, fault_told (λ e. stored_entry e) c.args.table.now h.0 c.index_mut.result.now entries c.in-Some.i at c.index_mut.ensures.value (map (λ e. stored_entry e) entries) _ h.1)
     ]

@@ -1,0 +1,13 @@
+use Rattle.std.proofs.Common.{◌≡◌, ◌-◌, map}
+use Rattle.row_grammar.specs.Limits.{reads}
+use Rattle.row_tokens.specs.declared.token.Kind.TheVariants as k
+use Rattle.row_tokens.specs.View.{word_of}
+use Rattle.syntax.specs.Language.{is}
+use Rattle.syntax.specs.Expressions.{grammar}
+use Rattle.syntax.specs.Queries.{next_key, keys}
+use Rattle.syntax.specs.View.{key_of}
+use Rattle.syntax.proofs.Lists.{listed}
+use Rattle.syntax.proofs.queries.keys.Given as goal
+
+abbrev pub invariant-loop : goal.invariant-loop
+invariant-loop g l = listed l.reader.width l.reader.depth (λ k. key_of k) next_key (is k.Comma) l.all (l.most - l.counter) (map word_of l.rest) ≡ reads grammar l.reader.width l.reader.depth keys (map word_of l.tokens)

@@ -1,0 +1,349 @@
+-- The grammar of names, literals and expressions: a definition for each rule.
+use Rattle.std.specs.Prelude.{ℕ, ℤ, pos, neg_ℤ, Bool, true, false, ◌||◌, List, [], ◌∷◌, map, Option, Some, None, is_some, unwrap_or, if◌then◌else◌}
+use Rattle.std.specs.List.{flat_map}
+use Rattle.row_grammar.specs.Grammar.{word, nothing, both, either, made, many, nest, inner, Grammar}
+use Rattle.row_tokens.specs.declared.token.Kind.{Kind}
+use Rattle.row_tokens.specs.declared.token.Kind.TheVariants as k
+use Rattle.row_tokens.specs.Words.{Word, quoted_value}
+use Rattle.value.specs.Datum.{Datum, null, int, text, bool}
+use Rattle.value.specs.Exact.{is_bigint}
+use Rattle.value.specs.declared.types.ColType.{ColType}
+use Rattle.value.specs.declared.types.ColType.TheVariants as types
+use Rattle.syntax.specs.Tree.{Name, ColumnWord, Ex, column as column_ex, literal as literal_ex, asker, opposite, arithmetic, comparison as comparison_ex, between as between_ex, among, null_test as null_test_ex, negation as negation_ex, all_of, any_of, cast as cast_ex, choice, row_count, call, exs_of, arms_of, Other, no_other, other, and_members, or_members}
+use Rattle.syntax.specs.Language.{Nested, an_expression, a_negation, a_unary, Placed, Tree, language, Rule, is, of, is_name, maybe, after, inside, listed, name_of}
+use Rattle.syntax.specs.declared.reader.Class.TheVariants as c
+use Rattle.syntax.specs.declared.tree.Arithmetic.{Arithmetic}
+use Rattle.syntax.specs.declared.tree.Arithmetic.TheVariants as sign
+use Rattle.syntax.specs.declared.tree.Comparison.{Comparison}
+use Rattle.syntax.specs.declared.tree.Comparison.TheVariants as sign'
+use Rattle.syntax.specs.declared.tree.Function.{Function}
+use Rattle.syntax.specs.declared.tree.Function.TheVariants as function
+
+-- ---- trees
+
+abbrev pub column_of : Word → Option Name → ColumnWord
+column_of w None = record { table = None; name = name_of w; at = w.at }
+column_of w (Some n) = record { table = Some (name_of w); name = n; at = w.at }
+
+abbrev pub column_at : Word → Option Name → Ex
+column_at w n = column_ex (column_of w n)
+
+-- a number of 64 bits; no token is a greater one
+abbrev pub number_of : ℤ → Datum
+number_of z = int (if is_bigint z then z else pos 0)
+
+abbrev pub arithmetic_of : Kind → Arithmetic
+arithmetic_of k.Plus = sign.Add
+arithmetic_of k.Star = sign.Multiply
+arithmetic_of k.Slash = sign.Divide
+arithmetic_of k.Percent = sign.Remainder
+arithmetic_of _ = sign.Subtract
+
+abbrev pub comparison_of : Kind → Comparison
+comparison_of k.NotEqual = sign'.NotEqual
+comparison_of k.Less = sign'.Less
+comparison_of k.LessEqual = sign'.LessOrEqual
+comparison_of k.Greater = sign'.Greater
+comparison_of k.GreaterEqual = sign'.GreaterOrEqual
+comparison_of _ = sign'.Equal
+
+abbrev pub function_of : Kind → Function
+function_of k.Min = function.Min
+function_of k.Max = function.Max
+function_of _ = function.Sum
+
+-- operators bind from the left
+abbrev pub folded_left : Placed → List (Word × Placed) → Placed
+folded_left x [] = x
+folded_left x (y ∷ ys) = folded_left (x.0, arithmetic (arithmetic_of y.0.kind) y.0.at x.1 y.1.1) ys
+
+-- AND of several; a member that is itself an AND is merged
+abbrev pub and_of : Placed → List (Word × Placed) → Placed
+and_of x [] = x
+and_of x (y ∷ ys) = (x.0, all_of y.0.at (exs_of (flat_map and_members (x.1 ∷ map (λ z. z.1.1) (y ∷ ys)))))
+
+abbrev pub or_of : Placed → List (Word × Placed) → Placed
+or_of x [] = x
+or_of x (y ∷ ys) = (x.0, any_of y.0.at (exs_of (flat_map or_members (x.1 ∷ map (λ z. z.1.1) (y ∷ ys)))))
+
+abbrev pub compared : Placed → Option (Word × Placed) → Placed
+compared x None = x
+compared x (Some p) = (x.0, comparison_ex (comparison_of p.0.kind) p.0.at x.1 p.1.1)
+
+-- what may follow in BETWEEN or IN
+pub data Range : Type 0 where
+  -- where BETWEEN stands, and its bounds
+  bounds : ℕ → Ex → Ex → Range
+  -- where IN stands, and its values
+  values : ℕ → List Datum → Range
+
+-- a range, and where a NOT before it stands
+abbrev pub ranged : Placed → Option (Option ℕ × Range) → Placed
+ranged x None = x
+ranged x (Some (n, bounds at a b)) = (x.0, between_ex (is_some n) (unwrap_or n at) x.1 a b)
+ranged x (Some (n, values at vs)) = (x.0, among (is_some n) (unwrap_or n at) vs x.1)
+
+-- where IS stands, and whether NOT follows
+abbrev pub null_tested : Placed → Option (ℕ × Bool) → Placed
+null_tested x None = x
+null_tested x (Some p) = (x.0, null_test_ex p.1 p.0 x.1)
+
+-- what may follow a word that is a function's name or a column's
+pub data Tail : Type 0 where
+  -- ( * )
+  every_row : Tail
+  -- ( a )
+  argument : Ex → Tail
+  -- . name, or nothing
+  dotted : Option Name → Tail
+
+abbrev pub counted : Word → Tail → Ex
+counted w every_row = row_count w.at
+counted w (argument a) = call function.Count w.at a
+counted w (dotted n) = column_at w n
+
+abbrev pub called : Word → Tail → Ex
+called w every_row = row_count w.at
+called w (argument a) = call (function_of w.kind) w.at a
+called w (dotted n) = column_at w n
+
+-- ---- names
+
+unfoldable pub name : Rule Name
+name = made name_of (word (of c.Name))
+
+unfoldable pub next_name : Rule Name
+next_name = after (is k.Comma) name
+
+-- name {, name}
+unfoldable pub names : Rule (List Name)
+names = listed name next_name
+
+-- [. name]
+unfoldable pub dot_name : Rule (Option Name)
+dot_name = maybe (after (is k.Dot) name)
+
+-- col := name [. name]
+unfoldable pub column : Rule ColumnWord
+column = made (λ p. column_of p.0 p.1) (both (word (of c.Name)) dot_name)
+
+unfoldable pub next_column : Rule ColumnWord
+next_column = after (is k.Comma) column
+
+-- col {, col}
+unfoldable pub columns : Rule (List ColumnWord)
+columns = listed column next_column
+
+-- type := bigint | text
+unfoldable pub type_name : Rule ColType
+type_name = either (made (λ w. types.Bigint) (word (is k.Bigint))) (made (λ w. types.Text) (word (is k.Text)))
+
+-- ---- literals, each with where it begins
+
+-- TRUE | FALSE | NULL
+unfoldable pub word_literal : Rule (ℕ × Datum)
+word_literal =
+    either (made (λ w. (w.at, bool true)) (word (is k.True)))
+    (either (made (λ w. (w.at, bool false)) (word (is k.False)))
+    (made (λ w. (w.at, null)) (word (is k.Null))))
+
+-- number | text | TRUE | FALSE | NULL
+unfoldable pub unsigned_literal : Rule (ℕ × Datum)
+unsigned_literal =
+    either (made (λ w. (w.at, number_of (pos w.number))) (word (is k.Number)))
+    (either (made (λ w. (w.at, text (quoted_value w.bytes))) (word (is k.Quoted)))
+    word_literal)
+
+-- lit := - number | unsigned_literal; in an expression another minus is an operator
+unfoldable pub literal : Rule (ℕ × Datum)
+literal =
+    either (made (λ p. (p.0.at, number_of (neg_ℤ (pos p.1.number)))) (both (word (is k.Negative)) (word (of c.Magnitude))))
+    unsigned_literal
+
+-- lit in a list of literals, where each minus is a sign
+unfoldable pub value : Rule Datum
+value =
+    either (made (λ p. number_of (neg_ℤ (pos p.1.number))) (both (word (of c.Sign)) (word (of c.Magnitude))))
+    (made (λ p. p.1) unsigned_literal)
+
+unfoldable pub next_value : Rule Datum
+next_value = after (is k.Comma) value
+
+-- lit {, lit}
+unfoldable pub value_list : Rule (List Datum)
+value_list = listed value next_value
+
+-- ---- expressions
+
+-- ( expr )
+unfoldable pub parenthesized : Rule Placed
+parenthesized = made (λ p. (p.0.at, p.1.0.1)) (nest (is k.Open) (both (inner an_expression) (word (is k.Close))))
+
+-- CAST ( expr AS type )
+unfoldable pub cast : Rule Placed
+cast = made (λ p. (p.0.at, cast_ex p.0.at p.1.1 p.1.0.1)) (both (word (is k.Cast)) (inside (both (inner an_expression) (after (is k.As) type_name))))
+
+-- WHEN expr THEN expr
+unfoldable pub arm : Rule (Ex × Ex)
+arm = made (λ p. (p.0.1, p.1.1)) (both (after (is k.When) (inner an_expression)) (after (is k.Then) (inner an_expression)))
+
+unfoldable pub arms : Rule (List (Ex × Ex))
+arms = listed arm arm
+
+-- [ELSE expr]
+unfoldable pub otherwise : Rule Other
+otherwise = either (made (λ e. other e.1) (after (is k.Else) (inner an_expression))) (nothing no_other)
+
+-- CASE arms [ELSE expr] END
+unfoldable pub case : Rule Placed
+case = made (λ p. (p.0.at, choice p.0.at (arms_of p.1.0) p.1.1.0)) (nest (is k.Case) (both arms (both otherwise (word (is k.End)))))
+
+-- * | expr
+unfoldable pub counted_rows : Rule Tail
+counted_rows = either (made (λ w. every_row) (word (is k.Star))) (made (λ e. argument e.1) (inner an_expression))
+
+-- count ( * ) | count ( expr ) | count [. name]
+unfoldable pub count_tail : Rule Tail
+count_tail = either (inside counted_rows) (made dotted dot_name)
+
+unfoldable pub count : Rule Placed
+count = made (λ p. (p.0.at, counted p.0 p.1)) (both (word (is k.Count)) count_tail)
+
+-- f ( expr ) | f [. name]
+unfoldable pub aggregate_tail : Rule Tail
+aggregate_tail = either (made (λ e. argument e.1) (inside (inner an_expression))) (made dotted dot_name)
+
+unfoldable pub aggregate : Rule Placed
+aggregate = made (λ p. (p.0.at, called p.0 p.1)) (both (word (of c.Aggregate)) aggregate_tail)
+
+-- CURRENT_USER | lit
+unfoldable pub constant : Rule Placed
+constant = either (made (λ w. (w.at, asker)) (word (is k.CurrentUser))) (made (λ p. (p.0, literal_ex p.1)) literal)
+
+-- col, its first word being no function's name
+unfoldable pub plain_column : Rule Placed
+plain_column = made (λ p. (p.0.at, column_at p.0 p.1)) (both (word (of c.PlainName)) dot_name)
+
+-- prim := ( expr ) | CAST .. | CASE .. | col | name ( * ) | name ( expr ) | CURRENT_USER | lit
+unfoldable pub primary : Rule Placed
+primary = either parenthesized (either cast (either case (either plain_column (either count (either aggregate constant)))))
+
+-- un := - un | prim
+unfoldable pub unary : Rule Placed
+unary = either (made (λ p. (p.0.at, opposite p.0.at p.1.1)) (nest (is k.Minus) (inner a_unary))) primary
+
+unfoldable pub factor : Rule (Word × Placed)
+factor = both (word (of c.Multiplication)) unary
+
+-- prod := un {(* | / | %) un}
+unfoldable pub product : Rule Placed
+product = made (λ p. folded_left p.0 p.1) (both unary (many true factor))
+
+unfoldable pub addend : Rule (Word × Placed)
+addend = both (word (of c.Addition)) product
+
+-- sum := prod {(+ | -) prod}
+unfoldable pub sum : Rule Placed
+sum = made (λ p. folded_left p.0 p.1) (both product (many true addend))
+
+-- BETWEEN sum AND sum
+unfoldable pub between : Rule Range
+between = made (λ p. bounds p.0.at p.1.0.1 p.1.1.1) (both (word (is k.Between)) (both sum (after (is k.And) sum)))
+
+-- IN ( lit {, lit} )
+unfoldable pub in_list : Rule Range
+in_list = made (λ p. values p.0.at p.1) (both (word (is k.In)) (inside value_list))
+
+unfoldable pub range : Rule Range
+range = either between in_list
+
+-- NOT range
+unfoldable pub negated_range : Rule (ℕ × Range)
+negated_range = made (λ p. (p.0.at, p.1)) (both (word (is k.Not)) range)
+
+-- [[NOT] BETWEEN sum AND sum | [NOT] IN ( lit {, lit} )]
+unfoldable pub range_tail : Rule (Option (Option ℕ × Range))
+range_tail =
+    either (made (λ p. Some (Some p.0, p.1)) negated_range)
+    (either (made (λ r. Some (None, r)) between)
+    (either (made (λ r. Some (None, r)) in_list)
+    (nothing None)))
+
+-- rng := sum range_tail
+unfoldable pub ranged_sum : Rule Placed
+ranged_sum = made (λ p. ranged p.0 p.1) (both sum range_tail)
+
+-- (= | <> | < | <= | > | >=) rng
+unfoldable pub compared_with : Rule (Word × Placed)
+compared_with = both (word (of c.Comparison)) ranged_sum
+
+-- cmp := rng [compared_with]
+unfoldable pub comparison : Rule Placed
+comparison = made (λ p. compared p.0 p.1) (both ranged_sum (maybe compared_with))
+
+-- [NOT] NULL
+unfoldable pub null_word : Rule Bool
+null_word = either (made (λ w. true) (after (is k.Not) (word (is k.Null)))) (made (λ w. false) (word (is k.Null)))
+
+-- IS [NOT] NULL
+unfoldable pub is_null : Rule (ℕ × Bool)
+is_null = made (λ p. (p.0.at, p.1)) (both (word (is k.Is)) null_word)
+
+-- is := cmp [IS [NOT] NULL]
+unfoldable pub null_test : Rule Placed
+null_test = made (λ p. null_tested p.0 p.1) (both comparison (maybe is_null))
+
+-- not := NOT not | is
+unfoldable pub negation : Rule Placed
+negation = either (made (λ p. (p.0.at, negation_ex p.0.at p.1.1)) (nest (is k.Not) (inner a_negation))) null_test
+
+unfoldable pub and_operand : Rule (Word × Placed)
+and_operand = both (word (is k.And)) negation
+
+-- and := not {AND not}
+unfoldable pub conjunction : Rule Placed
+conjunction = made (λ p. and_of p.0 p.1) (both negation (many true and_operand))
+
+unfoldable pub or_operand : Rule (Word × Placed)
+or_operand = both (word (is k.Or)) conjunction
+
+-- expr := and {OR and}
+unfoldable pub expression : Rule Placed
+expression = made (λ p. or_of p.0 p.1) (both conjunction (many true or_operand))
+
+-- ---- the rules that stand a level deeper
+
+abbrev pub rule : (r : Nested) → Rule (Tree r)
+rule an_expression = expression
+rule a_negation = negation
+rule a_unary = unary
+
+-- the kinds that begin an expression behind its minus signs
+abbrev pub begins_primary : Kind → Bool
+begins_primary k.Number = true
+begins_primary k.Negative = true
+begins_primary k.Quoted = true
+begins_primary k.True = true
+begins_primary k.False = true
+begins_primary k.Null = true
+begins_primary k.CurrentUser = true
+begins_primary k.Open = true
+begins_primary k.Cast = true
+begins_primary k.Case = true
+begins_primary kind = is_name kind
+
+abbrev pub nested_first : Nested → Kind → Bool
+nested_first a_unary kind = is k.Minus kind || begins_primary kind
+nested_first an_expression kind = is k.Not kind || (is k.Minus kind || begins_primary kind)
+nested_first a_negation kind = is k.Not kind || (is k.Minus kind || begins_primary kind)
+
+abbrev pub grammar : Grammar language
+grammar = record { rule = rule; inner_first = nested_first }
+
+-- how many operands may follow the first of a run
+unfoldable pub run_limit : ℕ
+run_limit = 63
+
+-- how deep a text may nest
+unfoldable pub depth_limit : ℕ
+depth_limit = 64

@@ -1,0 +1,46 @@
+-- How large a query may be.
+use Rattle.std.specs.Prelude.{ℕ, ◌+◌, Bool, ◌&&◌, nat_le, List, length, map, Option, Some, None}
+use Rattle.std.specs.List.{sum}
+use Rattle.syntax.specs.Tree.{and_members, Condition, Selection, every_column, items, Join, inner_join, cross_join, Chain, Question}
+
+-- the entries of FROM
+abbrev pub entries : List Chain → ℕ
+entries chains = sum (map (λ c. 1 + length c.joins) chains)
+
+-- the conjuncts of a condition: the members of an AND, or itself
+abbrev pub members : Condition → ℕ
+members c = length (and_members c.holds)
+
+abbrev pub join_members : Join → ℕ
+join_members (inner_join e on_) = members on_
+join_members (cross_join e) = 0
+
+abbrev pub filter_members : Option Condition → ℕ
+filter_members None = 0
+filter_members (Some c) = members c
+
+-- the conjuncts of all ON conditions
+abbrev pub from_members : List Chain → ℕ
+from_members chains = sum (map (λ c. sum (map join_members c.joins)) chains)
+
+-- those of ON and WHERE together
+abbrev pub conjuncts : Question → ℕ
+conjuncts q = from_members q.from + filter_members q.filter
+
+abbrev pub item_count : Selection → ℕ
+item_count (every_column at) = 0
+item_count (items list) = length list
+
+-- FROM and the conditions
+abbrev pub few_joined : Question → Bool
+few_joined q = nat_le (entries q.from) 8 && nat_le (conjuncts q) 64
+
+abbrev pub few_lists : Question → Bool
+few_lists q = nat_le (length q.groups) 64 && nat_le (length q.order) 64
+
+-- the items, and the columns of GROUP BY and ORDER BY
+abbrev pub few_columns : Question → Bool
+few_columns q = nat_le (item_count q.selection) 64 && few_lists q
+
+abbrev pub is_small : Question → Bool
+is_small q = few_joined q && few_columns q

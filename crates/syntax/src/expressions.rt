@@ -1,0 +1,575 @@
+//! Expressions, from tokens.
+
+ghost use Rattle.std.specs.Prelude.{◌<◌, map, option_map};
+ghost use Rattle.row_grammar.specs.Limits.{reads, deep_at};
+ghost use Rattle.row_tokens.specs.View.{word_of, words_of};
+ghost use Rattle.syntax.specs.Expressions as rules;
+ghost use Rattle.syntax.specs.Expressions.{grammar};
+ghost use Rattle.syntax.specs.Language.{an_expression, a_negation, a_unary};
+ghost use Rattle.syntax.specs.Reading.{Reads};
+ghost use Rattle.syntax.specs.View.{ex, placed, arm_pair, range_of, signed_of, tail_of, otherwise_of};
+
+use crate::literals::{literal, value_list};
+use crate::names::{dot_name, type_name};
+use crate::parts::{
+    Otherwise, Placed, Range, Tail, and_members, called, case_of, column_at, combined, compared,
+    counted, or_members, ranged,
+};
+use crate::reader::{
+    Class, Parsed, ReadError, Reader, expect, expect_any, next_offset, open, sees, sees_any,
+};
+use crate::tree::{Arm, Expr};
+use memory::Heap;
+use row_tokens::{Kind, Token};
+
+/// An expression a level deeper.
+#[cycle(expression)]
+#[tactic(auto, using(row_grammar::proofs::Steps::deep_is))]
+pub fn inner_expression<'t, A: Heap>(
+    reader: Reader<A>,
+    tokens: &'t [Token<'t>],
+) -> Parsed<'t, Placed<A>>
+    requires { 0 < reader.depth }
+    ensures { Reads (λ x. (placed x.0, words_of x.1.now)) result (deep_at grammar reader.width reader.depth an_expression (words_of tokens.now)) }
+{
+    expression(reader.deeper(), tokens)
+}
+
+// A negation a level deeper.
+#[cycle(expression)]
+#[tactic(auto, using(row_grammar::proofs::Steps::deep_is))]
+fn inner_negation<'t, A: Heap>(reader: Reader<A>, tokens: &'t [Token<'t>]) -> Parsed<'t, Placed<A>>
+    requires { 0 < reader.depth }
+    ensures { Reads (λ x. (placed x.0, words_of x.1.now)) result (deep_at grammar reader.width reader.depth a_negation (words_of tokens.now)) }
+{
+    negation(reader.deeper(), tokens)
+}
+
+// A unary expression a level deeper.
+#[cycle(expression)]
+#[tactic(auto, using(row_grammar::proofs::Steps::deep_is))]
+fn inner_unary<'t, A: Heap>(reader: Reader<A>, tokens: &'t [Token<'t>]) -> Parsed<'t, Placed<A>>
+    requires { 0 < reader.depth }
+    ensures { Reads (λ x. (placed x.0, words_of x.1.now)) result (deep_at grammar reader.width reader.depth a_unary (words_of tokens.now)) }
+{
+    unary(reader.deeper(), tokens)
+}
+
+// `( expr )`.
+#[cycle(expression)]
+#[tactic(auto, unfolding(crate::specs::Expressions::parenthesized))]
+fn parenthesized<'t, A: Heap>(reader: Reader<A>, tokens: &'t [Token<'t>]) -> Parsed<'t, Placed<A>>
+    ensures { Reads (λ x. (placed x.0, words_of x.1.now)) result (reads grammar reader.width reader.depth rules.parenthesized (words_of tokens.now)) }
+{
+    let (sign, rest) = open(Kind::Open, reader.depth, tokens)?;
+    let ((_, inner), rest) = inner_expression(reader, rest)?;
+    let (_, rest) = expect(Kind::Close, rest)?;
+    Ok(((sign.offset, inner), rest))
+}
+
+// `CAST ( expr AS type )`.
+#[cycle(expression)]
+#[tactic(auto, unfolding(crate::specs::Expressions::cast))]
+fn cast<'t, A: Heap>(reader: Reader<A>, tokens: &'t [Token<'t>]) -> Parsed<'t, Placed<A>>
+    ensures { Reads (λ x. (placed x.0, words_of x.1.now)) result (reads grammar reader.width reader.depth rules.cast (words_of tokens.now)) }
+{
+    let (word, rest) = expect(Kind::Cast, tokens)?;
+    let (_, rest) = open(Kind::Open, reader.depth, rest)?;
+    let ((_, value), rest) = inner_expression(reader, rest)?;
+    let (_, rest) = expect(Kind::As, rest)?;
+    let (to, rest) = type_name(reader, rest)?;
+    let (_, rest) = expect(Kind::Close, rest)?;
+    let value = Box::new(reader.alloc, value)?;
+    Ok(((word.offset, Expr::Cast(word.offset, to, value)), rest))
+}
+
+// `WHEN expr THEN expr`.
+#[cycle(expression)]
+#[tactic(auto, unfolding(crate::specs::Expressions::arm))]
+fn arm<'t, A: Heap>(reader: Reader<A>, tokens: &'t [Token<'t>]) -> Parsed<'t, Arm<A>>
+    requires { 0 < reader.depth }
+    ensures { Reads (λ x. (arm_pair x.0, words_of x.1.now)) result (reads grammar reader.width reader.depth rules.arm (words_of tokens.now)) }
+{
+    let (_, rest) = expect(Kind::When, tokens)?;
+    let ((_, when), rest) = inner_expression(reader, rest)?;
+    let (_, rest) = expect(Kind::Then, rest)?;
+    let ((_, gives), rest) = inner_expression(reader, rest)?;
+    Ok((Arm { when, gives }, rest))
+}
+
+// The arms of a CASE.
+#[cycle(expression)]
+fn arms<'t, A: Heap>(reader: Reader<A>, tokens: &'t [Token<'t>]) -> Parsed<'t, Vec<Arm<A>, A>>
+    requires { 0 < reader.depth }
+    ensures { Reads (λ x. (map (λ a. arm_pair a) x.0.items, words_of x.1.now)) result (reads grammar reader.width reader.depth rules.arms (words_of tokens.now)) }
+{
+    let (first, mut rest) = arm(reader, tokens)?;
+    let mut all = Vec::new(reader.alloc);
+    all.push(first)?;
+    let most = rest.len();
+    for _ in 0..most {
+        if !sees(Kind::When, rest) {
+            return Ok((all, rest));
+        }
+        let (next, after) = arm(reader, rest)?;
+        all.push(next)?;
+        rest = after;
+    }
+    Ok((all, rest))
+}
+
+// `[ELSE expr]`.
+#[cycle(expression)]
+#[tactic(auto, unfolding(crate::specs::Expressions::otherwise))]
+fn otherwise<'t, A: Heap>(reader: Reader<A>, tokens: &'t [Token<'t>]) -> Parsed<'t, Otherwise<A>>
+    requires { 0 < reader.depth }
+    ensures { Reads (λ x. (otherwise_of x.0, words_of x.1.now)) result (reads grammar reader.width reader.depth rules.otherwise (words_of tokens.now)) }
+{
+    if !sees(Kind::Else, tokens) {
+        return Ok((Otherwise::Nothing, tokens));
+    }
+    let (_, rest) = expect(Kind::Else, tokens)?;
+    let ((_, value), rest) = inner_expression(reader, rest)?;
+    Ok((Otherwise::Value(value), rest))
+}
+
+// `CASE arms [ELSE expr] END`.
+#[cycle(expression)]
+#[tactic(auto, unfolding(crate::specs::Expressions::case))]
+fn case<'t, A: Heap>(reader: Reader<A>, tokens: &'t [Token<'t>]) -> Parsed<'t, Placed<A>>
+    ensures { Reads (λ x. (placed x.0, words_of x.1.now)) result (reads grammar reader.width reader.depth rules.case (words_of tokens.now)) }
+{
+    let (word, rest) = open(Kind::Case, reader.depth, tokens)?;
+    let (arms, rest) = arms(reader, rest)?;
+    let (other, rest) = otherwise(reader, rest)?;
+    let (_, rest) = expect(Kind::End, rest)?;
+    let offset = word.offset;
+    let case = case_of(reader.alloc, offset, arms, other)?;
+    Ok(((offset, case), rest))
+}
+
+// `* | expr`.
+#[cycle(expression)]
+#[tactic(auto, unfolding(crate::specs::Expressions::counted_rows))]
+fn counted_rows<'t, A: Heap>(reader: Reader<A>, tokens: &'t [Token<'t>]) -> Parsed<'t, Tail<A>>
+    requires { 0 < reader.depth }
+    ensures { Reads (λ x. (tail_of x.0, words_of x.1.now)) result (reads grammar reader.width reader.depth rules.counted_rows (words_of tokens.now)) }
+{
+    if sees(Kind::Star, tokens) {
+        let (_, rest) = expect(Kind::Star, tokens)?;
+        Ok((Tail::EveryRow, rest))
+    } else {
+        let ((_, argument), rest) = inner_expression(reader, tokens)?;
+        Ok((Tail::Argument(argument), rest))
+    }
+}
+
+// What follows `count`.
+#[cycle(expression)]
+#[tactic(auto, unfolding(crate::specs::Expressions::count_tail))]
+fn count_tail<'t, A: Heap>(reader: Reader<A>, tokens: &'t [Token<'t>]) -> Parsed<'t, Tail<A>>
+    ensures { Reads (λ x. (tail_of x.0, words_of x.1.now)) result (reads grammar reader.width reader.depth rules.count_tail (words_of tokens.now)) }
+{
+    if sees(Kind::Open, tokens) {
+        let (_, rest) = open(Kind::Open, reader.depth, tokens)?;
+        let (tail, rest) = counted_rows(reader, rest)?;
+        let (_, rest) = expect(Kind::Close, rest)?;
+        Ok((tail, rest))
+    } else {
+        let (name, rest) = dot_name(reader, tokens)?;
+        Ok((Tail::Dotted(name), rest))
+    }
+}
+
+// `count` and what follows it.
+#[cycle(expression)]
+#[tactic(auto, unfolding(crate::specs::Expressions::count))]
+fn count<'t, A: Heap>(reader: Reader<A>, tokens: &'t [Token<'t>]) -> Parsed<'t, Placed<A>>
+    ensures { Reads (λ x. (placed x.0, words_of x.1.now)) result (reads grammar reader.width reader.depth rules.count (words_of tokens.now)) }
+{
+    let (word, rest) = expect(Kind::Count, tokens)?;
+    let (tail, rest) = count_tail(reader, rest)?;
+    let value = counted(reader.alloc, &word, tail)?;
+    Ok(((word.offset, value), rest))
+}
+
+// What follows another function's name.
+#[cycle(expression)]
+#[tactic(auto, unfolding(crate::specs::Expressions::aggregate_tail))]
+fn aggregate_tail<'t, A: Heap>(reader: Reader<A>, tokens: &'t [Token<'t>]) -> Parsed<'t, Tail<A>>
+    ensures { Reads (λ x. (tail_of x.0, words_of x.1.now)) result (reads grammar reader.width reader.depth rules.aggregate_tail (words_of tokens.now)) }
+{
+    if sees(Kind::Open, tokens) {
+        let (_, rest) = open(Kind::Open, reader.depth, tokens)?;
+        let ((_, argument), rest) = inner_expression(reader, rest)?;
+        let (_, rest) = expect(Kind::Close, rest)?;
+        Ok((Tail::Argument(argument), rest))
+    } else {
+        let (name, rest) = dot_name(reader, tokens)?;
+        Ok((Tail::Dotted(name), rest))
+    }
+}
+
+// Another function's name and what follows it.
+#[cycle(expression)]
+#[tactic(auto, unfolding(crate::specs::Expressions::aggregate))]
+fn aggregate<'t, A: Heap>(reader: Reader<A>, tokens: &'t [Token<'t>]) -> Parsed<'t, Placed<A>>
+    ensures { Reads (λ x. (placed x.0, words_of x.1.now)) result (reads grammar reader.width reader.depth rules.aggregate (words_of tokens.now)) }
+{
+    let (word, rest) = expect_any(Class::Aggregate, tokens)?;
+    let (tail, rest) = aggregate_tail(reader, rest)?;
+    let value = called(reader.alloc, &word, tail)?;
+    Ok(((word.offset, value), rest))
+}
+
+// `CURRENT_USER` or a literal.
+#[tactic(auto, unfolding(crate::specs::Expressions::constant))]
+fn constant<'t, A: Heap>(reader: Reader<A>, tokens: &'t [Token<'t>]) -> Parsed<'t, Placed<A>>
+    ensures { Reads (λ x. (placed x.0, words_of x.1.now)) result (reads grammar reader.width reader.depth rules.constant (words_of tokens.now)) }
+{
+    if sees(Kind::CurrentUser, tokens) {
+        let (word, rest) = expect(Kind::CurrentUser, tokens)?;
+        Ok(((word.offset, Expr::CurrentUser), rest))
+    } else {
+        let ((start, value), rest) = literal(reader, tokens)?;
+        Ok(((start, Expr::Literal(value)), rest))
+    }
+}
+
+// A column whose first word is no function's name.
+#[tactic(auto, unfolding(crate::specs::Expressions::plain_column))]
+fn plain_column<'t, A: Heap>(reader: Reader<A>, tokens: &'t [Token<'t>]) -> Parsed<'t, Placed<A>>
+    ensures { Reads (λ x. (placed x.0, words_of x.1.now)) result (reads grammar reader.width reader.depth rules.plain_column (words_of tokens.now)) }
+{
+    let (word, rest) = expect_any(Class::PlainName, tokens)?;
+    let (name, rest) = dot_name(reader, rest)?;
+    let column = column_at(reader.alloc, &word, name)?;
+    Ok(((word.offset, column), rest))
+}
+
+// An expression without an operator outside parentheses.
+#[cycle(expression)]
+#[tactic(auto, unfolding(crate::specs::Expressions::primary, crate::specs::Expressions::parenthesized, crate::specs::Expressions::cast, crate::specs::Expressions::case, crate::specs::Expressions::plain_column, crate::specs::Expressions::count, crate::specs::Expressions::aggregate))]
+fn primary<'t, A: Heap>(reader: Reader<A>, tokens: &'t [Token<'t>]) -> Parsed<'t, Placed<A>>
+    ensures { Reads (λ x. (placed x.0, words_of x.1.now)) result (reads grammar reader.width reader.depth rules.primary (words_of tokens.now)) }
+{
+    if sees(Kind::Open, tokens) {
+        parenthesized(reader, tokens)
+    } else if sees(Kind::Cast, tokens) {
+        cast(reader, tokens)
+    } else if sees(Kind::Case, tokens) {
+        case(reader, tokens)
+    } else if sees_any(Class::PlainName, tokens) {
+        plain_column(reader, tokens)
+    } else if sees(Kind::Count, tokens) {
+        count(reader, tokens)
+    } else if sees_any(Class::Aggregate, tokens) {
+        aggregate(reader, tokens)
+    } else {
+        constant(reader, tokens)
+    }
+}
+
+// `- unary | primary`.
+#[cycle(expression)]
+#[tactic(auto, unfolding(crate::specs::Expressions::unary))]
+fn unary<'t, A: Heap>(reader: Reader<A>, tokens: &'t [Token<'t>]) -> Parsed<'t, Placed<A>>
+    ensures { Reads (λ x. (placed x.0, words_of x.1.now)) result (reads grammar reader.width reader.depth rules.unary (words_of tokens.now)) }
+{
+    if sees(Kind::Minus, tokens) {
+        let (sign, rest) = open(Kind::Minus, reader.depth, tokens)?;
+        let ((_, inner), rest) = inner_unary(reader, rest)?;
+        let inner = Box::new(reader.alloc, inner)?;
+        Ok(((sign.offset, Expr::Opposite(sign.offset, inner)), rest))
+    } else {
+        primary(reader, tokens)
+    }
+}
+
+// `* unary` and the like.
+#[cycle(expression)]
+#[tactic(auto, unfolding(crate::specs::Expressions::factor))]
+fn factor<'t, A: Heap>(
+    reader: Reader<A>,
+    tokens: &'t [Token<'t>],
+) -> Parsed<'t, (Token<'t>, Placed<A>)>
+    ensures { Reads (λ x. ((word_of x.0.0, placed x.0.1), words_of x.1.now)) result (reads grammar reader.width reader.depth rules.factor (words_of tokens.now)) }
+{
+    let (sign, rest) = expect_any(Class::Multiplication, tokens)?;
+    let (operand, rest) = unary(reader, rest)?;
+    Ok(((sign, operand), rest))
+}
+
+// `unary {(* | / | %) unary}`.
+#[cycle(expression)]
+fn product<'t, A: Heap>(reader: Reader<A>, tokens: &'t [Token<'t>]) -> Parsed<'t, Placed<A>>
+    ensures { Reads (λ x. (placed x.0, words_of x.1.now)) result (reads grammar reader.width reader.depth rules.product (words_of tokens.now)) }
+{
+    let (mut left, mut rest) = unary(reader, tokens)?;
+    for _ in 0..reader.width {
+        if !sees_any(Class::Multiplication, rest) {
+            return Ok((left, rest));
+        }
+        let ((sign, right), after) = factor(reader, rest)?;
+        left = combined(reader.alloc, left, &sign, right)?;
+        rest = after;
+    }
+    if sees_any(Class::Multiplication, rest) {
+        return Err(ReadError::Limit(rest.len()));
+    }
+    Ok((left, rest))
+}
+
+// `+ product` and the like.
+#[cycle(expression)]
+#[tactic(auto, unfolding(crate::specs::Expressions::addend))]
+fn addend<'t, A: Heap>(
+    reader: Reader<A>,
+    tokens: &'t [Token<'t>],
+) -> Parsed<'t, (Token<'t>, Placed<A>)>
+    ensures { Reads (λ x. ((word_of x.0.0, placed x.0.1), words_of x.1.now)) result (reads grammar reader.width reader.depth rules.addend (words_of tokens.now)) }
+{
+    let (sign, rest) = expect_any(Class::Addition, tokens)?;
+    let (operand, rest) = product(reader, rest)?;
+    Ok(((sign, operand), rest))
+}
+
+// `product {(+ | -) product}`.
+#[cycle(expression)]
+fn sum<'t, A: Heap>(reader: Reader<A>, tokens: &'t [Token<'t>]) -> Parsed<'t, Placed<A>>
+    ensures { Reads (λ x. (placed x.0, words_of x.1.now)) result (reads grammar reader.width reader.depth rules.sum (words_of tokens.now)) }
+{
+    let (mut left, mut rest) = product(reader, tokens)?;
+    for _ in 0..reader.width {
+        if !sees_any(Class::Addition, rest) {
+            return Ok((left, rest));
+        }
+        let ((sign, right), after) = addend(reader, rest)?;
+        left = combined(reader.alloc, left, &sign, right)?;
+        rest = after;
+    }
+    if sees_any(Class::Addition, rest) {
+        return Err(ReadError::Limit(rest.len()));
+    }
+    Ok((left, rest))
+}
+
+// `BETWEEN sum AND sum`.
+#[cycle(expression)]
+#[tactic(auto, unfolding(crate::specs::Expressions::between))]
+fn between<'t, A: Heap>(reader: Reader<A>, tokens: &'t [Token<'t>]) -> Parsed<'t, Range<A>>
+    ensures { Reads (λ x. (range_of x.0, words_of x.1.now)) result (reads grammar reader.width reader.depth rules.between (words_of tokens.now)) }
+{
+    let (word, rest) = expect(Kind::Between, tokens)?;
+    let ((_, low), rest) = sum(reader, rest)?;
+    let (_, rest) = expect(Kind::And, rest)?;
+    let ((_, high), rest) = sum(reader, rest)?;
+    Ok((Range::Bounds(word.offset, low, high), rest))
+}
+
+// `IN ( literal {, literal} )`.
+#[tactic(auto, unfolding(crate::specs::Expressions::in_list))]
+fn in_list<'t, A: Heap>(reader: Reader<A>, tokens: &'t [Token<'t>]) -> Parsed<'t, Range<A>>
+    ensures { Reads (λ x. (range_of x.0, words_of x.1.now)) result (reads grammar reader.width reader.depth rules.in_list (words_of tokens.now)) }
+{
+    let (word, rest) = expect(Kind::In, tokens)?;
+    let (_, rest) = open(Kind::Open, reader.depth, rest)?;
+    let (values, rest) = value_list(reader, rest)?;
+    let (_, rest) = expect(Kind::Close, rest)?;
+    Ok((Range::Values(word.offset, values), rest))
+}
+
+// `NOT` and a range.
+#[cycle(expression)]
+#[tactic(auto, unfolding(crate::specs::Expressions::negated_range, crate::specs::Expressions::range, crate::specs::Expressions::between))]
+fn negated_range<'t, A: Heap>(
+    reader: Reader<A>,
+    tokens: &'t [Token<'t>],
+) -> Parsed<'t, (u32, Range<A>)>
+    ensures { Reads (λ x. ((x.0.0, range_of x.0.1), words_of x.1.now)) result (reads grammar reader.width reader.depth rules.negated_range (words_of tokens.now)) }
+{
+    let (word, rest) = expect(Kind::Not, tokens)?;
+    if sees(Kind::Between, rest) {
+        let (range, rest) = between(reader, rest)?;
+        Ok(((word.offset, range), rest))
+    } else {
+        let (range, rest) = in_list(reader, rest)?;
+        Ok(((word.offset, range), rest))
+    }
+}
+
+// A range behind its operand, if there is one, and where a NOT before it stands.
+#[cycle(expression)]
+#[tactic(auto, unfolding(crate::specs::Expressions::range_tail, crate::specs::Expressions::negated_range, crate::specs::Expressions::between, crate::specs::Expressions::in_list))]
+fn range_tail<'t, A: Heap>(
+    reader: Reader<A>,
+    tokens: &'t [Token<'t>],
+) -> Parsed<'t, Option<(Option<u32>, Range<A>)>>
+    ensures { Reads (λ x. (option_map (λ r. signed_of r) x.0, words_of x.1.now)) result (reads grammar reader.width reader.depth rules.range_tail (words_of tokens.now)) }
+{
+    if sees(Kind::Not, tokens) {
+        let ((not, range), rest) = negated_range(reader, tokens)?;
+        Ok((Some((Some(not), range)), rest))
+    } else if sees(Kind::Between, tokens) {
+        let (range, rest) = between(reader, tokens)?;
+        Ok((Some((None, range)), rest))
+    } else if sees(Kind::In, tokens) {
+        let (range, rest) = in_list(reader, tokens)?;
+        Ok((Some((None, range)), rest))
+    } else {
+        Ok((None, tokens))
+    }
+}
+
+// `sum [[NOT] BETWEEN sum AND sum | [NOT] IN (..)]`.
+#[cycle(expression)]
+#[tactic(auto, unfolding(crate::specs::Expressions::ranged_sum))]
+fn ranged_sum<'t, A: Heap>(reader: Reader<A>, tokens: &'t [Token<'t>]) -> Parsed<'t, Placed<A>>
+    ensures { Reads (λ x. (placed x.0, words_of x.1.now)) result (reads grammar reader.width reader.depth rules.ranged_sum (words_of tokens.now)) }
+{
+    let (operand, rest) = sum(reader, tokens)?;
+    let (range, rest) = range_tail(reader, rest)?;
+    Ok((ranged(reader.alloc, operand, range)?, rest))
+}
+
+// A comparison, of which there is at most one.
+#[cycle(expression)]
+#[tactic(auto, unfolding(crate::specs::Expressions::comparison, crate::specs::Expressions::compared_with))]
+fn comparison<'t, A: Heap>(reader: Reader<A>, tokens: &'t [Token<'t>]) -> Parsed<'t, Placed<A>>
+    ensures { Reads (λ x. (placed x.0, words_of x.1.now)) result (reads grammar reader.width reader.depth rules.comparison (words_of tokens.now)) }
+{
+    let (left, rest) = ranged_sum(reader, tokens)?;
+    if !sees_any(Class::Comparison, rest) {
+        return Ok((left, rest));
+    }
+    let (sign, rest) = expect_any(Class::Comparison, rest)?;
+    let (right, rest) = ranged_sum(reader, rest)?;
+    Ok((compared(reader.alloc, left, &sign, right)?, rest))
+}
+
+// `IS [NOT] NULL`, and whether with NOT.
+#[tactic(auto, unfolding(crate::specs::Expressions::is_null, crate::specs::Expressions::null_word))]
+fn is_null<'t, A: Heap>(reader: Reader<A>, tokens: &'t [Token<'t>]) -> Parsed<'t, (u32, bool)>
+    ensures { Reads (λ x. (x.0, words_of x.1.now)) result (reads grammar reader.width reader.depth rules.is_null (words_of tokens.now)) }
+{
+    let (word, rest) = expect(Kind::Is, tokens)?;
+    if sees(Kind::Not, rest) {
+        let (_, rest) = expect(Kind::Not, rest)?;
+        let (_, rest) = expect(Kind::Null, rest)?;
+        Ok(((word.offset, true), rest))
+    } else {
+        let (_, rest) = expect(Kind::Null, rest)?;
+        Ok(((word.offset, false), rest))
+    }
+}
+
+// `comparison [IS [NOT] NULL]`.
+#[cycle(expression)]
+#[tactic(auto, unfolding(crate::specs::Expressions::null_test, crate::specs::Expressions::is_null))]
+fn null_test<'t, A: Heap>(reader: Reader<A>, tokens: &'t [Token<'t>]) -> Parsed<'t, Placed<A>>
+    ensures { Reads (λ x. (placed x.0, words_of x.1.now)) result (reads grammar reader.width reader.depth rules.null_test (words_of tokens.now)) }
+{
+    let ((start, left), rest) = comparison(reader, tokens)?;
+    if !sees(Kind::Is, rest) {
+        return Ok(((start, left), rest));
+    }
+    let ((offset, negated), rest) = is_null(reader, rest)?;
+    let left = Box::new(reader.alloc, left)?;
+    Ok(((start, Expr::IsNull(negated, offset, left)), rest))
+}
+
+// `NOT negation | null test`.
+#[cycle(expression)]
+#[tactic(auto, unfolding(crate::specs::Expressions::negation))]
+fn negation<'t, A: Heap>(reader: Reader<A>, tokens: &'t [Token<'t>]) -> Parsed<'t, Placed<A>>
+    ensures { Reads (λ x. (placed x.0, words_of x.1.now)) result (reads grammar reader.width reader.depth rules.negation (words_of tokens.now)) }
+{
+    if sees(Kind::Not, tokens) {
+        let (word, rest) = open(Kind::Not, reader.depth, tokens)?;
+        let ((_, inner), rest) = inner_negation(reader, rest)?;
+        let inner = Box::new(reader.alloc, inner)?;
+        Ok(((word.offset, Expr::Not(word.offset, inner)), rest))
+    } else {
+        null_test(reader, tokens)
+    }
+}
+
+// `AND negation`.
+#[cycle(expression)]
+#[tactic(auto, unfolding(crate::specs::Expressions::and_operand))]
+fn and_operand<'t, A: Heap>(
+    reader: Reader<A>,
+    tokens: &'t [Token<'t>],
+) -> Parsed<'t, (Token<'t>, Placed<A>)>
+    ensures { Reads (λ x. ((word_of x.0.0, placed x.0.1), words_of x.1.now)) result (reads grammar reader.width reader.depth rules.and_operand (words_of tokens.now)) }
+{
+    let (word, rest) = expect(Kind::And, tokens)?;
+    let (operand, rest) = negation(reader, rest)?;
+    Ok(((word, operand), rest))
+}
+
+// `negation {AND negation}`; a member that is itself an AND is merged.
+#[cycle(expression)]
+fn conjunction<'t, A: Heap>(reader: Reader<A>, tokens: &'t [Token<'t>]) -> Parsed<'t, Placed<A>>
+    ensures { Reads (λ x. (placed x.0, words_of x.1.now)) result (reads grammar reader.width reader.depth rules.conjunction (words_of tokens.now)) }
+{
+    let ((start, first), mut rest) = negation(reader, tokens)?;
+    if !sees(Kind::And, rest) {
+        return Ok(((start, first), rest));
+    }
+    let offset = next_offset(rest);
+    let mut members = and_members(reader.alloc, first)?;
+    for _ in 0..reader.width {
+        if !sees(Kind::And, rest) {
+            return Ok(((start, Expr::And(offset, members)), rest));
+        }
+        let ((_, (_, next)), after) = and_operand(reader, rest)?;
+        let mut more = and_members(reader.alloc, next)?;
+        members.append(&mut more)?;
+        rest = after;
+    }
+    if sees(Kind::And, rest) {
+        return Err(ReadError::Limit(rest.len()));
+    }
+    Ok(((start, Expr::And(offset, members)), rest))
+}
+
+// `OR conjunction`.
+#[cycle(expression)]
+#[tactic(auto, unfolding(crate::specs::Expressions::or_operand))]
+fn or_operand<'t, A: Heap>(
+    reader: Reader<A>,
+    tokens: &'t [Token<'t>],
+) -> Parsed<'t, (Token<'t>, Placed<A>)>
+    ensures { Reads (λ x. ((word_of x.0.0, placed x.0.1), words_of x.1.now)) result (reads grammar reader.width reader.depth rules.or_operand (words_of tokens.now)) }
+{
+    let (word, rest) = expect(Kind::Or, tokens)?;
+    let (operand, rest) = conjunction(reader, rest)?;
+    Ok(((word, operand), rest))
+}
+
+/// An expression: `conjunction {OR conjunction}`; a member that is itself an OR is merged.
+#[cycle(expression)]
+pub fn expression<'t, A: Heap>(reader: Reader<A>, tokens: &'t [Token<'t>]) -> Parsed<'t, Placed<A>>
+    ensures { Reads (λ x. (placed x.0, words_of x.1.now)) result (reads grammar reader.width reader.depth rules.expression (words_of tokens.now)) }
+{
+    let ((start, first), mut rest) = conjunction(reader, tokens)?;
+    if !sees(Kind::Or, rest) {
+        return Ok(((start, first), rest));
+    }
+    let offset = next_offset(rest);
+    let mut members = or_members(reader.alloc, first)?;
+    for _ in 0..reader.width {
+        if !sees(Kind::Or, rest) {
+            return Ok(((start, Expr::Or(offset, members)), rest));
+        }
+        let ((_, (_, next)), after) = or_operand(reader, rest)?;
+        let mut more = or_members(reader.alloc, next)?;
+        members.append(&mut more)?;
+        rest = after;
+    }
+    if sees(Kind::Or, rest) {
+        return Err(ReadError::Limit(rest.len()));
+    }
+    Ok(((start, Expr::Or(offset, members)), rest))
+}

@@ -1,0 +1,145 @@
+//! How large a query may be.
+
+ghost use Rattle.std.specs.Prelude.{◌≡◌, ◌≤◌, ◌-◌, nat_le, length, map, option_map, SomeIff};
+ghost use Rattle.std.specs.List.{sum};
+ghost use Rattle.syntax.specs.Limits as sizes;
+ghost use Rattle.syntax.specs.Limits.{entries, join_members, filter_members, from_members, conjuncts, item_count, few_joined, few_lists, few_columns};
+ghost use Rattle.syntax.specs.Tree as tree;
+ghost use Rattle.syntax.specs.View.{ex, condition_of, selection_of, join_of, chain_of, question_of};
+
+use crate::tree::{Chain, Condition, Expr, Join, Query, Selection};
+use memory::Heap;
+
+// How many entries FROM may have.
+const MOST_ENTRIES: usize = 8;
+
+// How many members the conditions of ON and WHERE may have together, and how many items, columns or keys a list.
+const MOST: usize = 64;
+
+fn few(count: usize) -> bool
+    ensures { result ≡ nat_le count 64 }
+{
+    count <= MOST
+}
+
+// How many conjuncts an expression is.
+fn members<A: Heap>(expr: &Expr<A>) -> usize
+    ensures { result ≡ length (tree.and_members (ex expr.now)) }
+{
+    match expr {
+        Expr::And(_, members) => members.len(),
+        Expr::Column(_)
+        | Expr::Literal(_)
+        | Expr::CurrentUser
+        | Expr::Opposite(..)
+        | Expr::Arithmetic(..)
+        | Expr::Comparison(..)
+        | Expr::Between(..)
+        | Expr::In(..)
+        | Expr::IsNull(..)
+        | Expr::Not(..)
+        | Expr::Or(..)
+        | Expr::Cast(..)
+        | Expr::Case(..)
+        | Expr::CountRows(_)
+        | Expr::Call(..) => 1,
+    }
+}
+
+fn join_members<A: Heap>(join: &Join<A>) -> usize
+    ensures { result ≡ join_members (join_of join.now) }
+{
+    match join {
+        Join::Inner(_, condition) => members(&condition.holds),
+        Join::Cross(_) => 0,
+    }
+}
+
+fn filter_members<A: Heap>(filter: &Option<Condition<A>>) -> usize
+    ensures { result ≡ filter_members (option_map (λ c. condition_of c) filter.now) }
+{
+    match filter {
+        Some(condition) => members(&condition.holds),
+        None => 0,
+    }
+}
+
+// How many of so many conjuncts are left after those of joins; none where they are more.
+fn left_by_joins<A: Heap>(joins: &[Join<A>], room: usize) -> Option<usize>
+    ensures { SomeIff result (sum (map join_members (map (λ j. join_of j) joins.now)) ≤ room) (room - sum (map join_members (map (λ j. join_of j) joins.now))) }
+{
+    let mut left = room;
+    for join in joins {
+        left = left.checked_sub(join_members(join))?;
+    }
+    Some(left)
+}
+
+// The same after those of all joins of FROM.
+fn left_by_chains<A: Heap>(chains: &[Chain<A>], room: usize) -> Option<usize>
+    ensures { SomeIff result (from_members (map (λ c. chain_of c) chains.now) ≤ room) (room - from_members (map (λ c. chain_of c) chains.now)) }
+{
+    let mut left = room;
+    for chain in chains {
+        left = left_by_joins(chain.joins.as_slice(), left)?;
+    }
+    Some(left)
+}
+
+fn few_entries<A: Heap>(chains: &[Chain<A>]) -> bool
+    ensures { result ≡ nat_le (entries (map (λ c. chain_of c) chains.now)) 8 }
+{
+    let mut left = MOST_ENTRIES;
+    for chain in chains {
+        let joins = chain.joins.len();
+        if joins >= left {
+            return false;
+        }
+        left -= 1 + joins;
+    }
+    true
+}
+
+fn few_conjuncts<A: Heap>(query: &Query<A>) -> bool
+    ensures { result ≡ nat_le (conjuncts (question_of query.now)) 64 }
+{
+    match left_by_chains(query.from.as_slice(), MOST) {
+        Some(left) => filter_members(&query.filter) <= left,
+        None => false,
+    }
+}
+
+fn few_items<A: Heap>(selection: &Selection<A>) -> bool
+    ensures { result ≡ nat_le (item_count (selection_of selection.now)) 64 }
+{
+    match selection {
+        Selection::Items(items) => few(items.len()),
+        Selection::All(_) => true,
+    }
+}
+
+fn few_joined<A: Heap>(query: &Query<A>) -> bool
+    ensures { result ≡ few_joined (question_of query.now) }
+{
+    few_entries(query.from.as_slice()) && few_conjuncts(query)
+}
+
+fn few_lists<A: Heap>(query: &Query<A>) -> bool
+    ensures { result ≡ few_lists (question_of query.now) }
+{
+    few(query.groups.len()) && few(query.order.len())
+}
+
+fn few_columns<A: Heap>(query: &Query<A>) -> bool
+    ensures { result ≡ few_columns (question_of query.now) }
+{
+    few_items(&query.selection) && few_lists(query)
+}
+
+/// Whether a query is within the limits: at most 8 entries of FROM, 64 members of the conditions of ON and WHERE together, 64
+/// items, 64 columns of GROUP BY and 64 keys of ORDER BY.
+pub fn is_small<A: Heap>(query: &Query<A>) -> bool
+    ensures { result ≡ sizes.is_small (question_of query.now) }
+{
+    few_joined(query) && few_columns(query)
+}

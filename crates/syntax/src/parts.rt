@@ -1,0 +1,290 @@
+//! Expressions, made of their parts.
+
+ghost use Rattle.std.specs.Prelude.{◌≡◌, ◌∷◌, [], Some, map, option_map, IfOk};
+ghost use Rattle.row_tokens.specs.View.{word_of};
+ghost use Rattle.syntax.specs.Expressions as rules;
+ghost use Rattle.syntax.specs.Tree as tree;
+ghost use Rattle.syntax.specs.Tree.{arms_of};
+ghost use Rattle.syntax.specs.View.{ex, placed, arm_pair, signed_of, tail_of, otherwise_of};
+
+use crate::names::column_ref;
+use crate::tree::{Arithmetic, Arm, Comparison, Expr, Function};
+use memory::Heap;
+use row_tokens::{Kind, Token};
+use std::alloc::AllocError;
+use text::{Items, Text};
+use value::Value;
+
+/// An expression, and where its first token begins.
+pub type Placed<A> = (u32, Expr<A>);
+
+/// What follows in BETWEEN or IN.
+#[derive(Drop)]
+pub enum Range<A: Heap> {
+    /// Where BETWEEN stands, and its bounds.
+    Bounds(u32, Expr<A>, Expr<A>),
+    /// Where IN stands, and its values.
+    Values(u32, Items<Value<A>, A>),
+}
+
+/// What follows a word that is a function's name or a column's.
+#[derive(Drop)]
+pub enum Tail<A: Heap> {
+    /// `( * )`.
+    EveryRow,
+    /// `( a )`.
+    Argument(Expr<A>),
+    /// `. name`, or nothing.
+    Dotted(Option<Text<A>>),
+}
+
+/// What follows ELSE, if it is written.
+#[derive(Drop)]
+pub enum Otherwise<A: Heap> {
+    /// No ELSE.
+    Nothing,
+    /// A result.
+    Value(Expr<A>),
+}
+
+fn arithmetic_of(kind: Kind) -> Arithmetic
+    ensures { result ≡ rules.arithmetic_of kind }
+{
+    match kind {
+        Kind::Plus => Arithmetic::Add,
+        Kind::Star => Arithmetic::Multiply,
+        Kind::Slash => Arithmetic::Divide,
+        Kind::Percent => Arithmetic::Remainder,
+        _ => Arithmetic::Subtract,
+    }
+}
+
+fn comparison_of(kind: Kind) -> Comparison
+    ensures { result ≡ rules.comparison_of kind }
+{
+    match kind {
+        Kind::NotEqual => Comparison::NotEqual,
+        Kind::Less => Comparison::Less,
+        Kind::LessEqual => Comparison::LessOrEqual,
+        Kind::Greater => Comparison::Greater,
+        Kind::GreaterEqual => Comparison::GreaterOrEqual,
+        _ => Comparison::Equal,
+    }
+}
+
+fn function_of(kind: Kind) -> Function
+    ensures { result ≡ rules.function_of kind }
+{
+    match kind {
+        Kind::Min => Function::Min,
+        Kind::Max => Function::Max,
+        _ => Function::Sum,
+    }
+}
+
+/// An operation on two numbers.
+pub fn combined<A: Heap>(
+    alloc: A,
+    left: Placed<A>,
+    sign: &Token<'_>,
+    right: Placed<A>,
+) -> Result<Placed<A>, AllocError>
+    ensures { IfOk result (λ p. placed p ≡ (left.0, tree.arithmetic (rules.arithmetic_of sign.now.kind) sign.now.offset (ex left.1) (ex right.1))) }
+{
+    let (start, left) = left;
+    let (_, right) = right;
+    let left = Box::new(alloc, left)?;
+    let right = Box::new(alloc, right)?;
+    let operator = arithmetic_of(sign.kind);
+    Ok((start, Expr::Arithmetic(operator, sign.offset, left, right)))
+}
+
+/// A comparison.
+pub fn compared<A: Heap>(
+    alloc: A,
+    left: Placed<A>,
+    sign: &Token<'_>,
+    right: Placed<A>,
+) -> Result<Placed<A>, AllocError>
+    ensures { IfOk result (λ p. placed p ≡ (left.0, tree.comparison (rules.comparison_of sign.now.kind) sign.now.offset (ex left.1) (ex right.1))) }
+{
+    let (start, left) = left;
+    let (_, right) = right;
+    let left = Box::new(alloc, left)?;
+    let right = Box::new(alloc, right)?;
+    let operator = comparison_of(sign.kind);
+    Ok((start, Expr::Comparison(operator, sign.offset, left, right)))
+}
+
+fn between<A: Heap>(
+    alloc: A,
+    negated: bool,
+    offset: u32,
+    operand: Expr<A>,
+    bounds: (Expr<A>, Expr<A>),
+) -> Result<Expr<A>, AllocError>
+    ensures { IfOk result (λ e. ex e ≡ tree.between negated offset (ex operand) (ex bounds.0) (ex bounds.1)) }
+{
+    let (low, high) = bounds;
+    let operand = Box::new(alloc, operand)?;
+    let low = Box::new(alloc, low)?;
+    let high = Box::new(alloc, high)?;
+    Ok(Expr::Between(negated, offset, operand, low, high))
+}
+
+// A range behind its operand; `not` is where a NOT before it stands.
+fn in_range<A: Heap>(
+    alloc: A,
+    operand: Placed<A>,
+    not: Option<u32>,
+    range: Range<A>,
+) -> Result<Placed<A>, AllocError>
+    ensures { IfOk result (λ p. placed p ≡ rules.ranged (placed operand) (Some (signed_of (not, range)))) }
+{
+    let (start, operand) = operand;
+    let negated = not.is_some();
+    match range {
+        Range::Bounds(offset, low, high) => {
+            let offset = not.unwrap_or(offset);
+            Ok((
+                start,
+                between(alloc, negated, offset, operand, (low, high))?,
+            ))
+        }
+        Range::Values(offset, values) => {
+            let offset = not.unwrap_or(offset);
+            let operand = Box::new(alloc, operand)?;
+            Ok((start, Expr::In(negated, offset, values, operand)))
+        }
+    }
+}
+
+/// An operand and the range behind it, if there is one, with where a NOT before it stands.
+pub fn ranged<A: Heap>(
+    alloc: A,
+    operand: Placed<A>,
+    range: Option<(Option<u32>, Range<A>)>,
+) -> Result<Placed<A>, AllocError>
+    ensures { IfOk result (λ p. placed p ≡ rules.ranged (placed operand) (option_map (λ r. signed_of r) range)) }
+{
+    match range {
+        Some((not, range)) => in_range(alloc, operand, not, range),
+        None => Ok(operand),
+    }
+}
+
+/// A CASE.
+#[tactic(auto, using(crate::proofs::Trees::tree_lemmas))]
+pub fn case_of<A: Heap>(
+    alloc: A,
+    offset: u32,
+    arms: Vec<Arm<A>, A>,
+    other: Otherwise<A>,
+) -> Result<Expr<A>, AllocError>
+    ensures { IfOk result (λ e. ex e ≡ tree.choice offset (arms_of (map (λ a. arm_pair a) arms.items)) (otherwise_of other)) }
+{
+    match other {
+        Otherwise::Value(value) => {
+            let value = Box::new(alloc, value)?;
+            Ok(Expr::Case(offset, arms, Some(value)))
+        }
+        Otherwise::Nothing => Ok(Expr::Case(offset, arms, None)),
+    }
+}
+
+/// A column.
+pub fn column_at<A: Heap>(
+    alloc: A,
+    word: &Token<'_>,
+    dotted: Option<Text<A>>,
+) -> Result<Expr<A>, AllocError>
+    ensures { IfOk result (λ e. ex e ≡ rules.column_at (word_of word.now) dotted) }
+{
+    Ok(Expr::Column(column_ref(alloc, word, dotted)?))
+}
+
+/// `count` and what follows it.
+pub fn counted<A: Heap>(alloc: A, word: &Token<'_>, tail: Tail<A>) -> Result<Expr<A>, AllocError>
+    ensures { IfOk result (λ e. ex e ≡ rules.counted (word_of word.now) (tail_of tail)) }
+{
+    match tail {
+        Tail::EveryRow => Ok(Expr::CountRows(word.offset)),
+        Tail::Argument(argument) => {
+            let argument = Box::new(alloc, argument)?;
+            Ok(Expr::Call(Function::Count, word.offset, argument))
+        }
+        Tail::Dotted(name) => column_at(alloc, word, name),
+    }
+}
+
+/// Another function's name and what follows it.
+pub fn called<A: Heap>(alloc: A, word: &Token<'_>, tail: Tail<A>) -> Result<Expr<A>, AllocError>
+    ensures { IfOk result (λ e. ex e ≡ rules.called (word_of word.now) (tail_of tail)) }
+{
+    match tail {
+        Tail::EveryRow => Ok(Expr::CountRows(word.offset)),
+        Tail::Argument(argument) => {
+            let argument = Box::new(alloc, argument)?;
+            Ok(Expr::Call(function_of(word.kind), word.offset, argument))
+        }
+        Tail::Dotted(name) => column_at(alloc, word, name),
+    }
+}
+
+fn alone<A: Heap>(alloc: A, member: Expr<A>) -> Result<Vec<Expr<A>, A>, AllocError>
+    ensures { IfOk result (λ v. map (λ e. ex e) v.items ≡ ex member ∷ []) }
+{
+    let mut members = Vec::new(alloc);
+    members.push(member)?;
+    Ok(members)
+}
+
+/// The members of an expression that stands in an AND: its own where it is one.
+#[tactic(auto, using(crate::proofs::Trees::tree_lemmas))]
+pub fn and_members<A: Heap>(alloc: A, member: Expr<A>) -> Result<Vec<Expr<A>, A>, AllocError>
+    ensures { IfOk result (λ v. map (λ e. ex e) v.items ≡ tree.and_members (ex member)) }
+{
+    match member {
+        Expr::And(_, members) => Ok(members),
+        member @ (Expr::Column(_)
+        | Expr::Literal(_)
+        | Expr::CurrentUser
+        | Expr::Opposite(..)
+        | Expr::Arithmetic(..)
+        | Expr::Comparison(..)
+        | Expr::Between(..)
+        | Expr::In(..)
+        | Expr::IsNull(..)
+        | Expr::Not(..)
+        | Expr::Or(..)
+        | Expr::Cast(..)
+        | Expr::Case(..)
+        | Expr::CountRows(_)
+        | Expr::Call(..)) => alone(alloc, member),
+    }
+}
+
+/// The members of an expression that stands in an OR: its own where it is one.
+#[tactic(auto, using(crate::proofs::Trees::tree_lemmas))]
+pub fn or_members<A: Heap>(alloc: A, member: Expr<A>) -> Result<Vec<Expr<A>, A>, AllocError>
+    ensures { IfOk result (λ v. map (λ e. ex e) v.items ≡ tree.or_members (ex member)) }
+{
+    match member {
+        Expr::Or(_, members) => Ok(members),
+        member @ (Expr::Column(_)
+        | Expr::Literal(_)
+        | Expr::CurrentUser
+        | Expr::Opposite(..)
+        | Expr::Arithmetic(..)
+        | Expr::Comparison(..)
+        | Expr::Between(..)
+        | Expr::In(..)
+        | Expr::IsNull(..)
+        | Expr::Not(..)
+        | Expr::And(..)
+        | Expr::Cast(..)
+        | Expr::Case(..)
+        | Expr::CountRows(_)
+        | Expr::Call(..)) => alone(alloc, member),
+    }
+}

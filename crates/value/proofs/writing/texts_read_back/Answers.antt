@@ -1,0 +1,8 @@
+use Rattle.value.proofs.ReadBack.{written, read}
+use Rattle.value.proofs.writing.texts_read_back.Goals as goal
+
+pub returns-clause-written : goal.returns-clause-written
+returns-clause-written c = written
+
+pub returns-clause-read : goal.returns-clause-read
+returns-clause-read c = read

@@ -1,0 +1,20 @@
+-- The kinds of faults: their order and their codes.
+use Rattle.std.specs.Prelude.{ℕ, List, codes}
+use Rattle.std.specs.declared.cmp.Ordering.{Ordering}
+use Rattle.std.specs.Ordering.{nat_cmp, on}
+use Rattle.value.specs.declared.types.Kind.{Kind}
+use Rattle.value.specs.declared.types.Kind.TheVariants.{Div0, Range, BadText}
+
+-- of two kinds that are due, the lower is told
+abbrev pub kind_rank : Kind → ℕ
+kind_rank Div0 = 0
+kind_rank Range = 1
+kind_rank BadText = 2
+
+abbrev pub kind_cmp : Kind → Kind → Ordering
+kind_cmp = on kind_rank nat_cmp
+
+abbrev pub kind_code : Kind → List ℕ
+kind_code Div0 = codes "22012"
+kind_code Range = codes "22003"
+kind_code BadText = codes "22P02"

@@ -1,0 +1,579 @@
+//! Query texts, and the trees that they are or where they are refused.
+
+use crate::shown::{Printer, show_query};
+use std::alloc::Global;
+use std::process::Abort;
+use syntax::ParseError::Syntax;
+use syntax::{ParseError, parse_query};
+
+// A text, and its tree or the byte at which it is refused.
+type Row = (&'static str, Result<&'static str, ParseError>);
+
+// Levels of operators, the tightest first, and how each binds.
+static LEVELS: [Row; 20] = [
+    ("SELECT a + b * c FROM t", Ok("SELECT (a + (b * c)) FROM t")),
+    ("SELECT a * b + c FROM t", Ok("SELECT ((a * b) + c) FROM t")),
+    ("SELECT a - b - c FROM t", Ok("SELECT ((a - b) - c) FROM t")),
+    (
+        "SELECT a - b + c - d FROM t",
+        Ok("SELECT (((a - b) + c) - d) FROM t"),
+    ),
+    (
+        "SELECT a / b * c % d FROM t",
+        Ok("SELECT (((a / b) * c) % d) FROM t"),
+    ),
+    (
+        "SELECT a - (b - c) FROM t",
+        Ok("SELECT (a - (b - c)) FROM t"),
+    ),
+    ("SELECT -a * b FROM t", Ok("SELECT ((- a) * b) FROM t")),
+    ("SELECT a * -b FROM t", Ok("SELECT (a * (- b)) FROM t")),
+    ("SELECT a - -b FROM t", Ok("SELECT (a - (- b)) FROM t")),
+    ("SELECT - - a FROM t", Ok("SELECT (- (- a)) FROM t")),
+    ("SELECT a = b + c FROM t", Ok("SELECT (a = (b + c)) FROM t")),
+    (
+        "SELECT a + b < c * d FROM t",
+        Ok("SELECT ((a + b) < (c * d)) FROM t"),
+    ),
+    (
+        "SELECT a <> b, a <= b, a >= b, a > b FROM t",
+        Ok("SELECT (a <> b), (a <= b), (a >= b), (a > b) FROM t"),
+    ),
+    ("SELECT a = b = c FROM t", Err(Syntax(13))),
+    ("SELECT a < b > c FROM t", Err(Syntax(13))),
+    (
+        "SELECT (a = b) = c FROM t",
+        Ok("SELECT ((a = b) = c) FROM t"),
+    ),
+    (
+        "SELECT a = (b = c) FROM t",
+        Ok("SELECT (a = (b = c)) FROM t"),
+    ),
+    ("SELECT a < > b FROM t", Err(Syntax(11))),
+    ("SELECT a =< b FROM t", Err(Syntax(10))),
+    ("SELECT a + * b FROM t", Err(Syntax(11))),
+];
+
+// NOT, AND and OR: a run is one list, and a member in parentheses of the same kind is merged into it.
+static CONNECTIVES: [Row; 19] = [
+    ("SELECT NOT a = b FROM t", Ok("SELECT (NOT (a = b)) FROM t")),
+    ("SELECT NOT NOT a FROM t", Ok("SELECT (NOT (NOT a)) FROM t")),
+    (
+        "SELECT NOT a AND b FROM t",
+        Ok("SELECT AND[(NOT a), b] FROM t"),
+    ),
+    (
+        "SELECT NOT (a AND b) FROM t",
+        Ok("SELECT (NOT AND[a, b]) FROM t"),
+    ),
+    ("SELECT a = NOT b FROM t", Err(Syntax(11))),
+    (
+        "SELECT a = (NOT b) FROM t",
+        Ok("SELECT (a = (NOT b)) FROM t"),
+    ),
+    (
+        "SELECT a OR b AND c FROM t",
+        Ok("SELECT OR[a, AND[b, c]] FROM t"),
+    ),
+    (
+        "SELECT a AND b OR c FROM t",
+        Ok("SELECT OR[AND[a, b], c] FROM t"),
+    ),
+    (
+        "SELECT (a OR b) AND c FROM t",
+        Ok("SELECT AND[OR[a, b], c] FROM t"),
+    ),
+    (
+        "SELECT a AND b AND c FROM t",
+        Ok("SELECT AND[a, b, c] FROM t"),
+    ),
+    (
+        "SELECT (a AND b) AND (c AND d) FROM t",
+        Ok("SELECT AND[a, b, c, d] FROM t"),
+    ),
+    (
+        "SELECT a AND (b AND (c AND d)) FROM t",
+        Ok("SELECT AND[a, b, c, d] FROM t"),
+    ),
+    (
+        "SELECT a OR (b OR c) OR (d AND e) FROM t",
+        Ok("SELECT OR[a, b, c, AND[d, e]] FROM t"),
+    ),
+    (
+        "SELECT (a AND b) OR (a AND c) FROM t",
+        Ok("SELECT OR[AND[a, b], AND[a, c]] FROM t"),
+    ),
+    ("SELECT ((a OR b)) FROM t", Ok("SELECT OR[a, b] FROM t")),
+    (
+        "SELECT a AND (b OR (c OR d)) FROM t",
+        Ok("SELECT AND[a, OR[b, c, d]] FROM t"),
+    ),
+    (
+        "SELECT a AND NOT (b AND c) FROM t",
+        Ok("SELECT AND[a, (NOT AND[b, c])] FROM t"),
+    ),
+    ("SELECT a AND OR b FROM t", Err(Syntax(13))),
+    ("SELECT a FROM t WHERE a = 1 AND", Err(Syntax(31))),
+];
+
+// IS NULL, BETWEEN and IN; the AND of a BETWEEN is no connective.
+static CONDITIONS: [Row; 33] = [
+    ("SELECT a IS NULL FROM t", Ok("SELECT (a IS NULL) FROM t")),
+    (
+        "SELECT a IS NOT NULL FROM t",
+        Ok("SELECT (a IS NOT NULL) FROM t"),
+    ),
+    (
+        "SELECT NOT a IS NULL FROM t",
+        Ok("SELECT (NOT (a IS NULL)) FROM t"),
+    ),
+    (
+        "SELECT a = b IS NULL FROM t",
+        Ok("SELECT ((a = b) IS NULL) FROM t"),
+    ),
+    (
+        "SELECT a + b IS NOT NULL OR c FROM t",
+        Ok("SELECT OR[((a + b) IS NOT NULL), c] FROM t"),
+    ),
+    ("SELECT a IS NULL IS NULL FROM t", Err(Syntax(17))),
+    ("SELECT a IS NULL = b FROM t", Err(Syntax(17))),
+    ("SELECT a IS b FROM t", Err(Syntax(12))),
+    ("SELECT a IS NOT TRUE FROM t", Err(Syntax(16))),
+    (
+        "SELECT a BETWEEN 1 AND 2 FROM t",
+        Ok("SELECT (a BETWEEN 1 AND 2) FROM t"),
+    ),
+    (
+        "SELECT a BETWEEN 1 AND 2 AND b FROM t",
+        Ok("SELECT AND[(a BETWEEN 1 AND 2), b] FROM t"),
+    ),
+    (
+        "SELECT a AND b BETWEEN 1 AND 2 FROM t",
+        Ok("SELECT AND[a, (b BETWEEN 1 AND 2)] FROM t"),
+    ),
+    (
+        "SELECT a NOT BETWEEN b - 1 AND b + 1 OR c FROM t",
+        Ok("SELECT OR[(a NOT BETWEEN (b - 1) AND (b + 1)), c] FROM t"),
+    ),
+    (
+        "SELECT NOT a BETWEEN 1 AND 2 FROM t",
+        Ok("SELECT (NOT (a BETWEEN 1 AND 2)) FROM t"),
+    ),
+    (
+        "SELECT a < b BETWEEN 1 AND 2 FROM t",
+        Ok("SELECT (a < (b BETWEEN 1 AND 2)) FROM t"),
+    ),
+    (
+        "SELECT a BETWEEN 1 AND 2 = b FROM t",
+        Ok("SELECT ((a BETWEEN 1 AND 2) = b) FROM t"),
+    ),
+    (
+        "SELECT a BETWEEN (b = c) AND (d AND e) FROM t",
+        Ok("SELECT (a BETWEEN (b = c) AND AND[d, e]) FROM t"),
+    ),
+    ("SELECT a BETWEEN 1 OR 2 FROM t", Err(Syntax(19))),
+    (
+        "SELECT a BETWEEN 1 AND 2 BETWEEN 3 AND 4 FROM t",
+        Err(Syntax(25)),
+    ),
+    ("SELECT a BETWEEN NOT b AND c FROM t", Err(Syntax(17))),
+    ("SELECT a IN (1) FROM t", Ok("SELECT (a IN [1]) FROM t")),
+    (
+        "SELECT a IN (-5, - 6, 'x', NULL, TRUE, false) FROM t",
+        Ok("SELECT (a IN [-5, -6, 'x', NULL, TRUE, FALSE]) FROM t"),
+    ),
+    (
+        "SELECT a NOT IN (1, 2) AND b FROM t",
+        Ok("SELECT AND[(a NOT IN [1, 2]), b] FROM t"),
+    ),
+    ("SELECT a IN (b) FROM t", Err(Syntax(13))),
+    ("SELECT a IN (- b) FROM t", Err(Syntax(15))),
+    ("SELECT a IN (1, - - 5) FROM t", Err(Syntax(18))),
+    ("SELECT a IN (-", Err(Syntax(14))),
+    ("SELECT a IN () FROM t", Err(Syntax(13))),
+    ("SELECT a IN (1 2) FROM t", Err(Syntax(15))),
+    ("SELECT a IN (1 + 2) FROM t", Err(Syntax(15))),
+    ("SELECT a IN (1, 2) IN (3) FROM t", Err(Syntax(19))),
+    ("SELECT a NOT b FROM t", Err(Syntax(13))),
+    ("SELECT a NOT NULL FROM t", Err(Syntax(13))),
+];
+
+// CASE, CAST and the aggregates.
+static CALLS: [Row; 25] = [
+    (
+        "SELECT CASE WHEN a THEN b END FROM t",
+        Ok("SELECT CASE[a -> b] FROM t"),
+    ),
+    (
+        "SELECT CASE WHEN a = 1 THEN b WHEN c THEN d ELSE e + 1 END FROM t",
+        Ok("SELECT CASE[(a = 1) -> b, c -> d; (e + 1)] FROM t"),
+    ),
+    (
+        "SELECT CASE WHEN CASE WHEN a THEN b END THEN c END * 2 FROM t",
+        Ok("SELECT (CASE[CASE[a -> b] -> c] * 2) FROM t"),
+    ),
+    ("SELECT CASE a WHEN 1 THEN 2 END FROM t", Err(Syntax(12))),
+    (
+        "SELECT CASE WHEN a THEN b ELSE c WHEN d THEN e END FROM t",
+        Err(Syntax(33)),
+    ),
+    ("SELECT CASE END FROM t", Err(Syntax(12))),
+    ("SELECT CASE ELSE a END FROM t", Err(Syntax(12))),
+    ("SELECT CASE WHEN a THEN b FROM t", Err(Syntax(26))),
+    (
+        "SELECT CAST(a + 1 AS text) FROM t",
+        Ok("SELECT CAST((a + 1) AS text) FROM t"),
+    ),
+    (
+        "SELECT CAST('5' AS bigint) * 2 FROM t",
+        Ok("SELECT (CAST('5' AS bigint) * 2) FROM t"),
+    ),
+    ("SELECT CAST(a AS boolean) FROM t", Err(Syntax(17))),
+    ("SELECT CAST(a) FROM t", Err(Syntax(13))),
+    ("SELECT CAST a FROM t", Err(Syntax(12))),
+    (
+        "SELECT count(*), count(a), sum(a + 1), min(b), max(t.c) FROM t",
+        Ok("SELECT count(*), count(a), sum((a + 1)), min(b), max(t.c) FROM t"),
+    ),
+    (
+        "SELECT COUNT ( * ) * 2 FROM t",
+        Ok("SELECT (count(*) * 2) FROM t"),
+    ),
+    (
+        "SELECT sum(count(*)) FROM t",
+        Ok("SELECT sum(count(*)) FROM t"),
+    ),
+    ("SELECT sum(*) FROM t", Err(Syntax(11))),
+    ("SELECT count() FROM t", Err(Syntax(13))),
+    ("SELECT count(*, a) FROM t", Err(Syntax(14))),
+    ("SELECT sum(a, b) FROM t", Err(Syntax(12))),
+    ("SELECT f(1) FROM t", Err(Syntax(8))),
+    ("SELECT avg(a) FROM t", Err(Syntax(10))),
+    ("SELECT t.sum(a) FROM t", Err(Syntax(12))),
+    ("SELECT bigint(a) FROM t", Err(Syntax(13))),
+    (
+        "SELECT count, sum.min, t.max FROM t",
+        Ok("SELECT count, sum.min, t.max FROM t"),
+    ),
+];
+
+// Names: folded, and reserved words are none.
+static NAMES: [Row; 13] = [
+    (
+        "sElEcT Deal . ID, _a1 FROM DEAL",
+        Ok("SELECT deal.id, _a1 FROM deal"),
+    ),
+    (
+        "SELECT role, text, policy, boolean, superuser FROM table",
+        Ok("SELECT role, text, policy, boolean, superuser FROM table"),
+    ),
+    (
+        "SELECT count.sum FROM min count",
+        Ok("SELECT count.sum FROM min AS count"),
+    ),
+    (
+        "SELECT public, create FROM grant",
+        Ok("SELECT public, create FROM grant"),
+    ),
+    ("SELECT left FROM t", Err(Syntax(7))),
+    ("SELECT t.all FROM t", Err(Syntax(9))),
+    ("SELECT using FROM t", Err(Syntax(7))),
+    ("SELECT a FROM order", Err(Syntax(14))),
+    ("SELECT a FROM t AS with", Err(Syntax(19))),
+    ("SELECT a FROM t natural", Err(Syntax(16))),
+    ("SELECT a AS end FROM t", Err(Syntax(12))),
+    ("SELECT a.b.c FROM t", Err(Syntax(10))),
+    ("SELECT \"a\" FROM t", Err(Syntax(7))),
+];
+
+// Items and FROM.
+static TABLES: [Row; 27] = [
+    ("SELECT * FROM t", Ok("SELECT * FROM t")),
+    ("SELECT t.* FROM t", Err(Syntax(9))),
+    ("SELECT *, a FROM t", Err(Syntax(8))),
+    ("SELECT a, * FROM t", Err(Syntax(10))),
+    ("SELECT a, FROM t", Err(Syntax(10))),
+    ("SELECT FROM t", Err(Syntax(7))),
+    ("SELECT DISTINCT a FROM t", Err(Syntax(7))),
+    (
+        "SELECT a AS b, c + 1 AS d FROM t",
+        Ok("SELECT a AS b, (c + 1) AS d FROM t"),
+    ),
+    ("SELECT a b FROM t", Err(Syntax(9))),
+    ("SELECT a AS 1 FROM t", Err(Syntax(12))),
+    (
+        "SELECT a FROM t AS u, v w",
+        Ok("SELECT a FROM t AS u, v AS w"),
+    ),
+    ("SELECT a FROM t u v", Err(Syntax(18))),
+    ("SELECT a FROM t AS", Err(Syntax(18))),
+    (
+        "SELECT a FROM t JOIN u ON t.a = u.b",
+        Ok("SELECT a FROM t JOIN u ON (t.a = u.b)"),
+    ),
+    (
+        "SELECT a FROM t INNER JOIN u AS x ON a CROSS JOIN v y, w",
+        Ok("SELECT a FROM t JOIN u AS x ON a CROSS JOIN v AS y, w"),
+    ),
+    (
+        "SELECT a FROM t, u JOIN v ON b AND c JOIN w ON d WHERE e",
+        Ok("SELECT a FROM t, u JOIN v ON AND[b, c] JOIN w ON d WHERE e"),
+    ),
+    ("SELECT a FROM t LEFT JOIN u ON a = b", Err(Syntax(16))),
+    ("SELECT a FROM t u RIGHT JOIN v ON a = b", Err(Syntax(18))),
+    ("SELECT a FROM t JOIN u", Err(Syntax(22))),
+    ("SELECT a FROM t JOIN u USING (a)", Err(Syntax(23))),
+    ("SELECT a FROM t CROSS JOIN u ON a", Err(Syntax(29))),
+    ("SELECT a FROM t CROSS u", Err(Syntax(22))),
+    ("SELECT a FROM t INNER u", Err(Syntax(22))),
+    ("SELECT a FROM (t)", Err(Syntax(14))),
+    ("SELECT a FROM t.u", Err(Syntax(15))),
+    ("SELECT a FROM t, WHERE b", Err(Syntax(17))),
+    ("SELECT 1", Err(Syntax(8))),
+];
+
+// The clauses behind FROM, each once and in order.
+static CLAUSES: [Row; 23] = [
+    (
+        "SELECT a FROM t WHERE b GROUP BY a, t.c HAVING count(*) > 1 ORDER BY a DESC, 2, d ASC LIMIT 10",
+        Ok(
+            "SELECT a FROM t WHERE b GROUP BY a, t.c HAVING (count(*) > 1) ORDER BY a DESC, #2 ASC, d ASC LIMIT 10",
+        ),
+    ),
+    (
+        "SELECT a FROM t HAVING b LIMIT 007",
+        Ok("SELECT a FROM t HAVING b LIMIT 7"),
+    ),
+    (
+        "SELECT a FROM t LIMIT 9223372036854775807",
+        Ok("SELECT a FROM t LIMIT 9223372036854775807"),
+    ),
+    (
+        "SELECT a FROM t ORDER BY count, 9223372036854775807 desc",
+        Ok("SELECT a FROM t ORDER BY count ASC, #9223372036854775807 DESC"),
+    ),
+    ("SELECT id FROM deal WHERE", Err(Syntax(25))),
+    ("SELECT a FROM t LIMIT 1 ORDER BY a", Err(Syntax(24))),
+    ("SELECT a FROM t GROUP BY a WHERE b", Err(Syntax(27))),
+    ("SELECT a FROM t HAVING a GROUP BY a", Err(Syntax(25))),
+    ("SELECT a FROM t ORDER BY a HAVING b", Err(Syntax(27))),
+    ("SELECT a FROM t WHERE a WHERE b", Err(Syntax(24))),
+    ("SELECT a FROM t GROUP BY 1", Err(Syntax(25))),
+    ("SELECT a FROM t GROUP BY a + 1", Err(Syntax(27))),
+    ("SELECT a FROM t GROUP a", Err(Syntax(22))),
+    ("SELECT a FROM t ORDER BY a.b", Err(Syntax(26))),
+    ("SELECT a FROM t ORDER BY -1", Err(Syntax(25))),
+    ("SELECT a FROM t ORDER BY a + 1", Err(Syntax(27))),
+    ("SELECT a FROM t ORDER BY a DESC ASC", Err(Syntax(32))),
+    (
+        "SELECT a FROM t ORDER BY 9223372036854775808",
+        Err(Syntax(25)),
+    ),
+    ("SELECT a FROM t LIMIT -1", Err(Syntax(22))),
+    ("SELECT a FROM t LIMIT a", Err(Syntax(22))),
+    ("SELECT a FROM t LIMIT 9223372036854775808", Err(Syntax(22))),
+    ("SELECT a FROM t LIMIT 1 OFFSET 2", Err(Syntax(24))),
+    ("SELECT a FROM t UNION SELECT a FROM t", Err(Syntax(16))),
+];
+
+// Literals, and what is no token.
+static TOKENS: [Row; 29] = [
+    (
+        "SELECT NULL, TRUE, FALSE, CURRENT_USER, 007 FROM t",
+        Ok("SELECT NULL, TRUE, FALSE, CURRENT_USER, 7 FROM t"),
+    ),
+    ("SELECT -5 * -3 FROM t", Ok("SELECT (-5 * -3) FROM t")),
+    ("SELECT - 5 FROM t", Ok("SELECT -5 FROM t")),
+    ("SELECT - - 5 FROM t", Ok("SELECT (- -5) FROM t")),
+    ("SELECT -(5) FROM t", Ok("SELECT (- 5) FROM t")),
+    ("SELECT (-5) FROM t", Ok("SELECT -5 FROM t")),
+    ("SELECT a -5 FROM t", Ok("SELECT (a - 5) FROM t")),
+    ("SELECT a - -5 FROM t", Ok("SELECT (a - -5) FROM t")),
+    (
+        "SELECT 2 * - 3 + 4 FROM t",
+        Ok("SELECT ((2 * -3) + 4) FROM t"),
+    ),
+    (
+        "SELECT 9223372036854775807 FROM t",
+        Ok("SELECT 9223372036854775807 FROM t"),
+    ),
+    ("SELECT 9223372036854775808 FROM t", Err(Syntax(7))),
+    (
+        "SELECT -9223372036854775808, - 9223372036854775808 FROM t",
+        Ok("SELECT -9223372036854775808, -9223372036854775808 FROM t"),
+    ),
+    (
+        "SELECT a IN (-9223372036854775808) FROM t",
+        Ok("SELECT (a IN [-9223372036854775808]) FROM t"),
+    ),
+    ("SELECT a IN (9223372036854775808) FROM t", Err(Syntax(13))),
+    ("SELECT a - 9223372036854775808 FROM t", Err(Syntax(11))),
+    ("SELECT -(9223372036854775808) FROM t", Err(Syntax(9))),
+    ("SELECT -9223372036854775809 FROM t", Err(Syntax(8))),
+    (
+        "SELECT 'it''s', '', '\\n', '\\NN' FROM t",
+        Ok("SELECT 'it's', '', '\\n', '\\NN' FROM t"),
+    ),
+    ("SELECT '\\N' FROM t", Err(Syntax(7))),
+    ("SELECT a = '\\N' FROM t", Err(Syntax(11))),
+    ("SELECT 'open FROM t", Err(Syntax(7))),
+    ("SELECT 1 -- x", Err(Syntax(9))),
+    ("SELECT a--b FROM t", Err(Syntax(8))),
+    ("SELECT 1 /* x */ FROM t", Err(Syntax(9))),
+    ("SELECT 1a FROM t", Err(Syntax(7))),
+    ("SELECT 1.5 FROM t", Err(Syntax(8))),
+    ("SELECT a != b FROM t", Err(Syntax(9))),
+    ("SELECT aé FROM t", Err(Syntax(8))),
+    ("SELECT 12é FROM t", Err(Syntax(9))),
+];
+
+// Ends and parentheses.
+static ENDS: [Row; 9] = [
+    ("", Err(Syntax(0))),
+    ("SELECT", Err(Syntax(6))),
+    (" DELETE FROM t", Err(Syntax(1))),
+    ("SELECT 1 FROM t;", Err(Syntax(15))),
+    ("SELECT (a FROM t", Err(Syntax(10))),
+    ("SELECT (a, b) FROM t", Err(Syntax(9))),
+    ("SELECT a) FROM t", Err(Syntax(8))),
+    ("SELECT () FROM t", Err(Syntax(8))),
+    ("SELECT a FROM t SELECT", Err(Syntax(16))),
+];
+
+// The same with offsets: of names, of operations and of the first token of a condition.
+static PLACED: [Row; 14] = [
+    (
+        "SELECT a + b * c FROM t",
+        Ok("SELECT (a@7 +@9 (b@11 *@13 c@15)) FROM t@22"),
+    ),
+    (
+        "SELECT (a AND b) AND c FROM t",
+        Ok("SELECT AND@17[a@8, b@14, c@21] FROM t@28"),
+    ),
+    (
+        "SELECT a AND (b AND c) AND d FROM t",
+        Ok("SELECT AND@9[a@7, b@14, c@20, d@27] FROM t@34"),
+    ),
+    (
+        "SELECT (a OR b) OR (c OR d) FROM t",
+        Ok("SELECT OR@16[a@8, b@13, c@20, d@25] FROM t@33"),
+    ),
+    (
+        "SELECT a AND b OR c AND d FROM t",
+        Ok("SELECT OR@15[AND@9[a@7, b@13], AND@20[c@18, d@24]] FROM t@31"),
+    ),
+    (
+        "SELECT - -a, NOT NOT b FROM t",
+        Ok("SELECT (-@7 (-@9 a@10)), (NOT@13 (NOT@17 b@21)) FROM t@28"),
+    ),
+    (
+        "SELECT a BETWEEN b AND c AND d NOT BETWEEN 1 AND 2 FROM t",
+        Ok("SELECT AND@25[(a@7 BETWEEN@9 b@17 AND c@23), (d@29 NOT BETWEEN@31 1 AND 2)] FROM t@56"),
+    ),
+    (
+        "SELECT a IN (1, 2), b NOT IN (3), c IS NULL, d IS NOT NULL FROM t",
+        Ok(
+            "SELECT (a@7 IN@9 [1, 2]), (b@20 NOT IN@22 [3]), (c@34 IS NULL@36), (d@45 IS NOT NULL@47) FROM t@64",
+        ),
+    ),
+    (
+        "SELECT CAST(a AS text), CASE WHEN b THEN 1 END, count(*), sum (c <> 1) FROM t",
+        Ok(
+            "SELECT CAST@7(a@12 AS text), CASE@24[b@34 -> 1], count@48(*), sum@58((c@63 <>@65 1)) FROM t@76",
+        ),
+    ),
+    (
+        "SELECT * FROM t JOIN u x ON (u.a) CROSS JOIN v, w",
+        Ok("SELECT *@7 FROM t@14 JOIN u@21 AS x ON@28 u.a@29 CROSS JOIN v@45, w@48"),
+    ),
+    (
+        "SELECT t . a FROM t WHERE - b = 1 GROUP BY t.c, d HAVING NOT k ORDER BY a DESC, 2 LIMIT 3",
+        Ok(
+            "SELECT t.a@7 FROM t@18 WHERE@26 ((-@26 b@28) =@30 1) GROUP BY t.c@43, d@48 HAVING@57 (NOT@57 k@61) ORDER BY a@72 DESC, #2@80 ASC LIMIT 3",
+        ),
+    ),
+    (
+        "SELECT a FROM t WHERE -1 < (b - c - d)",
+        Ok("SELECT a@7 FROM t@14 WHERE@22 (-1 <@25 ((b@28 -@30 c@32) -@34 d@36))"),
+    ),
+    ("\t SELECT\r\n a FROM t", Ok("SELECT a@11 FROM t@18")),
+    ("SELECT 'é€', a FROM t", Ok("SELECT 'é€', a@16 FROM t@23")),
+];
+
+// What a text is read as, as `shown` writes it.
+fn told(alloc: Global, placed: bool, text: &str) -> Result<String, ParseError> {
+    let query = parse_query(alloc, text)?;
+    let mut out = Printer {
+        text: String::new(alloc),
+        placed,
+    };
+    show_query(&query, &mut out)?;
+    Ok(out.text)
+}
+
+fn read_as(rt: &(impl Abort + AllocGlobal), placed: bool, rows: &[Row]) {
+    for (text, want) in rows {
+        match told(rt.alloc(), placed, text) {
+            Ok(found) => assert_eq!(rt; Ok(found.as_str()), *want, "{text}"),
+            Err(error) => assert_eq!(rt; Err(error), *want, "{text}"),
+        }
+    }
+}
+
+fn levels() -> &'static [Row] {
+    &LEVELS
+}
+
+fn connectives() -> &'static [Row] {
+    &CONNECTIVES
+}
+
+fn conditions() -> &'static [Row] {
+    &CONDITIONS
+}
+
+fn calls() -> &'static [Row] {
+    &CALLS
+}
+
+fn names() -> &'static [Row] {
+    &NAMES
+}
+
+fn tables() -> &'static [Row] {
+    &TABLES
+}
+
+fn clauses() -> &'static [Row] {
+    &CLAUSES
+}
+
+fn tokens() -> &'static [Row] {
+    &TOKENS
+}
+
+fn ends() -> &'static [Row] {
+    &ENDS
+}
+
+fn placed() -> &'static [Row] {
+    &PLACED
+}
+
+#[test]
+fn texts_by_the_grammar(rt: HostRuntime) {
+    read_as(&rt, false, levels());
+    read_as(&rt, false, connectives());
+    read_as(&rt, false, conditions());
+    read_as(&rt, false, calls());
+    read_as(&rt, false, names());
+    read_as(&rt, false, tables());
+    read_as(&rt, false, clauses());
+    read_as(&rt, false, tokens());
+    read_as(&rt, false, ends());
+}
+
+#[test]
+fn offsets_of_operations_and_names(rt: HostRuntime) {
+    read_as(&rt, true, placed());
+}

@@ -1,0 +1,420 @@
+//! Tables that are read from comma-separated text, and how they are refused.
+
+use csv_records::Records;
+use memory::Heap;
+use metered::Metered;
+use std::alloc::{AllocError, Global};
+use std::io;
+use std::io::{ErrorKind, Read};
+use std::process::Abort;
+use std::test::Fail;
+use tables::{Column, LoadError, Table};
+use text::{Items, Text};
+use value::{ColType, Value};
+
+/// Five deals: numbers, texts, truth values and nulls.
+const DEAL: &str =
+    "id,owner,region,parts,open\n1,alice,1,4,t\n2,alice,2,0,f\n3,bob,1,7,t\n4,bob,2,\\N,\\N\n5,alice,\\N,5,f\n";
+
+/// The same deals, as `shown` writes them.
+const DEAL_ROWS: &str =
+    "1;'alice';1;4;t;/2;'alice';2;0;f;/3;'bob';1;7;t;/4;'bob';2;null;null;/5;'alice';null;5;f;/";
+
+fn deal_columns<A: Heap>(alloc: A) -> Result<Items<Column<A>, A>, AllocError> {
+    let mut columns = Items::new(alloc);
+    let rows = [
+        ("id", ColType::Bigint, true),
+        ("owner", ColType::Text, true),
+        ("region", ColType::Bigint, false),
+        ("parts", ColType::Bigint, false),
+        ("open", ColType::Boolean, false),
+    ];
+    for (name, kind, required) in rows {
+        let name = Text::new(alloc, name)?;
+        columns.push(Column {
+            name,
+            kind,
+            required,
+        })?;
+    }
+    Ok(columns)
+}
+
+fn load<A: Heap, R: Read + Drop>(alloc: A, rdr: R) -> Result<Table<A>, LoadError> {
+    let mut records = Records::new(alloc.global(), rdr);
+    Table::load(alloc, &mut records, deal_columns(alloc)?)
+}
+
+fn append<A: Heap, R: Read + Drop>(
+    alloc: A,
+    table: &mut Table<A>,
+    rdr: R,
+) -> Result<(), LoadError> {
+    let mut records = Records::new(alloc.global(), rdr);
+    table.append(&mut records)
+}
+
+fn made(rt: &(impl Abort + AllocGlobal), text: &str) -> Table<Global> {
+    match load(rt.alloc(), text.as_bytes()) {
+        Ok(table) => table,
+        Err(error) => panic!(rt; "{text}: {error:?}"),
+    }
+}
+
+fn shown_value<A: Heap>(alloc: Global, value: &Value<A>) -> Result<String, AllocError> {
+    match value {
+        Value::Null => format!(in alloc; "null;"),
+        Value::Int(n) => format!(in alloc; "{n};"),
+        Value::Text(text) => format!(in alloc; "'{}';", text.as_str()),
+        Value::Bool(true) => format!(in alloc; "t;"),
+        Value::Bool(false) => format!(in alloc; "f;"),
+    }
+}
+
+fn show_row<A: Heap>(alloc: Global, text: &mut String, row: &[Value<A>]) -> Result<(), AllocError> {
+    for value in row {
+        text.push_str(shown_value(alloc, value)?.as_str())?;
+    }
+    text.push('/')?;
+    Ok(())
+}
+
+// The rows of a table in one text.
+fn shown<A: Heap>(alloc: Global, table: &Table<A>) -> Result<String, AllocError> {
+    let mut text = String::new(alloc);
+    for row in table.as_rows() {
+        show_row(alloc, &mut text, row.as_slice())?;
+    }
+    Ok(text)
+}
+
+const HEADER: &str = "id,owner,region,parts,open\n";
+
+#[test]
+fn header_is_the_names_in_order(rt: HostRuntime) {
+    let texts = [
+        "",
+        "\n\n",
+        "\u{feff}",
+        "id",
+        "id,owner,region,parts\n",
+        "id,owner,region,parts,open,\n",
+        "id,owner,region,parts,Open\n",
+        "id,owner,region,parts, open\n",
+        "owner,id,region,parts,open\n",
+        "1,alice,1,4,t\n",
+        "\u{feff}\u{feff}id,owner,region,parts,open\n",
+    ];
+    for text in texts {
+        let told = load(rt.alloc(), text.as_bytes()).err();
+        assert_eq!(rt; told, Some(LoadError::Header), "{text}");
+    }
+}
+
+#[test]
+fn cells_of_no_value_are_told(rt: HostRuntime) -> Result<(), Fail> {
+    let rows = [
+        ("-0,a,1,1,t", 0),
+        ("007,a,1,1,t", 0),
+        ("+1,a,1,1,t", 0),
+        (" 1,a,1,1,t", 0),
+        ("9223372036854775808,a,1,1,t", 0),
+        ("-9223372036854775809,a,1,1,t", 0),
+        ("\\n,a,1,1,t", 0),
+        ("1,a,,1,t", 2),
+        ("1,a,1,x,t", 3),
+        ("1,a,1,1,T", 4),
+        ("1,a,1,1,true", 4),
+        ("1,a,1,1,", 4),
+        // The first column decides.
+        ("1,a,x,y,T", 2),
+        ("x,\\N,1,1,t", 0),
+    ];
+    for (row, column) in rows {
+        let text = format!(in rt.alloc(); "{HEADER}1,a,1,1,t\n{row}\n2,b\n")?;
+        let told = load(rt.alloc(), text.as_str().as_bytes()).err();
+        assert_eq!(rt; told, Some(LoadError::Cell { row: 2, column }), "{row}");
+    }
+    Ok(())
+}
+
+#[test]
+fn null_is_refused_where_one_is_not_taken(rt: HostRuntime) -> Result<(), Fail> {
+    let rows = [
+        ("\\N,a,1,1,t", 0),
+        ("1,\\N,1,1,t", 1),
+        ("1,\"\\N\",1,1,t", 1),
+        ("\\N,\\N,x,x,x", 0),
+    ];
+    for (row, column) in rows {
+        let text = format!(in rt.alloc(); "{HEADER}{row}\n")?;
+        let told = load(rt.alloc(), text.as_str().as_bytes()).err();
+        let want = LoadError::NotNull { row: 1, column };
+        assert_eq!(rt; told, Some(want), "{row}");
+    }
+    Ok(())
+}
+
+#[test]
+fn uneven_records_and_cut_texts(rt: HostRuntime) {
+    let rows = [
+        ("id,owner,region,parts,open\n1,alice,1,4\n", 1),
+        ("id,owner,region,parts,open\n1,alice,1,4,t,t\n", 1),
+        ("id,owner,region,parts,open\n1,alice,1,4,t\n2\n3,bob\n", 2),
+        // The number of fields is told before the cells, and an earlier row before both.
+        ("id,owner,region,parts,open\nx,\\N,1,4\n", 1),
+        (
+            "id,owner,region,parts,open\n1,alice,1,4,t\n2,alice,2,0,f\n3,bob,1",
+            3,
+        ),
+    ];
+    for (text, row) in rows {
+        let told = load(rt.alloc(), text.as_bytes()).err();
+        assert_eq!(rt; told, Some(LoadError::Reader { row }), "{text}");
+    }
+    let text = "id,owner,region,parts,open\n1,alice,1,4,t\n2,alice,2,0,f\n3,bob,1,";
+    let told = load(rt.alloc(), text.as_bytes()).err();
+    assert_eq!(rt; told, Some(LoadError::Reader { row: 3 }));
+    let text = "id,owner,region,parts,open\n1,alice,1,4,t\n2,alice,2,0,f\n3,bob,1,7,";
+    let told = load(rt.alloc(), text.as_bytes()).err();
+    assert_eq!(rt; told, Some(LoadError::Cell { row: 3, column: 4 }));
+}
+
+#[test]
+fn bytes_of_no_text_are_told(rt: HostRuntime) {
+    let text = b"id,owner,region,parts,open\n1,a,1,1,t\n2,b\xff,1,1,t\n".as_slice();
+    let told = load(rt.alloc(), text).err();
+    assert_eq!(rt; told, Some(LoadError::Cell { row: 2, column: 1 }));
+    let text = b"id,owner,region,parts,open\n1,a,1,\xc3,t\n".as_slice();
+    let told = load(rt.alloc(), text).err();
+    assert_eq!(rt; told, Some(LoadError::Cell { row: 1, column: 3 }));
+    let text = b"id,owner,region,parts,op\xffn\n".as_slice();
+    assert_eq!(rt; load(rt.alloc(), text).err(), Some(LoadError::Header));
+}
+
+/// Texts, and the rows that they give.
+const GOOD: [(&str, &str); 12] = [
+    (DEAL, DEAL_ROWS),
+    ("id,owner,region,parts,open\n", ""),
+    ("id,owner,region,parts,open", ""),
+    (
+        "id,owner,region,parts,open\r\n1,a,1,1,t\r\n\r\n2,b,1,1,f",
+        "1;'a';1;1;t;/2;'b';1;1;f;/",
+    ),
+    (
+        "\"id\",owner,\"region\",parts,open\n\"1\",\"x,y\",\"2\",3,\"t\"\n",
+        "1;'x,y';2;3;t;/",
+    ),
+    (
+        "id,owner,region,parts,open\n1,\"say \"\"hi\"\"\",1,1,t\n",
+        "1;'say \"hi\"';1;1;t;/",
+    ),
+    (
+        "id,owner,region,parts,open\n1,\"two\r\nlines\n\",1,1,t\n",
+        "1;'two\r\nlines\n';1;1;t;/",
+    ),
+    (
+        "id,owner,region,parts,open\n1,,\"\\N\",\\N,\"\\N\"\n2,\"\",1,1,f\n",
+        "1;'';null;null;null;/2;'';1;1;f;/",
+    ),
+    (
+        "id,owner,region,parts,open\n-9223372036854775808, \\N,9223372036854775807,0,f\n",
+        "-9223372036854775808;' \\N';9223372036854775807;0;f;/",
+    ),
+    (
+        "\u{feff}id,owner,region,parts,open\n1,\u{feff}a,1,1,t\n",
+        "1;'\u{feff}a';1;1;t;/",
+    ),
+    (
+        "\u{feff}\"id\",owner,region,parts,open\n1,\u{e4}\u{1f600},1,-1,t\n",
+        "1;'\u{e4}\u{1f600}';1;-1;t;/",
+    ),
+    // A cut at a line's end is a shorter table.
+    (
+        "id,owner,region,parts,open\n1,alice,1,4,t\n2,alice,2,0,f\n",
+        "1;'alice';1;4;t;/2;'alice';2;0;f;/",
+    ),
+];
+
+#[test]
+fn rows_of_texts(rt: HostRuntime) -> Result<(), Fail> {
+    for (text, want) in GOOD {
+        let table = made(&rt, text);
+        assert_eq!(rt; shown(rt.alloc(), &table)?.as_str(), want, "{text}");
+    }
+    Ok(())
+}
+
+#[test]
+fn cells_by_their_place(rt: HostRuntime) -> Result<(), Fail> {
+    let table = made(&rt, DEAL);
+    assert_eq!(rt; table.rows(), 5);
+    assert_eq!(rt; table.columns().len(), 5);
+    let mut found = 0u64;
+    for row in 0..table.rows() {
+        if table.columns().len() > 1 && matches!(table.cell(row, 0), value::Val::Int(4)) {
+            found = row;
+        }
+    }
+    assert_eq!(rt; found, 3);
+    Ok(())
+}
+
+/// Gives at most `step` bytes a call, and fails once `left` calls are over.
+#[derive(Drop)]
+struct Pieces<'a> {
+    bytes: &'a [u8],
+    step: usize,
+    left: u64,
+}
+
+impl Read for Pieces<'_> {
+    fn read(&mut self, buf: &mut [u8]) -> io::Result<usize> {
+        if self.left == 0 {
+            return Err(io::Error::from(ErrorKind::Other));
+        }
+        self.left -= 1;
+        let n = self.bytes.len().min(buf.len()).min(self.step);
+        buf[..n].copy_from_slice(&self.bytes[..n]);
+        self.bytes = &self.bytes[n..];
+        Ok(n)
+    }
+}
+
+fn in_pieces(text: &str, step: usize, left: u64) -> Pieces<'_> {
+    Pieces {
+        bytes: text.as_bytes(),
+        step,
+        left,
+    }
+}
+
+#[test]
+fn rows_do_not_depend_on_pieces(rt: HostRuntime) -> Result<(), Fail> {
+    for (text, want) in GOOD {
+        for step in [1usize, 2, 3, 5] {
+            match load(rt.alloc(), in_pieces(text, step, 1000)) {
+                Ok(table) => {
+                    assert_eq!(rt; shown(rt.alloc(), &table)?.as_str(), want, "{step}: {text}");
+                }
+                Err(error) => panic!(rt; "{step}: {text}: {error:?}"),
+            }
+        }
+    }
+    Ok(())
+}
+
+// How many lines end among the first bytes of a text.
+fn lines_in(text: &str, bytes: u64) -> u64 {
+    let mut lines = 0u64;
+    for (i, byte) in text.as_bytes().iter().enumerate() {
+        if (i as u64) < bytes && *byte == b'\n' {
+            lines = lines.saturating_add(1);
+        }
+    }
+    lines
+}
+
+#[test]
+fn failed_read_gives_no_table(rt: HostRuntime) {
+    let mut refused = 0u64;
+    for left in 0..1000u64 {
+        match load(rt.alloc(), in_pieces(DEAL, 1, left)) {
+            Ok(_) => break,
+            Err(error) => {
+                let row = lines_in(DEAL, left);
+                assert_eq!(rt; error, LoadError::Reader { row }, "at {left}");
+            }
+        }
+        refused = left;
+    }
+    assert_eq!(rt; refused, DEAL.len() as u64);
+}
+
+#[test]
+fn failed_read_adds_no_rows(rt: HostRuntime) -> Result<(), Fail> {
+    let mut table = made(&rt, DEAL);
+    for left in 0..80u64 {
+        let told = append(rt.alloc(), &mut table, in_pieces(DEAL, 1, left)).err();
+        let row = lines_in(DEAL, left);
+        assert_eq!(rt; told, Some(LoadError::Reader { row }), "at {left}");
+        assert_eq!(rt; shown(rt.alloc(), &table)?.as_str(), DEAL_ROWS);
+    }
+    Ok(())
+}
+
+#[test]
+fn rows_come_to_those_before(rt: HostRuntime) -> Result<(), Fail> {
+    let alloc = rt.alloc();
+    let mut table = made(&rt, DEAL);
+    let more = "id,owner,region,parts,open\n6,carol,1,1,t\n";
+    let mut records = Records::new(alloc, more.as_bytes());
+    assert_eq!(rt; table.append(&mut records), Ok(()));
+    let want = format!(in alloc; "{DEAL_ROWS}6;'carol';1;1;t;/")?;
+    assert_eq!(rt; shown(alloc, &table)?.as_str(), want.as_str());
+    let refused = [
+        "id,owner\n",
+        "id,owner,region,parts,open\n7,dan,1,1,t\n8\n",
+        "id,owner,region,parts,open\n7,dan,1,1,t\n\\N,dan,1,1,t\n",
+    ];
+    for text in refused {
+        assert!(rt;
+            append(alloc, &mut table, text.as_bytes()).is_err(),
+            "{text}"
+        );
+        assert_eq!(rt; shown(alloc, &table)?.as_str(), want.as_str());
+    }
+    let mut records = Records::new(alloc, "id,owner,region,parts,open\n7\n".as_bytes());
+    let told = table.append(&mut records);
+    assert_eq!(rt; told, Err(LoadError::Reader { row: 1 }));
+    assert_eq!(rt; table.rows(), 6);
+    Ok(())
+}
+
+#[test]
+fn load_or_refusal_of_memory(rt: HostRuntime) -> Result<(), Fail> {
+    let mut refused = 0u64;
+    for nth in 1..1000u64 {
+        let heap = Metered::refusing(rt.alloc(), nth);
+        match load(&heap, DEAL.as_bytes()) {
+            Ok(table) => {
+                assert_eq!(rt; shown(rt.alloc(), &table)?.as_str(), DEAL_ROWS, "at {nth}");
+                assert!(rt; heap.requests(nth) < nth, "at {nth}");
+                break;
+            }
+            Err(error) => assert_eq!(rt; error, LoadError::OutOfMemory, "at {nth}"),
+        }
+        refused = nth;
+    }
+    assert!(rt; refused > 10, "{refused}");
+    assert!(rt; refused < 900, "{refused}");
+    Ok(())
+}
+
+#[test]
+fn append_or_refusal_of_memory(rt: HostRuntime) -> Result<(), Fail> {
+    let twice = format!(in rt.alloc(); "{DEAL_ROWS}{DEAL_ROWS}")?;
+    let counting = Metered::counting(rt.alloc());
+    assert!(rt; load(&counting, DEAL.as_bytes()).is_ok());
+    let built = counting.requests(0);
+    let mut refused = 0u64;
+    for n in 1..1000u64 {
+        let nth = built.saturating_add(n);
+        let heap = Metered::refusing(rt.alloc(), nth);
+        let Ok(mut table) = load(&heap, DEAL.as_bytes()) else {
+            panic!(rt; "loaded with fewer requests before");
+        };
+        let done = append(&heap, &mut table, DEAL.as_bytes());
+        let rows = shown(rt.alloc(), &table)?;
+        if heap.requests(nth) < nth {
+            assert_eq!(rt; done, Ok(()), "at {n}");
+            assert_eq!(rt; rows.as_str(), twice.as_str(), "at {n}");
+            break;
+        }
+        assert_eq!(rt; done, Err(LoadError::OutOfMemory), "at {n}");
+        assert_eq!(rt; rows.as_str(), DEAL_ROWS, "at {n}");
+        refused = n;
+    }
+    assert!(rt; refused > 10, "{refused}");
+    Ok(())
+}

@@ -1,0 +1,301 @@
+//! Schema texts, and the statements that they are or where they are refused.
+
+use crate::shown::{Printer, show_statement};
+use std::alloc::Global;
+use std::process::Abort;
+use syntax::ParseError::Syntax;
+use syntax::{ParseError, parse_schema, parse_statement};
+
+// A text, and its statements or the byte at which it is refused.
+type Row = (&'static str, Result<&'static str, ParseError>);
+
+// Roles.
+static ROLES: [Row; 18] = [
+    ("CREATE ROLE a", Ok("CREATE ROLE a")),
+    ("create role A BypassRLS", Ok("CREATE ROLE a BYPASSRLS")),
+    ("CREATE ROLE a SUPERUSER", Ok("CREATE ROLE a SUPERUSER")),
+    (
+        "CREATE ROLE a SUPERUSER BYPASSRLS",
+        Ok("CREATE ROLE a SUPERUSER BYPASSRLS"),
+    ),
+    (
+        "CREATE ROLE superuser bypassrls",
+        Ok("CREATE ROLE superuser BYPASSRLS"),
+    ),
+    ("CREATE ROLE public", Ok("CREATE ROLE public")),
+    ("CREATE ROLE a BYPASSRLS SUPERUSER", Err(Syntax(24))),
+    ("CREATE ROLE a SUPERUSER SUPERUSER", Err(Syntax(24))),
+    ("CREATE ROLE select", Err(Syntax(12))),
+    ("CREATE ROLE", Err(Syntax(11))),
+    ("CREATE ROLE a, b", Err(Syntax(13))),
+    ("GRANT g TO m", Ok("GRANT g TO m")),
+    ("GRANT role TO PUBLIC", Ok("GRANT role TO public")),
+    ("GRANT g TO m, n", Err(Syntax(12))),
+    ("GRANT g, h TO m", Err(Syntax(7))),
+    ("GRANT g FROM m", Err(Syntax(8))),
+    ("REVOKE g FROM m", Ok("REVOKE g FROM m")),
+    ("REVOKE g TO m", Err(Syntax(9))),
+];
+
+// Tables and indexes.
+static TABLES: [Row; 17] = [
+    ("CREATE TABLE t (a bigint)", Ok("CREATE TABLE t (a bigint)")),
+    (
+        "CREATE TABLE t (a bigint NOT NULL, b text, c boolean NOT NULL, d boolean)",
+        Ok("CREATE TABLE t (a bigint NOT NULL, b text, c boolean NOT NULL, d boolean)"),
+    ),
+    (
+        "CREATE TABLE table (text text, bigint boolean)",
+        Ok("CREATE TABLE table (text text, bigint boolean)"),
+    ),
+    ("CREATE TABLE t ()", Err(Syntax(16))),
+    ("CREATE TABLE t (a int)", Err(Syntax(18))),
+    ("CREATE TABLE t (a bigint NULL)", Err(Syntax(25))),
+    ("CREATE TABLE t (a bigint NOT)", Err(Syntax(28))),
+    ("CREATE TABLE t (a bigint,)", Err(Syntax(25))),
+    ("CREATE TABLE t (a, b text)", Err(Syntax(17))),
+    ("CREATE TABLE t a bigint", Err(Syntax(15))),
+    ("CREATE TABLE t (a bigint", Err(Syntax(24))),
+    ("CREATE VIEW v", Err(Syntax(7))),
+    ("CREATE INDEX i ON t (c)", Ok("CREATE INDEX i ON t (c)")),
+    (
+        "create index index on index ( index )",
+        Ok("CREATE INDEX index ON index (index)"),
+    ),
+    ("CREATE INDEX i ON t (c, d)", Err(Syntax(22))),
+    ("CREATE INDEX ON t (c)", Err(Syntax(13))),
+    ("CREATE INDEX i ON t", Err(Syntax(19))),
+];
+
+// ALTER TABLE.
+static ALTERED: [Row; 13] = [
+    ("ALTER TABLE t OWNER TO r", Ok("ALTER TABLE t OWNER TO r")),
+    (
+        "ALTER TABLE owner OWNER TO owner",
+        Ok("ALTER TABLE owner OWNER TO owner"),
+    ),
+    (
+        "ALTER TABLE t ENABLE ROW LEVEL SECURITY",
+        Ok("ALTER TABLE t ENABLE"),
+    ),
+    (
+        "ALTER TABLE t DISABLE ROW LEVEL SECURITY",
+        Ok("ALTER TABLE t DISABLE"),
+    ),
+    (
+        "ALTER TABLE t FORCE ROW LEVEL SECURITY",
+        Ok("ALTER TABLE t FORCE"),
+    ),
+    (
+        "ALTER TABLE no NO FORCE row level security",
+        Ok("ALTER TABLE no NO FORCE"),
+    ),
+    (
+        "ALTER TABLE t NO ENABLE ROW LEVEL SECURITY",
+        Err(Syntax(17)),
+    ),
+    ("ALTER TABLE t ENABLE ROW SECURITY", Err(Syntax(25))),
+    ("ALTER TABLE t ENABLE", Err(Syntax(20))),
+    ("ALTER TABLE t ROW LEVEL SECURITY", Err(Syntax(14))),
+    ("ALTER TABLE t OWNER r", Err(Syntax(20))),
+    ("ALTER TABLE t RENAME TO u", Err(Syntax(14))),
+    ("ALTER ROLE r", Err(Syntax(6))),
+];
+
+// GRANT SELECT and REVOKE SELECT.
+static GRANTS: [Row; 15] = [
+    ("GRANT SELECT ON t TO r", Ok("GRANT SELECT ON t TO r")),
+    (
+        "GRANT SELECT (a, b) ON t TO r, p",
+        Ok("GRANT SELECT (a, b) ON t TO r, p"),
+    ),
+    (
+        "GRANT SELECT(a) ON t TO PUBLIC",
+        Ok("GRANT SELECT (a) ON t TO public"),
+    ),
+    (
+        "GRANT SELECT ON t TO alice, Public, bob",
+        Ok("GRANT SELECT ON t TO alice, public, bob"),
+    ),
+    ("GRANT SELECT () ON t TO r", Err(Syntax(14))),
+    ("GRANT SELECT (a,) ON t TO r", Err(Syntax(16))),
+    ("GRANT SELECT TO m", Err(Syntax(13))),
+    ("GRANT SELECT ON t FROM r", Err(Syntax(18))),
+    ("GRANT SELECT ON t TO", Err(Syntax(20))),
+    ("GRANT SELECT ON t, u TO r", Err(Syntax(17))),
+    ("GRANT SELECT, INSERT ON t TO r", Err(Syntax(12))),
+    (
+        "REVOKE SELECT ON t FROM PUBLIC",
+        Ok("REVOKE SELECT ON t FROM public"),
+    ),
+    (
+        "REVOKE SELECT (a, b) ON t FROM r, p",
+        Ok("REVOKE SELECT (a, b) ON t FROM r, p"),
+    ),
+    ("REVOKE SELECT ON t TO r", Err(Syntax(19))),
+    ("REVOKE SELECT FROM t", Err(Syntax(14))),
+];
+
+// Policies.
+static POLICIES: [Row; 20] = [
+    (
+        "CREATE POLICY p ON t USING (a = 1)",
+        Ok("CREATE POLICY p ON t PERMISSIVE TO public USING (a = 1)"),
+    ),
+    (
+        "CREATE POLICY p ON t AS RESTRICTIVE FOR SELECT TO r, PUBLIC USING (a > -1 AND b)",
+        Ok("CREATE POLICY p ON t RESTRICTIVE TO r, public USING AND[(a > -1), b]"),
+    ),
+    (
+        "CREATE POLICY p ON t AS PERMISSIVE FOR ALL USING (CURRENT_USER = t.b)",
+        Ok("CREATE POLICY p ON t PERMISSIVE TO public USING (CURRENT_USER = t.b)"),
+    ),
+    (
+        "CREATE POLICY policy ON policy AS restrictive USING (restrictive)",
+        Ok("CREATE POLICY policy ON policy RESTRICTIVE TO public USING restrictive"),
+    ),
+    (
+        "CREATE POLICY p ON t TO q USING ((a OR b) OR NOT count(*) IN (1))",
+        Ok("CREATE POLICY p ON t PERMISSIVE TO q USING OR[a, b, (NOT (count(*) IN [1]))]"),
+    ),
+    ("CREATE POLICY p ON t FOR UPDATE USING (a)", Err(Syntax(25))),
+    (
+        "CREATE POLICY p ON t FOR ALL AS RESTRICTIVE USING (a)",
+        Err(Syntax(29)),
+    ),
+    (
+        "CREATE POLICY p ON t TO r FOR ALL USING (a)",
+        Err(Syntax(26)),
+    ),
+    ("CREATE POLICY p ON t AS strict USING (a)", Err(Syntax(24))),
+    ("CREATE POLICY p ON t USING a", Err(Syntax(27))),
+    ("CREATE POLICY p ON t USING ()", Err(Syntax(28))),
+    ("CREATE POLICY p ON t USING (a", Err(Syntax(29))),
+    (
+        "CREATE POLICY p ON t USING (a) WITH CHECK (a)",
+        Err(Syntax(31)),
+    ),
+    ("CREATE POLICY p ON t", Err(Syntax(20))),
+    ("CREATE POLICY p USING (a)", Err(Syntax(16))),
+    (
+        "CREATE POLICY p ON t USING (a = 9223372036854775808)",
+        Err(Syntax(32)),
+    ),
+    ("CREATE POLICY p ON t USING (a = '\\N')", Err(Syntax(32))),
+    ("DROP POLICY p ON t", Ok("DROP POLICY p ON t")),
+    ("DROP POLICY p", Err(Syntax(13))),
+    ("DROP TABLE t", Err(Syntax(5))),
+];
+
+// A statement alone has no semicolon.
+static ENDS: [Row; 6] = [
+    ("CREATE ROLE a;", Err(Syntax(13))),
+    ("", Err(Syntax(0))),
+    (";", Err(Syntax(0))),
+    ("SELECT a FROM t", Err(Syntax(0))),
+    ("INSERT INTO t", Err(Syntax(0))),
+    ("CREATE ROLE a -- b", Err(Syntax(14))),
+];
+
+// Schemas, each statement of the tree followed by a semicolon.
+static SCHEMAS: [Row; 12] = [
+    ("", Ok("")),
+    (" \n", Ok("")),
+    ("CREATE ROLE a;", Ok("CREATE ROLE a;")),
+    (
+        "CREATE ROLE a; GRANT a TO b ;\nDROP POLICY p ON t;",
+        Ok("CREATE ROLE a;GRANT a TO b;DROP POLICY p ON t;"),
+    ),
+    ("CREATE ROLE a", Err(Syntax(13))),
+    ("CREATE ROLE a; CREATE ROLE b", Err(Syntax(28))),
+    ("CREATE ROLE a CREATE ROLE b;", Err(Syntax(14))),
+    (";", Err(Syntax(0))),
+    ("CREATE ROLE a;;", Err(Syntax(14))),
+    ("CREATE ROLE a; -- more", Err(Syntax(15))),
+    ("CREATE ROLE a; SELECT a FROM t;", Err(Syntax(15))),
+    ("CREATE", Err(Syntax(6))),
+];
+
+fn empty(alloc: Global) -> Printer {
+    Printer {
+        text: String::new(alloc),
+        placed: false,
+    }
+}
+
+fn told(alloc: Global, text: &str) -> Result<String, ParseError> {
+    let statement = parse_statement(alloc, text)?;
+    let mut out = empty(alloc);
+    show_statement(&statement, &mut out)?;
+    Ok(out.text)
+}
+
+fn told_schema(alloc: Global, text: &str) -> Result<String, ParseError> {
+    let statements = parse_schema(alloc, text)?;
+    let mut out = empty(alloc);
+    for statement in statements.as_slice() {
+        show_statement(statement, &mut out)?;
+        out.text.push(';')?;
+    }
+    Ok(out.text)
+}
+
+fn is_told(
+    rt: &impl Abort,
+    found: Result<String, ParseError>,
+    want: Result<&str, ParseError>,
+    text: &str,
+) {
+    match found {
+        Ok(found) => assert_eq!(rt; Ok(found.as_str()), want, "{text}"),
+        Err(error) => assert_eq!(rt; Err(error), want, "{text}"),
+    }
+}
+
+fn are_told(rt: &(impl Abort + AllocGlobal), rows: &[Row]) {
+    for (text, want) in rows {
+        is_told(rt, told(rt.alloc(), text), *want, text);
+    }
+}
+
+fn roles() -> &'static [Row] {
+    &ROLES
+}
+
+fn tables() -> &'static [Row] {
+    &TABLES
+}
+
+fn altered() -> &'static [Row] {
+    &ALTERED
+}
+
+fn grants() -> &'static [Row] {
+    &GRANTS
+}
+
+fn policies() -> &'static [Row] {
+    &POLICIES
+}
+
+fn ends() -> &'static [Row] {
+    &ENDS
+}
+
+fn schemas() -> &'static [Row] {
+    &SCHEMAS
+}
+
+#[test]
+fn statements_by_the_grammar(rt: HostRuntime) {
+    for rows in [roles(), tables(), altered(), grants(), policies(), ends()] {
+        are_told(&rt, rows);
+    }
+}
+
+#[test]
+fn schemas_by_the_grammar(rt: HostRuntime) {
+    for (text, want) in schemas() {
+        is_told(&rt, told_schema(rt.alloc(), text), *want, text);
+    }
+}
