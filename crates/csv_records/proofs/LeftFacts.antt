@@ -1,14 +1,15 @@
 -- The records of a text, as a list: the next one, and then those of what is left.
-use Rattle.std.proofs.Common.{ℕ, zero, suc, ◌≡◌, ◌≢◌, ◌+◌, ◌<◌, ◌⊎◌, inl, inr, Bool, true, false, List, [], ◌∷◌, ◌++◌, length, Option, Some, None, option_map, if◌then◌else◌, refl, sym, ap, ◌∙◌, arith, add-one, IfSome}
+use Rattle.std.proofs.Common.{ℕ, zero, suc, ◌≡◌, ◌≢◌, ◌+◌, ◌<◌, ◌⊎◌, inl, inr, Bool, true, false, List, [], ◌∷◌, ◌++◌, length, Option, Some, None, option_map, if◌then◌else◌, refl, sym, ap, ◌∙◌, arith, add-one}
+use Rattle.std.specs.Prelude.{MatchOption, unwrap_or}
 use Rattle.csv.specs.Machine.{Read, next_record, step, is_end, fields_after, field_after, ends_at_end}
-use Rattle.csv.specs.Reading.{ReadRecord, ReadsNext, NextIs, ExplainsRead, pending_of, source_of, records_from, records_next, default_config}
+use Rattle.csv.specs.Reading.{ReadRecord, ReadsNext, NextIs, has_failed, pending_of, source_of, records_from, records_next, default_config}
 use Rattle.csv.specs.declared.reader.Reader.{Reader}
 use Rattle.csv.specs.declared.parser.Config.{Config}
 use Rattle.csv.specs.declared.parser.State.{State}
 use Rattle.csv.specs.declared.parser.State.TheVariants as st
-use Rattle.csv.specs.declared.error.ErrorKind.TheVariants as kind
-use Rattle.csv.specs.declared.record.Position.{Position}
-use Rattle.csv_records.specs.Left.{FirstHasOther, Fits_length, GivesOf, IsPlain, records_after}
+use Rattle.csv_records.specs.declared.RecordError.{RecordError}
+use Rattle.csv_records.specs.declared.Records.TheInside.{Inside}
+use Rattle.csv_records.specs.Left.{FirstHasOther, Fits_length, GivesOf, IsPlain, KeepsFailure, TailIsLeft, records_after}
 
 -- what is left after a record is shorter, or the text was at its end
 abbrev Falls : List ℕ → Option Read → Type 0
@@ -76,28 +77,44 @@ shows_read None after s t found fields h = tt
 shows_read (Some xs) None s t found fields h = absurd h
 shows_read (Some xs) (Some ys) s t found fields h = shows_next xs ys s t found fields _ refl h
 
-fits : (old : Option ℕ) (new : Option ℕ) (n : ℕ) → IfSome old (λ e. new ≡ Some e) → new ≡ Some n → Fits_length old n
-fits None new n h e = tt
-fits (Some k) new n h e = cc (h, e)
-
+-- what a read of a plain reader shows
 pub gives_record : {R : Type 0} (rem : R → Option (List ℕ)) (a b : Reader R) (found : Bool) (fields : List (List ℕ)) → IsPlain a → ReadRecord rem a b found fields
     → GivesOf (option_map (records_after a.state) (source_of rem a)) (option_map (records_after b.state) (source_of rem b)) found fields
-    × (found ≡ true → Fits_length a.expected (length fields) × (b.expected ≡ Some (length fields)))
-gives_record rem a b found fields (config, trims, flexible, ready) r = (
-  rw r.1 (shows_read (source_of rem a) (pending_of (rem b.rdr) b) a.state b.state found fields (rw config at r.0)),
-  λ e. let h = r.5 e flexible in (fits a.expected b.expected (length fields) h.0 h.1, h.1),
-)
+gives_record rem a b found fields (config, trims, flexible, ready) r =
+    rw r.1 (shows_read (source_of rem a) (pending_of (rem b.rdr) b) a.state b.state found fields (rw config at r.0))
 
--- an error of lengths is of the next record
-other : (left after : Option (List (List (List ℕ)))) (fields : List (List ℕ)) (m n : ℕ) → GivesOf left after true fields → length fields ≡ n → m ≢ n → FirstHasOther left m
-other None after fields m n h e d = tt
-other (Some []) after fields m n h e d = cc h
-other (Some (r ∷ rs)) after fields m n h e d = λ same. d (sym same ∙ ap length (sym h.1) ∙ e)
+-- a record that was read is passed over
+pub tail_left : (old new : Option (List (List (List ℕ)))) (fields : List (List ℕ)) → GivesOf old new true fields → TailIsLeft old new
+tail_left None new fields gives = tt
+tail_left (Some []) new fields gives = cc gives
+tail_left (Some (r ∷ rs)) new fields (here, is, left) = left
 
-pub uneven_next : {R : Type 0} (rem : R → Option (List ℕ)) (a b : Reader R) (pos : Option Position) (m n : ℕ) → IsPlain a → ExplainsRead rem a b false (kind.UnequalLengths pos m n)
-    → (x : ℕ) × (a.expected ≡ Some x) × FirstHasOther (option_map (records_after a.state) (source_of rem a)) x
-uneven_next rem a b pos m n (config, trims, flexible, ready) (strict, expected, differs, fields, took, size) = (
-  m,
-  expected,
-  other _ _ fields m n (shows_read (source_of rem a) (pending_of (rem b.rdr) b) a.state b.state true fields (rw config at took)) size differs,
-)
+-- it has another length than the expected one
+pub first_other : (old new : Option (List (List (List ℕ)))) (fields : List (List ℕ)) (n : ℕ) → GivesOf old new true fields → length fields ≢ n → FirstHasOther old n
+first_other None new fields n gives differ = tt
+first_other (Some []) new fields n gives differ = cc gives
+first_other (Some (r ∷ rs)) new fields n (here, is, left) differ = λ same. differ (ap length is ∙ same)
+
+-- the length that a record must have: any, where there was no record
+pub differs : (expected : Option ℕ) (n : ℕ) → unwrap_or expected n ≢ n → (m : ℕ) × (expected ≡ Some m) × (n ≢ m)
+differs None n other = absurd (other refl)
+differs (Some m) n other = (m, refl, λ same. other (sym same))
+
+pub fits : (expected : Option ℕ) (n : ℕ) → unwrap_or expected n ≡ n → Fits_length expected n
+fits None n same = tt
+fits (Some m) n same = sym same
+
+-- a reader that has not failed is plain
+pub plain_unfailed : {R : Type 0} (a : Inside R) → KeepsFailure a → ¬ (has_failed a.inner ≡ true) → IsPlain a.inner
+plain_unfailed a keeps other = plain_of a.failure a.inner keeps other where
+  plain_of : {R : Type 0} (failure : Option RecordError) (r : Reader R) → MatchOption failure ((has_failed r ≡ false) × IsPlain r) (λ why. has_failed r ≡ true) → ¬ (has_failed r ≡ true) → IsPlain r
+  plain_of None r (fresh, plain) other = plain
+  plain_of (Some why) r failed other = absurd (other failed)
+
+-- a read that found no record, of a reader that may have failed
+pub gives_none : {R : Type 0} (rem : R → Option (List ℕ)) (a : Inside R) (b : Reader R) (fields : List (List ℕ)) → KeepsFailure a → (IsPlain a.inner → ReadRecord rem a.inner b false fields)
+    → GivesOf (option_map (records_after a.inner.state) (source_of rem a.inner)) (option_map (records_after b.state) (source_of rem b)) false fields
+gives_none rem a b fields keeps reads = none_of a.failure keeps where
+  none_of : (failure : Option RecordError) → MatchOption failure ((has_failed a.inner ≡ false) × IsPlain a.inner) (λ why. has_failed a.inner ≡ true) → GivesOf (option_map (records_after a.inner.state) (source_of rem a.inner)) (option_map (records_after b.state) (source_of rem b)) false fields
+  none_of None (fresh, plain) = gives_record rem a.inner b false fields plain (reads plain)
+  none_of (Some why) failed = rw failed tt

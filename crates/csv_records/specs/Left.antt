@@ -1,18 +1,26 @@
 -- The records that a reader has left.
-use Rattle.std.specs.Prelude.{ℕ, ◌≡◌, ◌≢◌, ◌+◌, ◌-◌, ◌^◌, min, if◌then◌else◌, ◌⊎◌, Bool, true, false, List, [], ◌∷◌, length, Option, None, Some, option_map, IfSome, ⊤}
+use Rattle.std.specs.Prelude.{ℕ, ◌≡◌, ◌≢◌, ◌+◌, ◌-◌, ◌^◌, min, if◌then◌else◌, Bool, true, false, List, [], ◌∷◌, length, Option, None, Some, option_map, IfSome, MatchOption, ⊤}
+use Rattle.csv.specs.declared.error.ErrorKind.{ErrorKind}
+use Rattle.csv.specs.declared.error.ErrorKind.TheVariants as kind
 use Rattle.csv.specs.declared.reader.Reader.{Reader}
-use Rattle.csv.specs.Reading.{Ready, has_failed, source_of, records_from, default_config}
+use Rattle.csv.specs.Reading.{Ready, has_failed, source_of, records, records_from, strip_bom, default_config}
 use Rattle.csv.specs.declared.parser.State.{State}
 use Rattle.csv.specs.declared.reader.Trim.TheVariants as trim
+use Rattle.csv_records.specs.declared.RecordError.{RecordError}
+use Rattle.csv_records.specs.declared.RecordError.TheVariants.{Uneven, Failed, OutOfMemory}
 use Rattle.csv_records.specs.declared.Records.TheInside.{Inside}
 
+-- the records of a text; a byte order mark at its start is no part of them
+abbrev pub records_of : List ℕ → List (List (List ℕ))
+records_of bytes = records default_config (strip_bom bytes)
+
 -- the records that are left, where they are known, the number of fields that each must have, once there was one, how
--- many were given, and whether a read failed
+-- many were given, and why a read failed, if one did
 pub record Left : Type 0 where
   pub records : Option (List (List (List ℕ)))
   pub expected : Option ℕ
   pub given : ℕ
-  pub failed : Bool
+  pub failure : Option RecordError
 
 -- the records of a text that is read from a state on
 abbrev pub records_after : State → List ℕ → List (List (List ℕ))
@@ -20,15 +28,30 @@ records_after s xs = records_from default_config (length xs + 1) s xs
 
 -- what a reader has left
 abbrev pub left_of : {R : Type 0} → (R → Option (List ℕ)) → Inside R → Left
-left_of remaining a = record { records = option_map (records_after a.inner.state) (source_of remaining a.inner); expected = a.inner.expected; given = a.given; failed = has_failed a.inner }
+left_of remaining a = record { records = option_map (records_after a.inner.state) (source_of remaining a.inner); expected = a.expected; given = a.given; failure = a.failure }
 
--- the reader takes commas and double quotes, keeps spaces, has no header row, and wants one length
+-- the reader takes commas and double quotes, keeps spaces, has no header row, and takes records of any length
 abbrev pub IsPlain : {R : Type 0} → Reader R → Type 0
-IsPlain a = (a.config ≡ default_config) × (a.trim ≡ trim.None) × (a.flexible ≡ false) × Ready a
+IsPlain a = (a.config ≡ default_config) × (a.trim ≡ trim.None) × (a.flexible ≡ true) × Ready a
 
--- the reader failed before, or it is plain
-abbrev pub IsPlain_or_failed : {R : Type 0} → Inside R → Type 0
-IsPlain_or_failed a = (has_failed a.inner ≡ true) ⊎ IsPlain a.inner
+-- a failure is kept of a reader that failed, and none of one that did not, which is plain
+abbrev pub KeepsFailure : {R : Type 0} → Inside R → Type 0
+KeepsFailure a = MatchOption a.failure ((has_failed a.inner ≡ false) × IsPlain a.inner) (λ why. has_failed a.inner ≡ true)
+
+-- why a read failed: out of memory, or else the reader underneath
+abbrev pub reason_of : ErrorKind → RecordError
+reason_of kind.OutOfMemory = OutOfMemory
+reason_of (kind.Io e) = Failed
+reason_of (kind.UnequalLengths pos expected len) = Failed
+reason_of (kind.Utf8 pos err) = Failed
+reason_of (kind.Serialize text) = Failed
+reason_of (kind.Deserialize pos err) = Failed
+
+-- the failure that is kept after an error: a record of another length is none
+abbrev pub failure_after : RecordError → Option RecordError
+failure_after Uneven = None
+failure_after Failed = Some Failed
+failure_after OutOfMemory = Some OutOfMemory
 
 -- the number of fields is the expected one, if one is
 abbrev pub Fits_length : Option ℕ → ℕ → Type 0
@@ -58,3 +81,13 @@ FirstHasOther (Some (r ∷ rs)) n = length r ≢ n
 -- the next record has another number of fields than those before it
 abbrev pub NextIsUneven : Left → Type 0
 NextIsUneven left = (n : ℕ) × (left.expected ≡ Some n) × FirstHasOther left.records n
+
+-- of records that are known, those after the first are left
+abbrev pub TailIsLeft : Option (List (List (List ℕ))) → Option (List (List (List ℕ))) → Type 0
+TailIsLeft None after = ⊤
+TailIsLeft (Some []) after = ⊥
+TailIsLeft (Some (r ∷ rs)) after = after ≡ Some rs
+
+-- one record was passed over, and the later ones must have as many fields as before
+abbrev pub SkipsOne : Left → Left → Type 0
+SkipsOne old new = TailIsLeft old.records new.records × (new.expected ≡ old.expected)

@@ -67,27 +67,27 @@ same_answer cat role b one other same =
     (IsPermutation-map (items_of b.places) _ _ same))
 
 same_rows : (cat : Catalogue) (role : Name) (b : Bound) (one other : Content) (no : Option Need) →
-    answer cat one role b ≡ answer cat other role b → denied_or_rows cat one role b no ≡ denied_or_rows cat other role b no
+    (no ≡ None → answer cat one role b ≡ answer cat other role b) → denied_or_rows cat one role b no ≡ denied_or_rows cat other role b no
 same_rows cat role b one other (Some need) same = refl
-same_rows cat role b one other None same = ap (rows b.names) same
+same_rows cat role b one other None same = ap (rows b.names) (same refl)
 
 same_bound : (cat : Catalogue) (role : Name) (one other : Content) (bound : Result Bound NameFault) →
-    ((b : Bound) → bound ≡ Ok b → answer cat one role b ≡ answer cat other role b) →
+    ((b : Bound) → bound ≡ Ok b → denial cat role (needed b) ≡ None → answer cat one role b ≡ answer cat other role b) →
     bound_reply cat one role bound ≡ bound_reply cat other role bound
 same_bound cat role one other (Err e) same = refl
 same_bound cat role one other (Ok b) same = same_rows cat role b one other (denial cat role (needed b)) (same b refl)
 
 same_served : (cat : Catalogue) (role : Name) (one other : Content) (plain : Option PlainQuery) →
-    ((p : PlainQuery) (b : Bound) → plain ≡ Some p → resolved cat p ≡ Ok b → answer cat one role b ≡ answer cat other role b) →
+    ((p : PlainQuery) (b : Bound) → plain ≡ Some p → resolved cat p ≡ Ok b → denial cat role (needed b) ≡ None → answer cat one role b ≡ answer cat other role b) →
     served_reply cat one role plain ≡ served_reply cat other role plain
 same_served cat role one other None same = refl
-same_served cat role one other (Some p) same = same_bound cat role one other (resolved cat p) (λ b bound. same p b refl bound)
+same_served cat role one other (Some p) same = same_bound cat role one other (resolved cat p) (λ b bound granted. same p b refl bound granted)
 
 same_parsed : (cat : Catalogue) (role : Name) (asked : List ℕ) (one other : Content) (parsed : Result Question TextFault) → parsed_query asked ≡ parsed →
     SeesSame cat role asked one other → parsed_reply cat one role parsed ≡ parsed_reply cat other role parsed
 same_parsed cat role asked one other (Err e) is same = refl
 same_parsed cat role asked one other (Ok q) is same =
-    same_served cat role one other (plain_query q) (λ p b plain bound. same_answer cat role b one other (same q p b is plain bound))
+    same_served cat role one other (plain_query q) (λ p b plain bound granted. same_answer cat role b one other (same q p b is plain bound granted))
 
 -- what the role does not see makes no difference
 pub same_reply : (cat : Catalogue) (role : Name) (asked : List ℕ) (one other : Content) → SeesSame cat role asked one other → reply_to cat one role asked ≡ reply_to cat other role asked

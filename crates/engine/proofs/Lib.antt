@@ -3,3 +3,4 @@ pub mod HiddenRows
 pub mod Places
 pub mod Loads
 pub mod PlainItems
+pub mod Fields

@@ -1,10 +1,9 @@
 -- An entry changed at its place.
-use Rattle.std.proofs.Common.{◌≡◌, ℕ, zero, suc, ◌+◌, ◌≤◌, Bool, true, false, cond, List, [], ◌∷◌, ◌++◌, map, set, get_or, find, Option, Some, None, refl, ap, ◌∙◌, arith}
-use Rattle.std.proofs.lemmas.List.{map-append}
+use Rattle.std.proofs.Common.{◌≡◌, ℕ, zero, suc, ◌+◌, ◌≤◌, Bool, true, false, cond, List, [], ◌∷◌, map, set, get_or, find, Option, Some, None, refl, ap, ◌∙◌, arith}
 use Rattle.std.specs.List.{position_from}
 use Rattle.syntax.specs.Tree.{Name, ColumnEntry}
 use Rattle.engine.specs.Entries.{GrantEntry, PolicyEntry, TableEntry}
-use Rattle.engine.specs.Changes.{first_changed, fresh_table, grants_to}
+use Rattle.engine.specs.Changes.{first_changed, fresh_table}
 
 some_is : (i j : ℕ) → ◌≡◌ {A = Option ℕ} (Some i) (Some j) → i ≡ j
 some_is i j e = cc
@@ -90,11 +89,8 @@ pub fresh_parts : (n n' : Name) (cs cs' : List ColumnEntry) (o o' : Name) (ps : 
     → ◌≡◌ {A = TableEntry} record { name = n; columns = cs; owner = o; secured = false; policies = ps; grants = gs } (fresh_table o' n' cs')
 fresh_parts n n' cs cs' o o' ps gs a b c d e = rw (a, b, c, d, e)
 
-pub with_grants : (t : TableEntry) (some more : List GrantEntry) → some ≡ more → ◌≡◌ {A = TableEntry} (record t { grants = some }) (record t { grants = more })
-with_grants t some more e = ap (λ gs. record t { grants = gs }) e
+pub same_but_grants : (t : TableEntry) (some more : List GrantEntry) → some ≡ more → ◌≡◌ {A = TableEntry} (record t { grants = some }) (record t { grants = more })
+same_but_grants t some more e = ap (λ gs. record t { grants = gs }) e
 
-pub with_policies : (t : TableEntry) (some more : List PolicyEntry) → some ≡ more → ◌≡◌ {A = TableEntry} (record t { policies = some }) (record t { policies = more })
-with_policies t some more e = ap (λ ps. record t { policies = ps }) e
-
-pub more_grants : (all some more : List Name) → all ≡ some ++ more → grants_to all ≡ grants_to some ++ grants_to more
-more_grants all some more e = rw (e, map-append)
+pub same_but_policies : (t : TableEntry) (some more : List PolicyEntry) → some ≡ more → ◌≡◌ {A = TableEntry} (record t { policies = some }) (record t { policies = more })
+same_but_policies t some more e = ap (λ ps. record t { policies = ps }) e

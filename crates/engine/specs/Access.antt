@@ -46,6 +46,10 @@ granted cat r need =
 abbrev pub denial : Catalogue → Name → List Need → Option Need
 denial cat r needs = find (λ need. not (granted cat r need)) needs
 
+-- the row of a number, counted from 0
+abbrev pub row_at : List Row → ℕ → Row
+row_at rows number = slice_index_or rows number []
+
 abbrev pub cell : Row → ℕ → Datum
 cell row place = slice_index_or row place null
 

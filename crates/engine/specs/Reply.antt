@@ -1,11 +1,13 @@
 -- What is answered, and how it is written.
-use Rattle.std.specs.Prelude.{ℕ, Bool, true, false, ◌==◌, ◌||◌, if◌then◌else◌, List, [], ◌∷◌, ◌++◌, map, flat_map, length, Option, Some, None, Result, Ok, Err, codes}
+use Rattle.std.specs.Prelude.{◌≡◌, ◌≢◌, ℕ, Bool, true, false, ◌==◌, ◌||◌, if◌then◌else◌, List, [], ◌∷◌, ◌++◌, map, flat_map, length, Option, Some, None, Result, Ok, Err, codes}
 use Rattle.std.specs.List.{list_any}
 use Rattle.std.specs.Fmt.{decimal, signed_decimal}
 use Rattle.bags.specs.Sorting.{sorted_by}
 use Rattle.value.specs.Datum.{Datum, null, int, text, bool, Row}
 use Rattle.value.specs.Orders.{row_cmp}
 use Rattle.value.specs.Codes.{code_of}
+use Rattle.value.specs.Texts.{IsNoNullMark, is_of, null_mark}
+use Rattle.value.specs.declared.types.ColType.{ColType}
 use Rattle.value.specs.declared.refusal.Refusal.{Refusal}
 use Rattle.value.specs.declared.refusal.Refusal.TheVariants as r
 use Rattle.syntax.specs.Tree.{Name, Question}
@@ -80,11 +82,15 @@ quoted_text bytes = if needs_quotes bytes then 34 ∷ flat_map doubled bytes ++ 
 
 -- null is \N, a truth value t or f
 abbrev pub field_text : Datum → List ℕ
-field_text null = codes "\\N"
+field_text null = null_mark
 field_text (int n) = signed_decimal n
 field_text (text bytes) = quoted_text bytes
 field_text (bool true) = codes "t"
 field_text (bool false) = codes "f"
+
+-- no value of a type has the field of null, but a text that is the null mark
+abbrev pub NullFieldIsNull : Type 0
+NullFieldIsNull = (kind : ColType) (d : Datum) → is_of kind d ≡ true → IsNoNullMark d → field_text d ≢ null_mark
 
 -- fields with commas between them, and LF
 abbrev pub line_text : Row → List ℕ
@@ -105,7 +111,7 @@ reply_text (refused why at) = codes "refused " ++ code_of why ++ offset_text at 
 reply_text (denied column table) = codes "denied 42501 " ++ column_text column ++ codes "table " ++ table ++ 10 ∷ []
 reply_text (rows headings lines) = line_text (map text headings) ++ flat_map line_text lines
 
--- of a refusal without a place: 3 a refused text, 6 an unknown role, 7 want of memory
+-- of a refusal without a place: 3 a refused text, 6 an unknown role, 7 out of memory
 abbrev pub refusal_status : Refusal → ℕ
 refusal_status r.UndefinedObject = 6
 refusal_status r.OutOfMemory = 7

@@ -1,11 +1,12 @@
 -- A catalogue with the contents of its tables.
-use Rattle.std.specs.Prelude.{◌≡◌, ◌≢◌, ◌-◌, ℕ, Bool, List, [], ◌∷◌, ◌++◌, length, map, Option, Some, None, if◌then◌else◌, Result, Ok, Err}
+use Rattle.std.specs.Prelude.{◌≡◌, ◌≢◌, ◌-◌, ℕ, Bool, List, [], ◌∷◌, ◌++◌, length, map, option_map, Option, Some, None, if◌then◌else◌, Result, Ok, Err, ⊤}
 use Rattle.std.specs.Str.{bytes_eq}
 use Rattle.value.specs.Datum.{Row}
 use Rattle.value.specs.declared.refusal.Refusal.{Refusal}
 use Rattle.value.specs.declared.refusal.Refusal.TheVariants as r
 use Rattle.tables.specs.declared.TheConstants.{MAX_ROWS}
-use Rattle.tables.specs.Loading.{Col, Contents, Fields, IsUnread, load_of}
+use Rattle.csv_records.specs.Left.{records_of}
+use Rattle.tables.specs.Loading.{Col, Contents, Fields, StopsAfterGood, load_of}
 use Rattle.tables.specs.declared.LoadError.{LoadError}
 use Rattle.tables.specs.declared.LoadError.TheVariants as faults
 use Rattle.std.specs.List.{find}
@@ -21,9 +22,28 @@ pub record World : Type 0 where
   pub catalogue : Catalogue
   pub contents : List (Name × Contents)
 
+-- the table has that name
+abbrev pub is_named : Name → Name × Contents → Bool
+is_named name entry = bytes_eq entry.0 name
+
+-- the contents of the first table of that name
+abbrev pub contents_named : List (Name × Contents) → Name → Option Contents
+contents_named contents name = option_map (λ entry. entry.1) (find (is_named name) contents)
+
+-- a table that is not there has no rows
+abbrev pub rows_of : Option Contents → List Row
+rows_of None = []
+rows_of (Some contents) = contents.rows
+
+abbrev pub columns_of : Option Contents → List Col
+columns_of None = []
+columns_of (Some contents) = contents.columns
+
 abbrev pub rows_in : List (Name × Contents) → Content
-rows_in [] name = []
-rows_in (entry ∷ entries) name = if bytes_eq entry.0 name then entry.1.rows else rows_in entries name
+rows_in contents name = rows_of (contents_named contents name)
+
+abbrev pub columns_in : List (Name × Contents) → Name → List Col
+columns_in contents name = columns_of (contents_named contents name)
 
 -- the rows of each table of the world
 abbrev pub content_of : World → Content
@@ -68,10 +88,6 @@ changed_world world actor act = changed_world_if world actor (plain_act act)
 
 -- ---- rows
 
--- a table's contents of that name
-abbrev pub is_named : Name → Name × Contents → Bool
-is_named name entry = bytes_eq entry.0 name
-
 abbrev pub with_rows : List Row → Name × Contents → Name × Contents
 with_rows rows entry = (entry.0, record { columns = entry.1.columns; rows = entry.1.rows ++ rows })
 
@@ -79,16 +95,37 @@ with_rows rows entry = (entry.0, record { columns = entry.1.columns; rows = entr
 abbrev pub due_rows : Contents → List Fields → Result (List Row) LoadError
 due_rows t recs = load_of t.columns (MAX_ROWS - length t.rows) recs
 
--- A load of a text into the table of that name: the rows of its records come to the table's; or else nothing changes, and the
--- first fault is told, want of memory aside.
+-- A load of records into the table of that name: the rows of the records come to the table's; or else nothing changes, and the
+-- first fault of the records is reported, unless memory ran out.
 abbrev pub IsLoad : List (Name × Contents) → List (Name × Contents) → Name → List Fields → Result (Unit {0}) StoreError → Type 0
 IsLoad old new name recs (Ok u) =
     (entry : Name × Contents) × (rows : List Row) × (find (is_named name) old ≡ Some entry) × (due_rows entry.1 recs ≡ Ok rows) × (new ≡ first_changed (is_named name) (with_rows rows) old)
 IsLoad old new name recs (Err errors.UndefinedTable) = find (is_named name) old ≡ None
 IsLoad old new name recs (Err (errors.Data e)) = (entry : Name × Contents) × (find (is_named name) old ≡ Some entry) × (e ≢ faults.OutOfMemory → due_rows entry.1 recs ≡ Err e)
 
--- A load whose read failed at a row: that is told, or want of memory.
-abbrev pub IsUnreadLoad : ℕ → Result (Unit {0}) StoreError → Type 0
-IsUnreadLoad row (Ok u) = ⊥
-IsUnreadLoad row (Err errors.UndefinedTable) = ⊥
-IsUnreadLoad row (Err (errors.Data e)) = IsUnread {Y = Unit {0}} row (Err e)
+-- where a row was not read, the rows of the table before it are there and without fault
+abbrev pub LoadStops : List (Name × Contents) → Name → List Fields → Result (Unit {0}) StoreError → Type 0
+LoadStops old name recs (Ok u) = ⊤
+LoadStops old name recs (Err errors.UndefinedTable) = ⊤
+LoadStops old name recs (Err (errors.Data e)) =
+    (entry : Name × Contents) × (find (is_named name) old ≡ Some entry) × StopsAfterGood {Y = Unit {0}} entry.1.columns (MAX_ROWS - length entry.1.rows) recs (Err e)
+
+-- the first fault of records that a reader gives; a read may fail in any row, and memory may run out
+abbrev pub IsFirstFault : Result (List Row) LoadError → LoadError → Type 0
+IsFirstFault due faults.Header = due ≡ Err faults.Header
+IsFirstFault due (faults.Reader row) = ⊤
+IsFirstFault due (faults.Cell row column) = due ≡ Err (faults.Cell row column)
+IsFirstFault due (faults.NotNull row column) = due ≡ Err (faults.NotNull row column)
+IsFirstFault due faults.TooMany = due ≡ Err faults.TooMany
+IsFirstFault due faults.OutOfMemory = ⊤
+
+-- the same load of records that a reader gives
+abbrev pub LoadsRows : List (Name × Contents) → List (Name × Contents) → Name → List Fields → Result (Unit {0}) StoreError → Type 0
+LoadsRows old new name recs (Ok u) = IsLoad old new name recs (Ok u)
+LoadsRows old new name recs (Err errors.UndefinedTable) = find (is_named name) old ≡ None
+LoadsRows old new name recs (Err (errors.Data e)) = (entry : Name × Contents) × (find (is_named name) old ≡ Some entry) × IsFirstFault (due_rows entry.1 recs) e
+
+-- A load of the bytes of a reader, where they are known; else of some records.
+abbrev pub IsLoadFrom : Option (List ℕ) → List (Name × Contents) → List (Name × Contents) → Name → Result (Unit {0}) StoreError → Type 0
+IsLoadFrom None old new name result = (recs : List Fields) × LoadsRows old new name recs result
+IsLoadFrom (Some bytes) old new name result = LoadsRows old new name (records_of bytes) result × LoadStops old name (records_of bytes) result

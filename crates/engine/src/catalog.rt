@@ -5,6 +5,7 @@ ghost use Rattle.std.specs.Str.{bytes_eq};
 ghost use Rattle.std.specs.List.{list_any, find};
 ghost use Rattle.engine.specs.Access.{belongs, is_role, is_superuser};
 ghost use Rattle.engine.specs.Catalogue.{role_entry, table_entry};
+ghost use Rattle.syntax.specs.View.{column_entry};
 ghost use Rattle.engine.specs.Names.{table_named};
 
 use memory::Heap;
@@ -13,16 +14,25 @@ use syntax::ColumnDef;
 use text::{Items, Text};
 use value::Value;
 
+/// The most roles of a catalogue.
+pub const MOST_ROLES: usize = 256;
+
+/// The most tables of a catalogue.
+pub const MOST_TABLES: usize = 64;
+
+/// The most columns of a table.
+pub const MOST_COLUMNS: usize = 64;
+
 /// A role.
 #[derive(Drop)]
-pub struct Role<A: Heap> {
-    pub name: Text<A>,
-    pub superuser: bool,
+pub(crate) struct Role<A: Heap> {
+    pub(crate) name: Text<A>,
+    pub(crate) superuser: bool,
 }
 
 /// What a policy compares its column with.
 #[derive(Drop)]
-pub enum Operand<A: Heap> {
+pub(crate) enum Operand<A: Heap> {
     /// The name of the role that asks.
     CurrentUser,
     /// A value.
@@ -31,24 +41,40 @@ pub enum Operand<A: Heap> {
 
 /// A permissive policy: the column at a place equals the operand, for some roles.
 #[derive(Drop)]
-pub struct Policy<A: Heap> {
-    pub name: Text<A>,
-    pub roles: Items<Text<A>, A>,
-    pub column: usize,
-    pub operand: Operand<A>,
+pub(crate) struct Policy<A: Heap> {
+    pub(crate) name: Text<A>,
+    pub(crate) roles: Items<Text<A>, A>,
+    pub(crate) column: usize,
+    pub(crate) operand: Operand<A>,
 }
 
 /// A table of the catalogue.
 #[derive(Drop)]
 pub struct TableDef<A: Heap> {
-    pub name: Text<A>,
-    pub columns: Items<ColumnDef<A>, A>,
-    pub owner: Text<A>,
-    /// Whether row security is enabled.
-    pub secured: bool,
-    pub policies: Items<Policy<A>, A>,
-    /// The roles that hold SELECT on the table, `public` standing for all.
-    pub readers: Items<Text<A>, A>,
+    pub(crate) name: Text<A>,
+    pub(crate) columns: Items<ColumnDef<A>, A>,
+    pub(crate) owner: Text<A>,
+    // Whether row security is enabled.
+    pub(crate) secured: bool,
+    pub(crate) policies: Items<Policy<A>, A>,
+    // The roles that hold SELECT on the table, `public` standing for all.
+    pub(crate) readers: Items<Text<A>, A>,
+}
+
+impl<A: Heap> TableDef<A> {
+    /// The name of the table.
+    pub fn name(&self) -> &str
+        ensures { result.now ≡ (table_entry self.now).name }
+    {
+        self.name.as_str()
+    }
+
+    /// The columns, in order.
+    pub fn columns(&self) -> &[ColumnDef<A>]
+        ensures { map (λ c. column_entry c) result.now ≡ (table_entry self.now).columns }
+    {
+        self.columns.as_slice()
+    }
 }
 
 /// Roles and tables.

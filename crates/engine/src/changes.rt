@@ -1,13 +1,13 @@
 //! What schema statements change.
 
-ghost use Rattle.std.specs.Prelude.{◌≡◌, ◌<◌, ◌++◌, ◌∷◌, [], IfOk, IfSome, OnErr, OnOk, length, map, true};
+ghost use Rattle.std.specs.Prelude.{◌≡◌, ◌<◌, ◌++◌, [], IfOk, IfSome, OnErr, OnOk, length, map, option_map, true};
 ghost use Rattle.std.specs.Str.{bytes_eq};
-ghost use Rattle.std.specs.List.{position_from};
+ghost use Rattle.std.specs.List.{list_all, position_from};
 ghost use Rattle.engine.specs.Plain.{create_role, create_table, set_owner, enable_security, grant_select, create_policy};
 ghost use Rattle.syntax.specs.View.{act_of, column_entry};
 ghost use Rattle.engine.specs.PlainView.{plain_act_of, plain_policy_of, side_of};
 ghost use Rattle.engine.specs.Catalogue.{policy_entry, side_held, table_entry};
-ghost use Rattle.engine.specs.Changes.{after, at_first, changed, changed_plainly, fresh_table, grants_to, in_table, policy_of, IsChange};
+ghost use Rattle.engine.specs.Changes.{after, at_first, changed, changed_plainly, fresh_table, grant_to, grants_to, has_grant, in_table, policy_of, with_grants, with_last, GrantedAgain, IsChange, IsGranted};
 ghost use Rattle.engine.specs.Names.{place_of};
 
 use crate::catalog::{Catalog, Operand, Policy, Role, TableDef};
@@ -31,19 +31,6 @@ fn push_names<A: Heap>(
         list.push(Text::new(alloc, name.as_str())?)?;
     }
     Ok(())
-}
-
-fn joined_names<A: Heap>(
-    alloc: A,
-    some: &[Text<A>],
-    more: &[Text<A>],
-) -> Result<Items<Text<A>, A>, AllocError>
-    ensures { IfOk result (λ all. all ≡ some.now ++ more.now) }
-{
-    let mut all = Items::new(alloc);
-    push_names(alloc, &mut all, some)?;
-    push_names(alloc, &mut all, more)?;
-    Ok(all)
 }
 
 fn copy_names<A: Heap>(alloc: A, names: &[Text<A>]) -> Result<Items<Text<A>, A>, AllocError>
@@ -120,31 +107,90 @@ fn table_place<A: Heap>(tables: &[TableDef<A>], name: &str) -> Option<usize>
     None
 }
 
-fn policy_place<A: Heap>(table: &TableDef<A>, policy: &PlainPolicy<'_, A>) -> usize
-    ensures { result ≡ (policy_of (plain_policy_of policy.now) (table_entry table.now)).column }
-{
-    match place(table.columns.as_slice(), policy.column.name.as_str()) {
-        Some(place) => place,
-        None => 0,
-    }
-}
-
+// The policy, if its column is the table's.
 fn new_policy<A: Heap>(
     alloc: A,
     table: &TableDef<A>,
     policy: &PlainPolicy<'_, A>,
-) -> Result<Policy<A>, AllocError>
-    ensures { IfOk result (λ made. policy_entry made ≡ policy_of (plain_policy_of policy.now) (table_entry table.now)) }
+) -> Result<Option<Policy<A>>, AllocError>
+    ensures { IfOk result (λ made. option_map (λ p. policy_entry p) made ≡ policy_of (plain_policy_of policy.now) (table_entry table.now)) }
 {
+    let Some(column) = place(table.columns.as_slice(), policy.column.name.as_str()) else {
+        return Ok(None);
+    };
     let name = Text::new(alloc, policy.name.as_str())?;
     let roles = copy_names(alloc, policy.roles.as_slice())?;
     let operand = copy_operand(alloc, &policy.operand)?;
-    Ok(Policy {
+    Ok(Some(Policy {
         name,
         roles,
-        column: policy_place(table, policy),
+        column,
         operand,
-    })
+    }))
+}
+
+// Whether SELECT on the whole table is granted to the role itself.
+fn is_reader_of<A: Heap>(readers: &[Text<A>], role: &str) -> bool
+    ensures { result ≡ has_grant (grants_to readers.now) (grant_to role.now) }
+{
+    for reader in readers {
+        if reader.as_str() == role {
+            return true;
+        }
+    }
+    false
+}
+
+fn are_readers<A: Heap>(readers: &[Text<A>], roles: &[Text<A>]) -> bool
+    ensures { result ≡ list_all (has_grant (grants_to readers.now)) (grants_to roles.now) }
+{
+    for role in roles {
+        if !is_reader_of(readers, role.as_str()) {
+            return false;
+        }
+    }
+    true
+}
+
+// Adds the roles that are not among the readers.
+fn push_readers<A: Heap>(
+    alloc: A,
+    readers: &mut Items<Text<A>, A>,
+    roles: &[Text<A>],
+) -> Result<(), AllocError>
+    ensures { OnOk result (grants_to readers.new ≡ with_grants (grants_to readers.old) (grants_to roles.now)) }
+{
+    for role in roles {
+        if !is_reader_of(readers.as_slice(), role.as_str()) {
+            readers.push(Text::new(alloc, role.as_str())?)?;
+        }
+    }
+    Ok(())
+}
+
+// The readers of a table and the roles that are not among them.
+fn readers_with<A: Heap>(
+    alloc: A,
+    readers: &[Text<A>],
+    roles: &[Text<A>],
+) -> Result<Items<Text<A>, A>, AllocError>
+    ensures { IfOk result (λ all. grants_to all ≡ with_grants (grants_to readers.now) (grants_to roles.now)) }
+{
+    let mut all = copy_names(alloc, readers)?;
+    push_readers(alloc, &mut all, roles)?;
+    Ok(all)
+}
+
+// Grants SELECT on the table. The list of readers is made anew only where it grows, so that it stays as it was when memory
+// runs out.
+fn grant_on<A: Heap>(alloc: A, table: &mut TableDef<A>, roles: &[Text<A>]) -> Result<(), AllocError>
+    ensures done { OnOk result (table_entry table.new ≡ record (table_entry table.old) { grants = with_grants (table_entry table.old).grants (grants_to roles.now) }) }
+    ensures unchanged { OnErr result (table.new ≡ table.old) }
+{
+    if !are_readers(table.readers.as_slice(), roles) {
+        table.readers = readers_with(alloc, table.readers.as_slice(), roles)?;
+    }
+    Ok(())
 }
 
 fn set_owner_in<A: Heap>(tables: &mut [TableDef<A>], name: &str, owner: Text<A>)
@@ -169,12 +215,11 @@ fn add_readers_in<A: Heap>(
     name: &str,
     roles: &[Text<A>],
 ) -> Result<(), AllocError>
-    ensures done { OnOk result (map (λ t. table_entry t) tables.new ≡ in_table name.now (λ t. record t { grants = t.grants ++ grants_to roles.now }) (map (λ t. table_entry t) tables.old)) }
+    ensures done { OnOk result (map (λ t. table_entry t) tables.new ≡ in_table name.now (λ t. record t { grants = with_grants t.grants (grants_to roles.now) }) (map (λ t. table_entry t) tables.old)) }
     ensures unchanged { OnErr result (tables.new ≡ tables.old) }
 {
     if let Some(i) = table_place(tables, name) {
-        let table = &mut tables[i];
-        table.readers = joined_names(alloc, table.readers.as_slice(), roles)?;
+        grant_on(alloc, &mut tables[i], roles)?;
     }
     Ok(())
 }
@@ -184,13 +229,14 @@ fn add_policy_in<A: Heap>(
     tables: &mut [TableDef<A>],
     policy: &PlainPolicy<'_, A>,
 ) -> Result<(), AllocError>
-    ensures done { OnOk result (map (λ t. table_entry t) tables.new ≡ in_table policy.now.table.now (λ t. record t { policies = t.policies ++ policy_of (plain_policy_of policy.now) t ∷ [] }) (map (λ t. table_entry t) tables.old)) }
+    ensures done { OnOk result (map (λ t. table_entry t) tables.new ≡ in_table policy.now.table.now (λ t. record t { policies = with_last t.policies (policy_of (plain_policy_of policy.now) t) }) (map (λ t. table_entry t) tables.old)) }
     ensures unchanged { OnErr result (tables.new ≡ tables.old) }
 {
     if let Some(i) = table_place(tables, policy.table.as_str()) {
         let table = &mut tables[i];
-        let made = new_policy(alloc, table, policy)?;
-        table.policies.push(made)?;
+        if let Some(made) = new_policy(alloc, table, policy)? {
+            table.policies.push(made)?;
+        }
     }
     Ok(())
 }
@@ -261,7 +307,7 @@ impl<A: Heap> Catalog<A> {
         }
     }
 
-    /// Applies a statement of an actor. A refused statement changes nothing. What is not served yet is refused before all
+    /// Applies a statement of an actor. A refused statement changes nothing. What is not supported yet is reported before all
     /// else (0A000).
     pub fn apply(&mut self, actor: &str, statement: &Statement<A>) -> Result<(), Refusal>
         ensures { IsChange self.old self.new (changed self.old actor.now (act_of statement.now)) result }
@@ -272,7 +318,7 @@ impl<A: Heap> Catalog<A> {
         }
     }
 
-    // The same of a statement that is served.
+    // The same of a statement of a supported kind.
     pub(crate) fn apply_plainly(
         &mut self,
         actor: &str,
@@ -318,3 +364,9 @@ impl<A: Heap> Catalog<A> {
         add_policy_in(self.alloc, &mut self.tables, policy)
     }
 }
+
+/// After a GRANT its roles hold SELECT, and granting what is granted already leaves the catalogue as it is.
+pub fn law_granted_again()
+    ensures granted { IsGranted }
+    ensures again { GrantedAgain }
+{}

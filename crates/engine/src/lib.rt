@@ -14,7 +14,7 @@ mod store;
 
 pub use access::{is_granted, is_seen};
 pub use catalog::{Catalog, TableDef};
-pub use reply::{Reply, reply_status, reply_text};
-pub use resolve::{BindError, Bound, NameFault, bind, is_qualified};
+pub use changes::law_granted_again;
+pub use reply::{Reply, law_null_field, reply_status, reply_text};
 pub use serving::{ask, hidden_rows, serve};
-pub use store::{Store, StoreError, Stored};
+pub use store::{Store, StoreError};

@@ -1,16 +1,17 @@
 //! When a schema statement is refused.
 
-ghost use Rattle.std.specs.Prelude.{◌≡◌, [], ◌&&◌, ◌||◌, map, true};
+ghost use Rattle.std.specs.Prelude.{◌≡◌, [], ◌&&◌, ◌||◌, false, map, not, true};
 ghost use Rattle.std.specs.List.{list_all};
 ghost use Rattle.value.specs.Datum.{datum};
-ghost use Rattle.engine.specs.Plain.{create_role, create_table, set_owner, enable_security, grant_select, create_policy};
+ghost use Rattle.engine.specs.Plain.{create_role, create_table, set_owner, enable_security, grant_select, create_policy, is_empty};
 ghost use Rattle.syntax.specs.View.{column_entry};
 ghost use Rattle.engine.specs.PlainView.{plain_act_of, plain_policy_of, side_of};
 ghost use Rattle.engine.specs.Access.{belongs, is_superuser};
 ghost use Rattle.engine.specs.Catalogue.{table_entry};
-ghost use Rattle.engine.specs.Changes.{first_refusal, objections, refusal_of, condition_objections, owns, is_known, has_name, has_name_twice, is_of, side_is_of, fits};
+ghost use Rattle.engine.specs.Names.{table_named};
+ghost use Rattle.engine.specs.Changes.{first_refusal, objections, refusal_of, condition_objections, owns, is_known, has_name, has_name_twice, fits_type, side_fits, fits, is_unsupported, of_table};
 
-use crate::catalog::{Catalog, TableDef};
+use crate::catalog::{Catalog, MOST_COLUMNS, MOST_ROLES, MOST_TABLES, TableDef};
 use crate::plain::{PlainOperand, PlainPolicy, PlainStatement};
 use crate::resolve::is_qualified;
 use memory::Heap;
@@ -63,8 +64,8 @@ fn has_name_twice<A: Heap>(columns: &[ColumnDef<A>]) -> bool
     false
 }
 
-fn is_of<A: Heap>(kind: ColType, value: &Value<A>) -> bool
-    ensures { result ≡ is_of kind (datum value.now) }
+fn fits_type<A: Heap>(kind: ColType, value: &Value<A>) -> bool
+    ensures { result ≡ fits_type kind (datum value.now) }
 {
     match (kind, value) {
         (_, Value::Null) => true,
@@ -75,12 +76,12 @@ fn is_of<A: Heap>(kind: ColType, value: &Value<A>) -> bool
     }
 }
 
-fn side_is_of<A: Heap>(kind: ColType, operand: &PlainOperand<'_, A>) -> bool
-    ensures { result ≡ side_is_of kind (side_of operand.now) }
+fn side_fits<A: Heap>(kind: ColType, operand: &PlainOperand<'_, A>) -> bool
+    ensures { result ≡ side_fits kind (side_of operand.now) }
 {
     match operand {
         PlainOperand::CurrentUser => matches!(kind, ColType::Text),
-        PlainOperand::Literal(value) => is_of(kind, value),
+        PlainOperand::Literal(value) => fits_type(kind, value),
     }
 }
 
@@ -89,7 +90,7 @@ fn fits<A: Heap>(columns: &[ColumnDef<A>], name: &str, operand: &PlainOperand<'_
 {
     for column in columns {
         if column.name.as_str() == name {
-            return side_is_of(column.kind, operand);
+            return side_fits(column.kind, operand);
         }
     }
     true
@@ -102,7 +103,7 @@ fn of_new_role<A: Heap>(catalog: &Catalog<A>, actor: &str, name: &str) -> Option
         Some(Refusal::InsufficientPrivilege)
     } else if is_known(catalog, name) {
         Some(Refusal::DuplicateObject)
-    } else if catalog.roles() > 255 {
+    } else if catalog.roles() >= MOST_ROLES {
         Some(Refusal::ProgramLimitExceeded)
     } else {
         None
@@ -120,7 +121,7 @@ fn of_new_table<A: Heap>(
         Some(Refusal::DuplicateTable)
     } else if has_name_twice(columns.as_slice()) {
         Some(Refusal::DuplicateColumn)
-    } else if catalog.tables() > 63 || columns.len() > 64 {
+    } else if catalog.tables() >= MOST_TABLES || columns.len() > MOST_COLUMNS {
         Some(Refusal::ProgramLimitExceeded)
     } else {
         None
@@ -213,9 +214,7 @@ fn of_policy<A: Heap>(
     let Some(table) = catalog.table(policy.table.as_str()) else {
         return Some(Refusal::UndefinedTable);
     };
-    if table.policies.len() > 0 {
-        Some(Refusal::FeatureNotSupported)
-    } else if !owns(catalog, actor, table) {
+    if !owns(catalog, actor, table) {
         Some(Refusal::InsufficientPrivilege)
     } else if !are_known(catalog, policy.roles.as_slice()) {
         Some(Refusal::UndefinedObject)
@@ -247,7 +246,31 @@ fn of_statement<A: Heap>(
     }
 }
 
-/// The refusal of a statement that is served, by an actor, if there is one.
+// Whether there is a table of that name, and it has a policy.
+fn has_policy<A: Heap>(catalog: &Catalog<A>, name: &str) -> bool
+    ensures { result ≡ of_table false (λ t. not (is_empty t.policies)) (table_named name.now catalog.now) }
+{
+    match catalog.table(name) {
+        Some(table) => table.policies.len() > 0,
+        None => false,
+    }
+}
+
+// Whether a statement is not supported yet: a second policy on a table.
+fn is_unsupported<A: Heap>(catalog: &Catalog<A>, statement: &PlainStatement<'_, A>) -> bool
+    ensures { result ≡ is_unsupported catalog.now (plain_act_of statement.now) }
+{
+    match statement {
+        PlainStatement::CreatePolicy(policy) => has_policy(catalog, policy.table.as_str()),
+        PlainStatement::CreateRole(_)
+        | PlainStatement::CreateTable(_, _)
+        | PlainStatement::SetOwner(_, _)
+        | PlainStatement::EnableRowSecurity(_)
+        | PlainStatement::GrantSelect(_, _) => false,
+    }
+}
+
+/// The refusal of a statement of a supported kind, by an actor, if there is one.
 pub(crate) fn refusal<A: Heap>(
     catalog: &Catalog<A>,
     actor: &str,
@@ -255,9 +278,11 @@ pub(crate) fn refusal<A: Heap>(
 ) -> Option<Refusal>
     ensures { result ≡ refusal_of catalog.now actor.now (plain_act_of statement.now) }
 {
-    if catalog.is_role(actor) {
-        of_statement(catalog, actor, statement)
-    } else {
+    if is_unsupported(catalog, statement) {
+        Some(Refusal::FeatureNotSupported)
+    } else if !catalog.is_role(actor) {
         Some(Refusal::UndefinedObject)
+    } else {
+        of_statement(catalog, actor, statement)
     }
 }

@@ -3,7 +3,7 @@
 ghost use Rattle.std.specs.Prelude.{◌≡◌, ◌<◌, ◌++◌, ◌∷◌, IfOk, OnOk, map, flat_map, Some};
 ghost use Rattle.std.specs.List.{list_any};
 ghost use Rattle.value.specs.Datum.{datum, row_of, text as text_datum};
-ghost use Rattle.engine.specs.Reply.{refused, denied, rows as answered, is_special, needs_quotes, quoted_text, field_text, line_text, offset_text, column_text, reply_text, refusal_status, reply_status};
+ghost use Rattle.engine.specs.Reply.{NullFieldIsNull, refused, denied, rows as answered, is_special, needs_quotes, quoted_text, field_text, line_text, offset_text, column_text, reply_text, refusal_status, reply_status};
 ghost use Rattle.engine.specs.Replying.{outcome_of};
 
 use itoa::Buffer;
@@ -233,7 +233,7 @@ fn refusal_status(why: Refusal) -> u8
     }
 }
 
-/// The exit status of a reply: 0 rows, 3 a refused text, 4 a denial, 6 an unknown role, 7 want of memory.
+/// The exit status of a reply: 0 rows, 3 a refused text, 4 a denial, 6 an unknown role, 7 out of memory.
 pub fn reply_status<A: Heap>(reply: &Reply<A>) -> u8
     ensures status { result ≡ reply_status (outcome_of reply.now) }
     ensures few { result < 8 }
@@ -245,3 +245,8 @@ pub fn reply_status<A: Heap>(reply: &Reply<A>) -> u8
         Reply::Rows(_, _) => 0,
     }
 }
+
+/// A field `\N` is null: no value of a type is written so, but a text `\N`, which no table and no literal has.
+pub fn law_null_field()
+    ensures { NullFieldIsNull }
+{}

@@ -25,7 +25,7 @@ use crate::catalog::TableDef;
 use crate::plain::{PlainQuery, plain_query};
 use crate::reply::{Reply, reply_status, reply_text};
 use crate::resolve::{BindError, Bound, bind};
-use crate::store::{Store, rows_at};
+use crate::store::{Store, contents_of};
 use memory::Heap;
 use output::{Out, write_whole};
 use std::alloc::AllocError;
@@ -44,8 +44,10 @@ fn seen_items<A: Heap>(
     ensures { IfOk result (λ rows. map (λ r. row_of r) rows ≡
         sorted_by row_cmp (map (items_of places.now) (visible store.now.catalogue role.now (table_entry table.now) (content_of store.now table.now.name)))) }
 {
-    let rows = rows_at(&store.contents, table.name.as_str());
-    answer_rows(alloc, &store.catalog, role, table, rows, places)
+    match contents_of(&store.contents, table.name.as_str()) {
+        Some(rows) => answer_rows(alloc, &store.catalog, role, table, rows, places),
+        None => Ok(Items::new(alloc)),
+    }
 }
 
 // The rows of a query whose names are resolved.
@@ -192,7 +194,7 @@ fn write_reply<A: Heap, W: Out>(
 }
 
 /// Writes the reply to a role's text, and answers its status: 0 rows, 3 a refused text, 4 a denial, 6 an unknown role,
-/// 7 want of memory, 8 a writer that failed. Nothing is written before the reply is whole.
+/// 7 out of memory, 8 a writer that failed. Nothing is written before the reply is whole.
 pub fn serve<A: Heap, W: Out>(alloc: A, store: &Store<A>, role: &str, text: &str, out: &mut W) -> u8
     // The whole reply, and its status.
     ensures answered { result ≢ 7 → result ≢ 8 → IsWhole (W.taken out.old) (W.taken out.new) result (reply_to store.now.catalogue (content_of store.now) role.now text.now) }

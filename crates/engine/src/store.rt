@@ -1,14 +1,13 @@
 //! A catalogue with its tables.
 
-ghost use Rattle.std.specs.Prelude.{◌≡◌, List, IfOk, IfSome, OnErr, OnOk, ◌<◌, true, false, Option, None, Some, length, map, option_map, slice_get};
-ghost use Rattle.value.specs.Datum.{row_of};
-ghost use Rattle.tables.specs.Loading.{Fields, col_of};
+ghost use Rattle.std.specs.Prelude.{◌≡◌, List, IfOk, IfSome, IsErrOf, OnErr, OnOk, ◌<◌, Option, None, length, map, option_map, slice_get};
+ghost use Rattle.tables.specs.Loading.{Fields, col_of, reported};
 ghost use Rattle.std.specs.List.{position_from};
 ghost use Rattle.engine.specs.Plain.{create_table};
 ghost use Rattle.syntax.specs.View.{act_of, column_entry};
 ghost use Rattle.engine.specs.PlainView.{plain_act_of};
 ghost use Rattle.engine.specs.Changes.{IsChange};
-ghost use Rattle.engine.specs.Stored.{at_start, changed_world, changed_world_plainly, column_of, empty_table, is_named, IsLoad, IsUnreadLoad, rows_in};
+ghost use Rattle.engine.specs.Stored.{at_start, changed_world, changed_world_plainly, column_of, columns_in, contents_named, empty_table, is_named, IsLoad, IsLoadFrom, LoadStops};
 ghost use Rattle.engine.specs.World.{stored_entry};
 
 use crate::catalog::Catalog;
@@ -21,13 +20,13 @@ use std::marker::Model;
 use syntax::{ColumnDef, Statement};
 use tables::{Column, LoadError, Table};
 use text::{Items, Text};
-use value::{Refusal, Value};
+use value::Refusal;
 
 /// The contents of a table.
 #[derive(Drop)]
-pub struct Stored<A: Heap> {
-    pub name: Text<A>,
-    pub table: Table<A>,
+pub(crate) struct Stored<A: Heap> {
+    pub(crate) name: Text<A>,
+    pub(crate) table: Table<A>,
 }
 
 /// A catalogue with the contents of its tables.
@@ -48,19 +47,19 @@ impl<A: Heap> Model for Store<A> {
     ghost view = { world_of };
 }
 
-/// The rows of the table of that name.
-pub(crate) fn rows_at<'a, A: Heap>(
+/// The contents of the table of that name.
+pub(crate) fn contents_of<'a, A: Heap>(
     contents: &'a [Stored<A>],
     name: &str,
-) -> &'a [Items<Value<A>, A>]
-    ensures { map (λ r. row_of r) result.now ≡ rows_in (map (λ e. stored_entry e) contents.now) name.now }
+) -> Option<&'a Table<A>>
+    ensures { option_map (λ t. t.now) result ≡ contents_named (map (λ e. stored_entry e) contents.now) name.now }
 {
     for entry in contents {
         if entry.name.as_str() == name {
-            return entry.table.as_rows();
+            return Some(&entry.table);
         }
     }
-    &[]
+    None
 }
 
 /// Why a text of rows is not added.
@@ -201,6 +200,16 @@ impl<A: Heap> Store<A> {
         }
     }
 
+    /// The columns of the table of that name; none where it is not there.
+    pub fn columns(&self, table: &str) -> &[Column<A>]
+        ensures { map (λ c. col_of c) result.now ≡ columns_in self.now.contents table.now }
+    {
+        match contents_of(&self.contents, table) {
+            Some(contents) => contents.columns(),
+            None => &[],
+        }
+    }
+
     /// The name of the table at a place, in order of creation, from 0.
     pub fn table_name(&self, i: usize) -> Option<&str>
         ensures { option_map (λ name. name.now) result ≡ option_map (λ e. e.0) (slice_get self.now.contents i) }
@@ -218,24 +227,46 @@ impl<A: Heap> Store<A> {
         self.contents.len()
     }
 
-    /// Adds the rows of records, of which none was read before and the first is the names of the columns, to the table of
-    /// that name. A refusal changes nothing. A contract sees of the records whether a read failed: where none did, a fault is
-    /// the first one of the records; where one did, it is told at the row that was not read.
-    pub fn load<R: Read>(&mut self, table: &str, records: &mut Records<R>) -> Result<(), StoreError>
-        requires expected { records.old.expected ≡ None }
-        requires given { records.old.given ≡ 0 }
-        requires fresh { records.old.failed ≡ false }
+    /// Adds the rows of the records that a reader gives, of which the first is the names of the columns, to the table of that
+    /// name. A refusal changes nothing. A read may fail, which is reported at the row that was not read; another fault is the
+    /// first one of the records.
+    pub fn load<R: Read + Drop>(&mut self, table: &str, reader: R) -> Result<(), StoreError>
         ensures catalogue { self.new.catalogue ≡ self.old.catalogue }
         ensures unchanged { OnErr result (self.new ≡ self.old) }
-        ensures exact { records.new.failed ≡ false → IfSome records.old.records (λ recs. IsLoad self.old.contents self.new.contents table.now recs result) }
-        // The same of records that are not known: what was read were some records.
-        ensures some_records { records.new.failed ≡ false → (recs : List Fields) × IsLoad self.old.contents self.new.contents table.now recs result }
-        ensures failed { records.new.failed ≡ true → IsUnreadLoad records.new.given result }
+        ensures loaded { IsLoadFrom (R.remaining reader) self.old.contents self.new.contents table.now result }
     {
         let Some(i) = stored_place(&self.contents, table) else {
             return Err(StoreError::UndefinedTable);
         };
-        match self.contents[i].table.append(records) {
+        match self.contents[i].table.append(reader) {
+            Ok(()) => Ok(()),
+            Err(error) => Err(StoreError::Data(error)),
+        }
+    }
+
+    /// Adds the rows of records, of which none was read before, as `load` does. A contract sees of the records why a read
+    /// failed, if one did. Where none did, a fault is the first one of the records; where one did, that is reported, at the row
+    /// that was not read.
+    pub fn load_records<R: Read>(
+        &mut self,
+        table: &str,
+        records: &mut Records<R>,
+    ) -> Result<(), StoreError>
+        requires expected { records.old.expected ≡ None }
+        requires given { records.old.given ≡ 0 }
+        requires fresh { records.old.failure ≡ None }
+        ensures catalogue { self.new.catalogue ≡ self.old.catalogue }
+        ensures unchanged { OnErr result (self.new ≡ self.old) }
+        ensures exact { records.new.failure ≡ None → IfSome records.old.records (λ recs. IsLoad self.old.contents self.new.contents table.now recs result) }
+        // The same of records that are not known: what was read were some records, as many as were given.
+        ensures some_records { records.new.failure ≡ None → (recs : List Fields) × IsLoad self.old.contents self.new.contents table.now recs result × OnOk result (length recs ≡ records.new.given) }
+        ensures failed { IfSome records.new.failure (λ why. IsErrOf result (StoreError.Data (reported why records.new.given))) }
+        ensures stops { IfSome records.old.records (λ recs. LoadStops self.old.contents table.now recs result) }
+    {
+        let Some(i) = stored_place(&self.contents, table) else {
+            return Err(StoreError::UndefinedTable);
+        };
+        match self.contents[i].table.append_records(records) {
             Ok(()) => Ok(()),
             Err(error) => Err(StoreError::Data(error)),
         }

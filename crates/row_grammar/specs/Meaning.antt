@@ -2,11 +2,11 @@
 use Rattle.std.specs.Prelude.{◌≡◌, ℕ, zero, suc, ◌⊎◌, Bool, true, false, List, [], ◌∷◌}
 use Rattle.row_grammar.specs.Grammar.{Language, Form, word, nothing, both, either, made, many, nest, inner}
 
--- from the tokens ts on stands a value, and behind it the tokens us
+-- from the tokens ts on there is a value, and after it the tokens us
 abbrev pub Reading : Type 0 → Type 0 → Type 1
 Reading T A = List T → A → List T → Type 0
 
--- from the tokens ts on stands a front, and behind it the tokens us
+-- from the tokens ts on there is a front, and after it the tokens us
 abbrev pub Fronting : Type 0 → Type 1
 Fronting T = List T → List T → Type 0
 

@@ -1,33 +1,38 @@
 //! The program `rowplan`: answers queries over a schema text and comma-separated tables.
 #![tactic(auto)]
 
-mod faults;
-mod input;
-mod words;
+mod arguments;
+mod failure;
+mod files;
 
-use engine::serve;
-use faults::{Fault, tell};
-use input::read_store;
+use arguments::read_arguments;
+use failure::{Failure, print_failure};
+use files::{Directory, read_text};
 use output::Output;
+use setup::{Arguments, Fault, open_store, reply};
 use std::alloc::Global;
 use std::process::ExitCode;
 use std::{env, io};
-use words::{Words, read_words};
 
-// Writes the reply to standard output, and answers its status.
-fn query(rt: &HostRuntime, alloc: Global, words: Words<'_>) -> Result<u8, Fault> {
-    let store = read_store(rt, alloc, words.schema, words.dir)?;
+// Writes the reply to standard output, and returns its status.
+fn query(rt: &HostRuntime, alloc: Global, arguments: &Arguments<'_>) -> Result<u8, Failure> {
+    let schema = read_text(rt, alloc, arguments.schema)?;
+    let folder = Directory {
+        files: rt,
+        path: arguments.dir,
+    };
+    let store = open_store(alloc, schema.as_str(), &folder)?;
     let mut out = Output {
         inner: io::writer(rt),
         failed: 0,
     };
-    Ok(serve(alloc, &store, words.role, words.text, &mut out))
+    Ok(reply(alloc, &store, arguments, &mut out))
 }
 
-fn run(rt: &HostRuntime) -> Result<u8, Fault> {
+fn run(rt: &HostRuntime) -> Result<u8, Failure> {
     let alloc = rt.alloc();
     let Ok(args) = env::args(rt) else {
-        return Err(Fault::Memory);
+        return Err(Failure::Setup(Fault::OutOfMemory));
     };
     let mut owned = Vec::new(alloc);
     for word in args {
@@ -37,12 +42,12 @@ fn run(rt: &HostRuntime) -> Result<u8, Fault> {
     for word in owned.iter() {
         words.push(word.as_str())?;
     }
-    query(rt, alloc, read_words(alloc, words.as_slice())?)
+    query(rt, alloc, &read_arguments(alloc, words.as_slice())?)
 }
 
 fn main(rt: HostRuntime) -> ExitCode {
     match run(&rt) {
         Ok(status) => ExitCode::from(status),
-        Err(fault) => ExitCode::from(tell(&rt, &fault)),
+        Err(failure) => ExitCode::from(print_failure(&rt, &failure)),
     }
 }

@@ -4,14 +4,14 @@ use Rattle.std.specs.Str.{bytes_eq, is_utf8}
 use Rattle.std.proofs.lemmas.List.{append_assoc, append-nil, drop_all}
 use Rattle.csv.specs.Records.{field_at}
 use Rattle.value.specs.Datum.{Datum}
-use Rattle.value.specs.Texts.{value_at}
+use Rattle.value.specs.Texts.{null_mark, value_at}
 use Rattle.tables.specs.declared.LoadError.{LoadError}
 use Rattle.tables.specs.declared.Column.{Column}
-use Rattle.tables.specs.Loading.{Col, Fields, both, cell_of, cells_of, col_of, null_field}
+use Rattle.tables.specs.Loading.{Col, Fields, both, cell_of, cells_of, col_of}
 use Rattle.tables.proofs.Records.{after}
 
 -- the value that a cell's text spells
-pub cell_of-spelled : (c : Col) (row column : ℕ) (f : List ℕ) (d : Datum) → bytes_eq f null_field ≡ false → is_utf8 f ≡ true → value_at c.kind f ≡ Ok d → cell_of c row column f ≡ Ok d
+pub cell_of-spelled : (c : Col) (row column : ℕ) (f : List ℕ) (d : Datum) → bytes_eq f null_mark ≡ false → is_utf8 f ≡ true → value_at c.kind f ≡ Ok d → cell_of c row column f ≡ Ok d
 cell_of-spelled c row column f d other utf8 spelled = rw (other, utf8, spelled) refl
 
 -- a list from a place on

@@ -4,3 +4,5 @@ pub mod Names
 pub mod Utf8
 pub mod Wide
 pub mod Follow
+pub mod NullText
+pub mod Bytes

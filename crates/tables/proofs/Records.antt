@@ -73,12 +73,12 @@ both-after : {X : Type 0} (x : X) (xs : List X) (r : Result (List X) LoadError) 
 both-after x xs (Ok ys) = refl
 both-after x xs (Err e) = refl
 
-both_ok : {X : Type 0} (a : Result X LoadError) (b : Result (List X) LoadError) (xs : List X) → both a b ≡ Ok xs → (x : X) × (ys : List X) × (a ≡ Ok x) × (b ≡ Ok ys) × (xs ≡ x ∷ ys)
+pub both_ok : {X : Type 0} (a : Result X LoadError) (b : Result (List X) LoadError) (xs : List X) → both a b ≡ Ok xs → (x : X) × (ys : List X) × (a ≡ Ok x) × (b ≡ Ok ys) × (xs ≡ x ∷ ys)
 both_ok (Ok x) (Ok ys) xs h = (x, ys, refl, refl, cc)
 both_ok (Ok x) (Err e) xs h = cc h
 both_ok (Err e) b xs h = cc h
 
-if_ok : {X : Type 0} (b : Bool) (r : Result X LoadError) (e : LoadError) (x : X) → (if b then r else Err e) ≡ Ok x → (b ≡ true) × (r ≡ Ok x)
+pub if_ok : {X : Type 0} (b : Bool) (r : Result X LoadError) (e : LoadError) (x : X) → (if b then r else Err e) ≡ Ok x → (b ≡ true) × (r ≡ Ok x)
 if_ok true r e x h = (refl, h)
 if_ok false r e x h = cc h
 

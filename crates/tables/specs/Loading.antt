@@ -1,11 +1,13 @@
 -- The rows that the records of a text give, or the first fault.
-use Rattle.std.specs.Prelude.{ℕ, zero, suc, ◌+◌, ◌<◌, ◌≤◌, ◌==◌, ◌&&◌, not, ◌≡◌, ◌≢◌, ◌⊎◌, Bool, true, false, List, [], ◌∷◌, ◌++◌, length, map, take, get_or, Result, Ok, Err, IfErr, if◌then◌else◌}
+use Rattle.std.specs.Prelude.{ℕ, zero, suc, ◌+◌, ◌<◌, ◌≤◌, ◌==◌, ◌&&◌, ◌≡◌, ◌≢◌, Bool, true, false, List, [], ◌∷◌, ◌++◌, length, map, take, get_or, Option, is_none, Result, Ok, Err, IfErr, All, if◌then◌else◌}
 use Rattle.std.specs.Str.{bytes_eq, is_utf8}
 use Rattle.value.specs.declared.types.ColType.{ColType}
 use Rattle.value.specs.declared.types.Kind.{Kind}
 use Rattle.value.specs.declared.types.Value.{Value}
 use Rattle.value.specs.Datum.{Datum, null, Row, row_of}
-use Rattle.value.specs.Texts.{value_at}
+use Rattle.value.specs.Texts.{IsNoNullMark, null_mark, value_at}
+use Rattle.csv_records.specs.declared.RecordError.{RecordError}
+use Rattle.csv_records.specs.declared.RecordError.TheVariants as why
 use Rattle.tables.specs.declared.Column.{Column}
 use Rattle.tables.specs.declared.LoadError.{LoadError}
 use Rattle.tables.specs.declared.LoadError.TheVariants as error
@@ -28,17 +30,13 @@ pub record Contents : Type 0 where
 abbrev pub Fields : Type 0
 Fields = List (List ℕ)
 
--- the field that stands for null: a backslash and N
-abbrev pub null_field : List ℕ
-null_field = 92 ∷ 78 ∷ []
-
 -- one more item in front, or else the first fault
 abbrev pub both : {X : Type 0} → Result X LoadError → Result (List X) LoadError → Result (List X) LoadError
 both (Err e) r = Err e
 both (Ok x) (Err e) = Err e
 both (Ok x) (Ok xs) = Ok (x ∷ xs)
 
--- what is no value of the type is told with its place
+-- what is no value of the type is reported with its place
 abbrev pub placed : ℕ → ℕ → Result Datum Kind → Result Datum LoadError
 placed row column (Ok d) = Ok d
 placed row column (Err k) = Err (error.Cell row column)
@@ -46,7 +44,7 @@ placed row column (Err k) = Err (error.Cell row column)
 -- a cell: null, or the value that its text spells
 abbrev pub cell_of : Col → ℕ → ℕ → List ℕ → Result Datum LoadError
 cell_of c row column f =
-    if bytes_eq f null_field then (if c.required then Err (error.NotNull row column) else Ok null)
+    if bytes_eq f null_mark then (if c.required then Err (error.NotNull row column) else Ok null)
     else if is_utf8 f then placed row column (value_at c.kind f) else Err (error.Cell row column)
 
 -- the cells of a row, from a column on
@@ -74,34 +72,45 @@ abbrev pub load_of : List Col → ℕ → List Fields → Result (List Row) Load
 load_of cols room [] = Err error.Header
 load_of cols room (h ∷ rs) = if names cols h then rows_of cols room 1 rs else Err error.Header
 
--- whether an error tells of the records: memory tells nothing, and a row that was not read only if no read failed
-abbrev pub is_told : Bool → LoadError → Bool
-is_told failed error.Header = true
-is_told failed (error.Reader row) = not failed
-is_told failed (error.Cell row column) = true
-is_told failed (error.NotNull row column) = true
-is_told failed error.TooMany = true
-is_told failed error.OutOfMemory = false
+-- no value that a load gives has the text of the null mark
+abbrev pub NoTextIsNull : Type 0
+NoTextIsNull = (cols : List Col) (room : ℕ) (recs : List Fields) (rows : List Row) → load_of cols room recs ≡ Ok rows → All (λ row. All IsNoNullMark row) rows
 
--- a result is the one that is due, where it tells of the records
-abbrev pub Follows : {X Y : Type 0} → (Y → X) → Bool → Result X LoadError → Result Y LoadError → Type 0
-Follows view failed due (Ok y) = due ≡ Ok (view y)
-Follows view failed due (Err e) = is_told failed e ≡ true → due ≡ Err e
+-- the error that is reported where the record of a row was not read
+abbrev pub reported : RecordError → ℕ → LoadError
+reported why.Uneven row = error.Reader row
+reported why.Failed row = error.Reader row
+reported why.OutOfMemory row = error.OutOfMemory
 
--- the rows that are due stand in the table, or a fault is the one that is due, want of memory aside
+-- whether an error is sure to be a fault of the records: out of memory is none, and a row that was not read is one if no
+-- read failed
+abbrev pub is_fault : Option RecordError → LoadError → Bool
+is_fault failure error.Header = true
+is_fault failure (error.Reader row) = is_none failure
+is_fault failure (error.Cell row column) = true
+is_fault failure (error.NotNull row column) = true
+is_fault failure error.TooMany = true
+is_fault failure error.OutOfMemory = false
+
+-- a result is the one that is due, where it is sure to be of the records
+abbrev pub Follows : {X Y : Type 0} → (Y → X) → Option RecordError → Result X LoadError → Result Y LoadError → Type 0
+Follows view failure due (Ok y) = due ≡ Ok (view y)
+Follows view failure due (Err e) = is_fault failure e ≡ true → due ≡ Err e
+
+-- the rows that are due are in the table, or the error is the one that is due, or memory ran out
 abbrev pub Loads : Result (List Row) LoadError → Result Contents LoadError → Type 0
 Loads due (Ok t) = due ≡ Ok t.rows
 Loads due (Err e) = e ≢ error.OutOfMemory → due ≡ Err e
 
--- the rows that are due came to those that were there, or the fault is the one that is due, or memory ran out
+-- the rows that are due came to those that were there, or the error is the one that is due, or memory ran out
 abbrev pub Appends : Result (List Row) LoadError → List Row → List Row → Result (Unit {0}) LoadError → Type 0
 Appends due old new (Ok u) = (rows : List Row) × (due ≡ Ok rows) × (new ≡ old ++ rows)
 Appends due old new (Err e) = e ≢ error.OutOfMemory → due ≡ Err e
 
--- the row was not read, or memory ran out
-abbrev pub IsUnread : {Y : Type 0} → ℕ → Result Y LoadError → Type 0
-IsUnread row (Ok y) = ⊥
-IsUnread row (Err e) = (e ≡ error.OutOfMemory) ⊎ (e ≡ error.Reader row)
+-- the fact holds, unless the error is that a row was not read
+abbrev pub UnlessUnread : {Y : Type 0} → Result Y LoadError → Type 0 → Type 0
+UnlessUnread (Ok y) fact = fact
+UnlessUnread (Err e) fact = ((row : ℕ) → e ≢ error.Reader row) → fact
 
 -- where a row was not read, the header and the rows before it are there and without fault
 abbrev pub StopsAfterGood : {Y : Type 0} → List Col → ℕ → List Fields → Result Y LoadError → Type 0

@@ -76,4 +76,4 @@ impl<T: Drop> From<AllocFailed<T>> for LoadError {
 mod load;
 mod table;
 
-pub use table::Table;
+pub use table::{Table, law_no_null_text};

@@ -1,10 +1,10 @@
 //! Rows from records.
 
-ghost use Rattle.std.specs.Prelude.{◌≡◌, ◌≢◌, ◌+◌, ◌-◌, ◌<◌, ◌≤◌, ◌^◌, ℕ, length, map, true, false, None, Some, All, IfOk, IfErr, OnErr, OnOk};
+ghost use Rattle.std.specs.Prelude.{◌≡◌, ◌≢◌, ◌+◌, ◌-◌, ◌<◌, ◌≤◌, ◌^◌, ℕ, length, map, true, None, Some, All, IfOk, IfErr, IfSome, IsErrOf, OnErr, OnOk};
 ghost use Rattle.csv.specs.Records.{fields_of};
 ghost use Rattle.csv_records.specs.Left.{Gives, counted};
 ghost use Rattle.value.specs.Datum.{datum, row_of};
-ghost use Rattle.tables.specs.Loading.{Follows, IsUnread, cell_of, cells_of, col_of, names};
+ghost use Rattle.tables.specs.Loading.{Follows, cell_of, cells_of, col_of, names, reported};
 ghost use Rattle.tables.specs.Reading.{HeaderIs, LoadFollows, Refuses, RowsFollow};
 ghost use Rattle.tables.specs.declared.LoadError.TheVariants.{Reader};
 
@@ -25,7 +25,7 @@ fn read_cell<A: Heap>(
     row: u64,
     at: u64,
 ) -> Result<Value<A>, LoadError>
-    ensures cell { Follows datum false (cell_of (col_of column.now) row at field.now) result }
+    ensures cell { Follows datum None (cell_of (col_of column.now) row at field.now) result }
     ensures no_reader { IfErr result (λ e. (r : ℕ) → e ≢ Reader r) }
 {
     if field == b"\\N".as_slice() {
@@ -53,7 +53,7 @@ fn read_row<A: Heap>(
 ) -> Result<Items<Value<A>, A>, LoadError>
     requires { length (fields_of cells.now) ≡ length columns.now }
     ensures wide { IfOk result (λ values. length values ≡ length columns.now) }
-    ensures cells { Follows (λ values. row_of values) false (cells_of (map col_of columns.now) row 0 (fields_of cells.now)) result }
+    ensures cells { Follows (λ values. row_of values) None (cells_of (map col_of columns.now) row 0 (fields_of cells.now)) result }
     ensures no_reader { IfErr result (λ e. (r : ℕ) → e ≢ Reader r) }
 {
     let mut values = Vec::with_capacity(alloc, columns.len())?;
@@ -66,7 +66,7 @@ fn read_row<A: Heap>(
     Ok(Items::from(values))
 }
 
-// Reads the next record, and tells whether there was one.
+// Reads the next record, and reports whether there was one.
 fn next_record<R: Read>(
     records: &mut Records<R>,
     cells: &mut ByteRecord,
@@ -75,7 +75,7 @@ fn next_record<R: Read>(
     ensures gives { IfOk result (λ found. Gives records.old records.new found (fields_of cells.new)) }
     ensures given { IfOk result (λ found. records.new.given ≡ counted found records.old.given) }
     ensures no_more { OnErr result (records.new.given ≡ records.old.given) }
-    ensures goes_on { OnOk result (records.new.failed ≡ records.old.failed) }
+    ensures goes_on { OnOk result (records.new.failure ≡ records.old.failure) }
     ensures refuses { IfErr result (λ e. Refuses row records.old records.new e) }
 {
     match records.read(cells) {
@@ -94,12 +94,12 @@ fn read_rows<A: Heap, R: Read>(
 ) -> Result<Vec<Items<Value<A>, A>, A>, LoadError>
     requires expected { records.old.expected ≡ Some (length columns.now) }
     requires given { records.old.given ≡ 1 }
-    requires fresh { records.old.failed ≡ false }
+    requires fresh { records.old.failure ≡ None }
     requires room { room < 2 ^ 64 - 1 }
     ensures wide { IfOk result (λ rows. All (λ r. length r ≡ length columns.now) rows.items) }
     ensures few { IfOk result (λ rows. length rows.items ≤ room) }
-    ensures failed { records.new.failed ≡ true → IsUnread records.new.given result }
-    ensures rows { RowsFollow (map col_of columns.now) room records.old.records records.new.failed result }
+    ensures failed { IfSome records.new.failure (λ why. IsErrOf result (reported why records.new.given)) }
+    ensures rows { RowsFollow (map col_of columns.now) room records.old.records records.new result }
 {
     let mut rows = Vec::new(alloc);
     let mut cells = ByteRecord::new(alloc.global());
@@ -143,11 +143,11 @@ fn read_header<A: Heap, R: Read>(
 ) -> Result<(), LoadError>
     requires expected { records.old.expected ≡ None }
     requires given { records.old.given ≡ 0 }
-    requires fresh { records.old.failed ≡ false }
+    requires fresh { records.old.failure ≡ None }
     ensures expected { OnOk result (records.new.expected ≡ Some (length columns.now)) }
     ensures given { OnOk result (records.new.given ≡ 1) }
-    ensures fresh { OnOk result (records.new.failed ≡ false) }
-    ensures failed { records.new.failed ≡ true → IsUnread records.new.given result }
+    ensures fresh { OnOk result (records.new.failure ≡ None) }
+    ensures failed { IfSome records.new.failure (λ why. IsErrOf result (reported why records.new.given)) }
     ensures header { HeaderIs (map col_of columns.now) records.old records.new result }
 {
     let mut cells = ByteRecord::new(alloc.global());
@@ -167,12 +167,12 @@ pub(crate) fn read_table<A: Heap, R: Read>(
 ) -> Result<Vec<Items<Value<A>, A>, A>, LoadError>
     requires expected { records.old.expected ≡ None }
     requires given { records.old.given ≡ 0 }
-    requires fresh { records.old.failed ≡ false }
+    requires fresh { records.old.failure ≡ None }
     requires room { room < 2 ^ 64 - 1 }
     ensures wide { IfOk result (λ rows. All (λ r. length r ≡ length columns.now) rows.items) }
     ensures few { IfOk result (λ rows. length rows.items ≤ room) }
-    ensures failed { records.new.failed ≡ true → IsUnread records.new.given result }
-    ensures rows { LoadFollows (map col_of columns.now) room records.old.records records.new.failed result }
+    ensures failed { IfSome records.new.failure (λ why. IsErrOf result (reported why records.new.given)) }
+    ensures rows { LoadFollows (map col_of columns.now) room records.old.records records.new result }
 {
     read_header(alloc, columns, records)?;
     read_rows(alloc, columns, records, room)

@@ -1,8 +1,9 @@
 //! A table and its rows.
 
-ghost use Rattle.std.specs.Prelude.{◌≡◌, ◌-◌, ◌<◌, ◌≤◌, true, false, None, List, [], length, map, All, IfOk, OnErr, IfSome};
-ghost use Rattle.value.specs.Datum.{row_of, seen};
-ghost use Rattle.tables.specs.Loading.{Appends, Fields, IsUnread, Loads, StopsAfterGood, cell_at, col_of, load_of};
+ghost use Rattle.std.specs.Prelude.{◌≡◌, ◌-◌, ◌<◌, ◌≤◌, None, List, [], length, map, All, IfOk, IfSome, IsErrOf, OnErr, OnOk};
+ghost use Rattle.csv_records.specs.Left.{records_of};
+ghost use Rattle.value.specs.Datum.{seen};
+ghost use Rattle.tables.specs.Loading.{Appends, Fields, Loads, NoTextIsNull, StopsAfterGood, UnlessUnread, cell_at, col_of, load_of, reported};
 ghost use Rattle.tables.specs.declared.TheConstants.{MAX_ROWS};
 
 use crate::load::read_table;
@@ -47,41 +48,70 @@ impl<A: Heap> Table<A> {
         }
     }
 
-    /// The table of records, of which none was read before and the first is the names of the columns (PostgreSQL: COPY with
-    /// `FORMAT csv`, `HEADER MATCH` and `NULL '\N'`, but here a quoted `\N` is null too). A contract sees of the records
-    /// whether a read failed. Where none did, a fault is the first one of the records; where one did, it is told at the row
-    /// that was not read.
-    pub fn load<R: Read>(
+    /// The table of the records that a reader gives, of which the first is the names of the columns (PostgreSQL: COPY with
+    /// `FORMAT csv`, `HEADER MATCH` and `NULL '\N'`, but here a quoted `\N` is null too). A read that failed is
+    /// reported at the row that was not read, or as out of memory; another fault is the first one of the records.
+    pub fn load<R: Read + Drop>(
+        alloc: A,
+        reader: R,
+        columns: Items<Column<A>, A>,
+    ) -> Result<Table<A>, LoadError>
+        ensures columns { IfOk result (λ t. t.columns ≡ map col_of columns) }
+        ensures exact { IfSome (R.remaining reader) (λ bytes. UnlessUnread result (Loads (load_of (map col_of columns) MAX_ROWS (records_of bytes)) result)) }
+        // The same of bytes that are not known: what was read were some records.
+        ensures some_records { UnlessUnread result ((recs : List Fields) × Loads (load_of (map col_of columns) MAX_ROWS recs) result) }
+        ensures stops { IfSome (R.remaining reader) (λ bytes. StopsAfterGood (map col_of columns) MAX_ROWS (records_of bytes) result) }
+    {
+        let mut records = Records::new(alloc.global(), reader);
+        Table::load_records(alloc, &mut records, columns)
+    }
+
+    /// Adds all the rows of the records that a reader gives, as `load` reads them, or reports a fault and adds none.
+    pub fn append<R: Read + Drop>(&mut self, reader: R) -> Result<(), LoadError>
+        ensures columns { self.new.columns ≡ self.old.columns }
+        ensures unchanged { OnErr result (self.new ≡ self.old) }
+        ensures exact { IfSome (R.remaining reader) (λ bytes. UnlessUnread result (Appends (load_of self.old.columns (MAX_ROWS - length self.old.rows) (records_of bytes)) self.old.rows self.new.rows result)) }
+        // The same of bytes that are not known: what was read were some records.
+        ensures some_records { UnlessUnread result ((recs : List Fields) × Appends (load_of self.old.columns (MAX_ROWS - length self.old.rows) recs) self.old.rows self.new.rows result) }
+        ensures stops { IfSome (R.remaining reader) (λ bytes. StopsAfterGood self.old.columns (MAX_ROWS - length self.old.rows) (records_of bytes) result) }
+    {
+        let mut records = Records::new(self.alloc.global(), reader);
+        self.append_records(&mut records)
+    }
+
+    /// The table of records, of which none was read before, as `load` reads them. A contract sees why a read failed, if one
+    /// did: then the error is the one that is reported of it; otherwise a fault is the first one of the records.
+    pub fn load_records<R: Read>(
         alloc: A,
         records: &mut Records<R>,
         columns: Items<Column<A>, A>,
     ) -> Result<Table<A>, LoadError>
         requires expected { records.old.expected ≡ None }
         requires given { records.old.given ≡ 0 }
-        requires fresh { records.old.failed ≡ false }
+        requires fresh { records.old.failure ≡ None }
         ensures columns { IfOk result (λ t. t.columns ≡ map col_of columns) }
-        ensures exact { records.new.failed ≡ false → IfSome records.old.records (λ recs. Loads (load_of (map col_of columns) MAX_ROWS recs) result) }
-        // The same of records that are not known: what was read were some records.
-        ensures some_records { records.new.failed ≡ false → (recs : List Fields) × Loads (load_of (map col_of columns) MAX_ROWS recs) result }
-        ensures failed { records.new.failed ≡ true → IsUnread records.new.given result }
+        ensures exact { records.new.failure ≡ None → IfSome records.old.records (λ recs. Loads (load_of (map col_of columns) MAX_ROWS recs) result) }
+        // The same of records that are not known: what was read were some records, as many as were given.
+        ensures some_records { records.new.failure ≡ None → (recs : List Fields) × Loads (load_of (map col_of columns) MAX_ROWS recs) result × OnOk result (length recs ≡ records.new.given) }
+        ensures failed { IfSome records.new.failure (λ why. IsErrOf result (reported why records.new.given)) }
         ensures stops { IfSome records.old.records (λ recs. StopsAfterGood (map col_of columns) MAX_ROWS recs result) }
     {
         let mut table = Table::new(alloc, columns);
-        table.append(records)?;
+        table.append_records(records)?;
         Ok(table)
     }
 
-    /// Adds all the rows of records, as `load` reads them, or tells a fault and adds none.
-    pub fn append<R: Read>(&mut self, records: &mut Records<R>) -> Result<(), LoadError>
+    /// Adds all the rows of records, as `load_records` reads them, or reports a fault and adds none.
+    pub fn append_records<R: Read>(&mut self, records: &mut Records<R>) -> Result<(), LoadError>
         requires expected { records.old.expected ≡ None }
         requires given { records.old.given ≡ 0 }
-        requires fresh { records.old.failed ≡ false }
+        requires fresh { records.old.failure ≡ None }
         ensures columns { self.new.columns ≡ self.old.columns }
         ensures unchanged { OnErr result (self.new ≡ self.old) }
-        ensures exact { records.new.failed ≡ false → IfSome records.old.records (λ recs. Appends (load_of self.old.columns (MAX_ROWS - length self.old.rows) recs) self.old.rows self.new.rows result) }
-        // The same of records that are not known: what was read were some records.
-        ensures some_records { records.new.failed ≡ false → (recs : List Fields) × Appends (load_of self.old.columns (MAX_ROWS - length self.old.rows) recs) self.old.rows self.new.rows result }
-        ensures failed { records.new.failed ≡ true → IsUnread records.new.given result }
+        ensures exact { records.new.failure ≡ None → IfSome records.old.records (λ recs. Appends (load_of self.old.columns (MAX_ROWS - length self.old.rows) recs) self.old.rows self.new.rows result) }
+        // The same of records that are not known: what was read were some records, as many as were given.
+        ensures some_records { records.new.failure ≡ None → (recs : List Fields) × Appends (load_of self.old.columns (MAX_ROWS - length self.old.rows) recs) self.old.rows self.new.rows result × OnOk result (length recs ≡ records.new.given) }
+        ensures failed { IfSome records.new.failure (λ why. IsErrOf result (reported why records.new.given)) }
         ensures stops { IfSome records.old.records (λ recs. StopsAfterGood self.old.columns (MAX_ROWS - length self.old.rows) recs result) }
     {
         let room = MAX_ROWS - self.rows.len() as u64;
@@ -101,6 +131,7 @@ impl<A: Heap> Table<A> {
     pub fn rows(&self) -> u64
         ensures rows { result ≡ length self.now.rows }
         ensures few { result ≤ MAX_ROWS }
+        ensures wide { All (λ r. length r ≡ length self.now.columns) self.now.rows }
     {
         self.rows.len() as u64
     }
@@ -113,12 +144,9 @@ impl<A: Heap> Table<A> {
     {
         self.rows[row as usize].as_slice()[column as usize].as_val()
     }
-
-    /// The rows, each with a value for each column.
-    pub fn as_rows(&self) -> &[Items<Value<A>, A>]
-        ensures rows { map (λ r. row_of r) result.now ≡ self.now.rows }
-        ensures wide { All (λ r. length r ≡ length self.now.columns) self.now.rows }
-    {
-        self.rows.as_slice()
-    }
 }
+
+/// No text that a load gives is the null mark.
+pub fn law_no_null_text()
+    ensures { NoTextIsNull }
+{}

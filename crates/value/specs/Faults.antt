@@ -5,7 +5,7 @@ use Rattle.std.specs.Ordering.{nat_cmp, on}
 use Rattle.value.specs.declared.types.Kind.{Kind}
 use Rattle.value.specs.declared.types.Kind.TheVariants.{Div0, Range, BadText}
 
--- of two kinds that are due, the lower is told
+-- of two kinds that are due, the lower is reported
 abbrev pub kind_rank : Kind → ℕ
 kind_rank Div0 = 0
 kind_rank Range = 1

@@ -1,6 +1,6 @@
 -- The texts of values.
 use Rattle.std.specs.Fmt.{signed_decimal}
-use Rattle.std.specs.Prelude.{◌≡◌, ℕ, ℤ, pos, neg_ℤ, Bool, true, false, not, ◌&&◌, ◌==◌, if◌then◌else◌, List, [], ◌∷◌, codes, Option, Some, None, Result, Ok, Err}
+use Rattle.std.specs.Prelude.{◌≡◌, ◌≢◌, ℕ, ℤ, pos, neg_ℤ, Bool, true, false, not, ◌&&◌, ◌==◌, if◌then◌else◌, List, [], ◌∷◌, codes, Option, Some, None, Result, Ok, Err}
 use Rattle.std.specs.List.{list_all}
 use Rattle.std.specs.Str.{bytes_eq}
 use Rattle.std.specs.Char.{is_ascii_digit}
@@ -57,6 +57,17 @@ abbrev pub Reads : {A : Type 0} → Result (Value A) ReadError → Result Datum 
 Reads (Ok v) due = due ≡ Ok (datum v)
 Reads (Err (errors.Kind k)) due = due ≡ Err k
 Reads (Err errors.Memory) due = Unit {0}
+
+-- the field that stands for null: a backslash and N
+abbrev pub null_mark : List ℕ
+null_mark = 92 ∷ 78 ∷ []
+
+-- a value whose text is not the null mark
+abbrev pub IsNoNullMark : Datum → Type 0
+IsNoNullMark null = Unit {0}
+IsNoNullMark (int n) = Unit {0}
+IsNoNullMark (text t) = t ≢ null_mark
+IsNoNullMark (bool b) = Unit {0}
 
 -- ---- writing
 

@@ -27,7 +27,7 @@ impl Kind {
     }
 }
 
-/// Of two kinds that are due the lesser is told: division by zero, then a number out of range, then a text that is no number.
+/// Of two kinds that are due the lesser is reported: division by zero, then a number out of range, then a text that is no number.
 pub fn kinds_in_order()
     ensures { (a b : Kind) → ⟦<Kind as Ord>⟧.cmp a b ≡ kind_cmp a b }
 {}

@@ -42,7 +42,7 @@ pub enum ColType {
     Boolean,
 }
 
-/// What an evaluation can fail by, in the order in which faults are told.
+/// What an evaluation can fail by, in the order in which faults are reported.
 #[derive(Clone, Copy, Debug, PartialEq, Eq, PartialOrd, Ord)]
 pub enum Kind {
     /// Division by zero (22012).
@@ -78,6 +78,23 @@ impl<A: Heap> Value<A> {
             Value::Int(n) => Ok(Value::Int(*n)),
             Value::Text(text) => Ok(Value::Text(Text::new(alloc, text.as_str())?)),
             Value::Bool(b) => Ok(Value::Bool(*b)),
+        }
+    }
+}
+
+impl<A: Heap> Val<'_, A> {
+    ghost use Rattle.std.specs.Prelude.{◌≡◌, IfOk};
+    ghost use Rattle.value.specs.Datum.{datum, seen};
+
+    /// The same value in memory of its own.
+    pub fn to_value(&self, alloc: A) -> Result<Value<A>, AllocError>
+        ensures { IfOk result (λ copy. datum copy ≡ seen self.now) }
+    {
+        match self {
+            Val::Null => Ok(Value::Null),
+            Val::Int(n) => Ok(Value::Int(*n)),
+            Val::Text(text) => Ok(Value::Text(Text::new(alloc, text.as_str())?)),
+            Val::Bool(b) => Ok(Value::Bool(*b)),
         }
     }
 }

@@ -13,7 +13,7 @@ const SCHEMA: &str =
 fn loaded(rt: &(impl Abort + AllocGlobal), text: &str) -> (Store<Global>, Result<(), Stop>) {
     match store_of(rt.alloc(), SCHEMA) {
         Ok(mut store) => {
-            let told = load(rt.alloc(), &mut store, "deal", text);
+            let told = load(&mut store, "deal", text);
             (store, told)
         }
         Err(stop) => panic!(rt; "{stop:?}"),

@@ -1,7 +1,6 @@
 //! Texts of rows, and their first fault.
 
 use crate::deals::{DEALS, Stop, deals, load, store_of};
-use csv_records::Records;
 use engine::{Store, StoreError};
 use std::alloc::Global;
 use std::io;
@@ -39,7 +38,7 @@ fn first_fault_told_and_nothing_added(rt: HostRuntime) {
     ];
     for (text, fault) in rows {
         let mut store = made(&rt);
-        let told = load(rt.alloc(), &mut store, "deal", text);
+        let told = load(&mut store, "deal", text);
         let want = Err(Stop::Data(StoreError::Data(fault)));
         assert_eq!(rt; told, want, "{text}");
     }
@@ -48,7 +47,7 @@ fn first_fault_told_and_nothing_added(rt: HostRuntime) {
 #[test]
 fn unknown_table_refused(rt: HostRuntime) {
     let mut store = made(&rt);
-    let told = load(rt.alloc(), &mut store, "nosuch", DEALS);
+    let told = load(&mut store, "nosuch", DEALS);
     assert_eq!(rt; told, Err(Stop::Data(StoreError::UndefinedTable)));
 }
 
@@ -58,7 +57,7 @@ fn null_quoted_or_not(rt: HostRuntime) {
     match store_of(rt.alloc(), schema) {
         Ok(mut store) => {
             let text = "a,b\n\\N,\"\\N\"\n\"\\N\",\\N\n";
-            assert_eq!(rt; load(rt.alloc(), &mut store, "t", text), Ok(()));
+            assert_eq!(rt; load(&mut store, "t", text), Ok(()));
         }
         Err(stop) => panic!(rt; "{stop:?}"),
     }
@@ -93,8 +92,7 @@ fn pieces_make_no_difference(rt: HostRuntime) {
         bytes: DEALS.as_bytes(),
         left: 10_000,
     };
-    let mut records = Records::new(rt.alloc(), slow);
-    assert_eq!(rt; store.load("deal", &mut records), Ok(()));
+    assert_eq!(rt; store.load("deal", slow), Ok(()));
 }
 
 #[test]
@@ -105,8 +103,7 @@ fn failed_reader_adds_nothing(rt: HostRuntime) {
             bytes: DEALS.as_bytes(),
             left,
         };
-        let mut records = Records::new(rt.alloc(), slow);
-        match store.load("deal", &mut records) {
+        match store.load("deal", slow) {
             Err(StoreError::Data(LoadError::Reader { row })) => assert!(rt; row <= 3),
             other => panic!(rt; "{other:?}"),
         }

@@ -1,6 +1,5 @@
 //! The store of the worked rows.
 
-use csv_records::Records;
 use engine::{Store, StoreError};
 use memory::Heap;
 use std::alloc::{AllocError, AllocFailed};
@@ -66,9 +65,8 @@ pub fn store_of<A: Heap>(alloc: A, schema: &str) -> Result<Store<A>, Stop> {
 }
 
 /// Adds the rows of a text to a table.
-pub fn load<A: Heap>(alloc: A, store: &mut Store<A>, table: &str, text: &str) -> Result<(), Stop> {
-    let mut records = Records::new(alloc.global(), text.as_bytes());
-    match store.load(table, &mut records) {
+pub fn load<A: Heap>(store: &mut Store<A>, table: &str, text: &str) -> Result<(), Stop> {
+    match store.load(table, text.as_bytes()) {
         Ok(()) => Ok(()),
         Err(error) => Err(Stop::Data(error)),
     }
@@ -77,6 +75,6 @@ pub fn load<A: Heap>(alloc: A, store: &mut Store<A>, table: &str, text: &str) ->
 /// The store of the worked rows.
 pub fn deals<A: Heap>(alloc: A) -> Result<Store<A>, Stop> {
     let mut store = store_of(alloc, SCHEMA)?;
-    load(alloc, &mut store, "deal", DEALS)?;
+    load(&mut store, "deal", DEALS)?;
     Ok(store)
 }

@@ -14,6 +14,8 @@ mod limits;
 #[cfg(test)]
 mod memory_refused;
 #[cfg(test)]
+mod opening;
+#[cfg(test)]
 mod rows;
 #[cfg(test)]
 mod rows_tables;

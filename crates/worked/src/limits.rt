@@ -29,7 +29,7 @@ fn nested(
     Ok(text)
 }
 
-// `a`, and `part` behind it until there are so many.
+// `a`, and `part` after it until there are so many.
 fn run(alloc: Global, around: (&str, &str), part: &str, many: usize) -> Result<String, AllocError> {
     nested(alloc, around, ("", "a", part), many.saturating_sub(1))
 }
@@ -266,7 +266,7 @@ fn a_token_with_both_faults_is_no_limit(rt: HostRuntime) -> Result<(), Fail> {
 #[test]
 fn the_first_fault_decides(rt: HostRuntime) -> Result<(), Fail> {
     let alloc = rt.alloc();
-    // A limit of tokens stands before what is wrong later, one of parts behind it.
+    // A limit of tokens comes before what is wrong later, one of parts after it.
     let deep = nested(alloc, ("SELECT ", " wrong"), ("(", "1", ""), 65)?;
     assert_eq!(rt; refusal(alloc, deep.as_str()), Some(ParseError::Limit));
     let long = run(alloc, ("SELECT ", " wrong"), " + a", 65)?;

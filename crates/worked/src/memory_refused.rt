@@ -77,7 +77,7 @@ fn answered_after_load<A: Heap>(alloc: A) -> Result<usize, AllocError> {
     let Ok(mut store) = store_of(alloc, SCHEMA) else {
         return Err(AllocError);
     };
-    let _done = load(alloc, &mut store, "deal", DEALS);
+    let _done = load(&mut store, "deal", DEALS);
     let mut out = Output {
         inner: Vec::new(alloc.global()),
         failed: 0,

@@ -173,7 +173,7 @@ fn several_columns_in_written_order(rt: HostRuntime) {
 fn equal_rows_are_kept(rt: HostRuntime) -> Result<(), Fail> {
     let mut store = made(&rt, deals(rt.alloc()));
     let more = "id,owner\n1,alice\n";
-    assert_eq!(rt; load(rt.alloc(), &mut store, "deal", more), Ok(()));
+    assert_eq!(rt; load(&mut store, "deal", more), Ok(()));
     written(
         &rt,
         &store,
@@ -190,7 +190,7 @@ fn no_policy_shows_nothing(rt: HostRuntime) {
     let schema = "CREATE ROLE alice; CREATE TABLE t (a bigint);
         ALTER TABLE t ENABLE ROW LEVEL SECURITY; GRANT SELECT ON t TO PUBLIC;";
     let mut store = made(&rt, store_of(rt.alloc(), schema));
-    assert_eq!(rt; load(rt.alloc(), &mut store, "t", "a\n1\n"), Ok(()));
+    assert_eq!(rt; load(&mut store, "t", "a\n1\n"), Ok(()));
     written(&rt, &store, "alice", "SELECT a FROM t", "a\n", 0);
     written(&rt, &store, "root", "SELECT a FROM t", "a\n1\n", 0);
 }
@@ -201,7 +201,7 @@ fn policy_of_other_roles_shows_nothing(rt: HostRuntime) {
         ALTER TABLE t ENABLE ROW LEVEL SECURITY; GRANT SELECT ON t TO alice, bob;
         CREATE POLICY p ON t TO bob USING (a = 1);";
     let mut store = made(&rt, store_of(rt.alloc(), schema));
-    assert_eq!(rt; load(rt.alloc(), &mut store, "t", "a\n2\n1\n\\N\n"), Ok(()));
+    assert_eq!(rt; load(&mut store, "t", "a\n2\n1\n\\N\n"), Ok(()));
     written(&rt, &store, "alice", "SELECT a FROM t", "a\n", 0);
     written(&rt, &store, "bob", "SELECT a FROM t", "a\n1\n", 0);
 }
@@ -212,7 +212,7 @@ fn comparison_with_null_hides(rt: HostRuntime) {
         ALTER TABLE t ENABLE ROW LEVEL SECURITY; GRANT SELECT ON t TO PUBLIC;
         CREATE POLICY p ON t USING (t.a = NULL);";
     let mut store = made(&rt, store_of(rt.alloc(), schema));
-    assert_eq!(rt; load(rt.alloc(), &mut store, "t", "a\n1\n\\N\n"), Ok(()));
+    assert_eq!(rt; load(&mut store, "t", "a\n1\n\\N\n"), Ok(()));
     written(&rt, &store, "alice", "SELECT a FROM t", "a\n", 0);
 }
 
@@ -221,10 +221,7 @@ fn policy_off_shows_all(rt: HostRuntime) {
     let schema = "CREATE ROLE alice; CREATE TABLE t (a bigint, b text);
         GRANT SELECT ON t TO public; CREATE POLICY p ON t USING (a = -5);";
     let mut store = made(&rt, store_of(rt.alloc(), schema));
-    assert_eq!(rt;
-        load(rt.alloc(), &mut store, "t", "a,b\n-5,x\n7,\\N\n"),
-        Ok(())
-    );
+    assert_eq!(rt; load(&mut store, "t", "a,b\n-5,x\n7,\\N\n"), Ok(()));
     written(
         &rt,
         &store,
@@ -243,7 +240,7 @@ fn fields_are_quoted_where_needed(rt: HostRuntime) {
     let schema = "CREATE TABLE t (a text);";
     let mut store = made(&rt, store_of(rt.alloc(), schema));
     let text = "a\n\"\"\n\"x,y\"\n\"say \"\"hi\"\"\"\n\"two\nlines\"\nplain\n\"\\N\"\n";
-    assert_eq!(rt; load(rt.alloc(), &mut store, "t", text), Ok(()));
+    assert_eq!(rt; load(&mut store, "t", text), Ok(()));
     let want = "a\n\"\"\nplain\n\"say \"\"hi\"\"\"\n\"two\nlines\"\n\"x,y\"\n\\N\n";
     written(&rt, &store, "root", "SELECT a FROM t", want, 0);
 }
@@ -254,7 +251,7 @@ fn least_and_greatest_numbers(rt: HostRuntime) {
         GRANT SELECT ON t TO a; CREATE POLICY p ON t USING (n = - 9223372036854775808);";
     let mut store = made(&rt, store_of(rt.alloc(), schema));
     let text = "n\n9223372036854775807\n-9223372036854775808\n0\n";
-    assert_eq!(rt; load(rt.alloc(), &mut store, "t", text), Ok(()));
+    assert_eq!(rt; load(&mut store, "t", text), Ok(()));
     written(
         &rt,
         &store,
@@ -334,7 +331,7 @@ const FLAGS: &str =
 fn truth_values_are_shown_and_decide(rt: HostRuntime) {
     let mut store = made(&rt, store_of(rt.alloc(), FLAGS));
     let text = "id,open,note\n4,\\N,x\n3,t,y\n2,f,z\n1,t,\"\"\n";
-    assert_eq!(rt; load(rt.alloc(), &mut store, "flag", text), Ok(()));
+    assert_eq!(rt; load(&mut store, "flag", text), Ok(()));
     let all = "open,id,note\nf,2,z\nt,1,\"\"\nt,3,y\n\\N,4,x\n";
     written(
         &rt,
@@ -366,7 +363,7 @@ fn null_refused_where_it_may_not_be(rt: HostRuntime) {
         let Ok(text) = format!(in rt.alloc(); "id,open,note\n{part}") else {
             panic!(rt; "memory");
         };
-        let told = load(rt.alloc(), &mut store, "flag", text.as_str());
+        let told = load(&mut store, "flag", text.as_str());
         let want = Err(Stop::Data(StoreError::Data(fault)));
         assert_eq!(rt; told, want, "{part}");
         written(&rt, &store, "root", "SELECT id FROM flag", "id\n", 0);

@@ -1,6 +1,7 @@
 //! Tables that are read from comma-separated text, and how they are refused.
 
-use csv_records::Records;
+ghost use Rattle.std.specs.Prelude.{◌<◌, length};
+
 use memory::Heap;
 use metered::Metered;
 use std::alloc::{AllocError, Global};
@@ -10,7 +11,7 @@ use std::process::Abort;
 use std::test::Fail;
 use tables::{Column, LoadError, Table};
 use text::{Items, Text};
-use value::{ColType, Value};
+use value::{ColType, Val};
 
 /// Five deals: numbers, texts, truth values and nulls.
 const DEAL: &str =
@@ -41,17 +42,7 @@ fn deal_columns<A: Heap>(alloc: A) -> Result<Items<Column<A>, A>, AllocError> {
 }
 
 fn load<A: Heap, R: Read + Drop>(alloc: A, rdr: R) -> Result<Table<A>, LoadError> {
-    let mut records = Records::new(alloc.global(), rdr);
-    Table::load(alloc, &mut records, deal_columns(alloc)?)
-}
-
-fn append<A: Heap, R: Read + Drop>(
-    alloc: A,
-    table: &mut Table<A>,
-    rdr: R,
-) -> Result<(), LoadError> {
-    let mut records = Records::new(alloc.global(), rdr);
-    table.append(&mut records)
+    Table::load(alloc, rdr, deal_columns(alloc)?)
 }
 
 fn made(rt: &(impl Abort + AllocGlobal), text: &str) -> Table<Global> {
@@ -61,19 +52,26 @@ fn made(rt: &(impl Abort + AllocGlobal), text: &str) -> Table<Global> {
     }
 }
 
-fn shown_value<A: Heap>(alloc: Global, value: &Value<A>) -> Result<String, AllocError> {
+fn shown_value<A: Heap>(alloc: Global, value: &Val<'_, A>) -> Result<String, AllocError> {
     match value {
-        Value::Null => format!(in alloc; "null;"),
-        Value::Int(n) => format!(in alloc; "{n};"),
-        Value::Text(text) => format!(in alloc; "'{}';", text.as_str()),
-        Value::Bool(true) => format!(in alloc; "t;"),
-        Value::Bool(false) => format!(in alloc; "f;"),
+        Val::Null => format!(in alloc; "null;"),
+        Val::Int(n) => format!(in alloc; "{n};"),
+        Val::Text(text) => format!(in alloc; "'{}';", text.as_str()),
+        Val::Bool(true) => format!(in alloc; "t;"),
+        Val::Bool(false) => format!(in alloc; "f;"),
     }
 }
 
-fn show_row<A: Heap>(alloc: Global, text: &mut String, row: &[Value<A>]) -> Result<(), AllocError> {
-    for value in row {
-        text.push_str(shown_value(alloc, value)?.as_str())?;
+fn show_row<A: Heap>(
+    alloc: Global,
+    text: &mut String,
+    table: &Table<A>,
+    row: u64,
+) -> Result<(), AllocError>
+    requires { row < length table.now.rows }
+{
+    for column in 0..table.columns().len() {
+        text.push_str(shown_value(alloc, &table.cell(row, column as u64))?.as_str())?;
     }
     text.push('/')?;
     Ok(())
@@ -82,8 +80,8 @@ fn show_row<A: Heap>(alloc: Global, text: &mut String, row: &[Value<A>]) -> Resu
 // The rows of a table in one text.
 fn shown<A: Heap>(alloc: Global, table: &Table<A>) -> Result<String, AllocError> {
     let mut text = String::new(alloc);
-    for row in table.as_rows() {
-        show_row(alloc, &mut text, row.as_slice())?;
+    for row in 0..table.rows() {
+        show_row(alloc, &mut text, table, row)?;
     }
     Ok(text)
 }
@@ -161,7 +159,7 @@ fn uneven_records_and_cut_texts(rt: HostRuntime) {
         ("id,owner,region,parts,open\n1,alice,1,4\n", 1),
         ("id,owner,region,parts,open\n1,alice,1,4,t,t\n", 1),
         ("id,owner,region,parts,open\n1,alice,1,4,t\n2\n3,bob\n", 2),
-        // The number of fields is told before the cells, and an earlier row before both.
+        // The number of fields is reported before the cells, and an earlier row before both.
         ("id,owner,region,parts,open\nx,\\N,1,4\n", 1),
         (
             "id,owner,region,parts,open\n1,alice,1,4,t\n2,alice,2,0,f\n3,bob,1",
@@ -335,7 +333,7 @@ fn failed_read_gives_no_table(rt: HostRuntime) {
 fn failed_read_adds_no_rows(rt: HostRuntime) -> Result<(), Fail> {
     let mut table = made(&rt, DEAL);
     for left in 0..80u64 {
-        let told = append(rt.alloc(), &mut table, in_pieces(DEAL, 1, left)).err();
+        let told = table.append(in_pieces(DEAL, 1, left)).err();
         let row = lines_in(DEAL, left);
         assert_eq!(rt; told, Some(LoadError::Reader { row }), "at {left}");
         assert_eq!(rt; shown(rt.alloc(), &table)?.as_str(), DEAL_ROWS);
@@ -348,8 +346,7 @@ fn rows_come_to_those_before(rt: HostRuntime) -> Result<(), Fail> {
     let alloc = rt.alloc();
     let mut table = made(&rt, DEAL);
     let more = "id,owner,region,parts,open\n6,carol,1,1,t\n";
-    let mut records = Records::new(alloc, more.as_bytes());
-    assert_eq!(rt; table.append(&mut records), Ok(()));
+    assert_eq!(rt; table.append(more.as_bytes()), Ok(()));
     let want = format!(in alloc; "{DEAL_ROWS}6;'carol';1;1;t;/")?;
     assert_eq!(rt; shown(alloc, &table)?.as_str(), want.as_str());
     let refused = [
@@ -358,14 +355,10 @@ fn rows_come_to_those_before(rt: HostRuntime) -> Result<(), Fail> {
         "id,owner,region,parts,open\n7,dan,1,1,t\n\\N,dan,1,1,t\n",
     ];
     for text in refused {
-        assert!(rt;
-            append(alloc, &mut table, text.as_bytes()).is_err(),
-            "{text}"
-        );
+        assert!(rt; table.append(text.as_bytes()).is_err(), "{text}");
         assert_eq!(rt; shown(alloc, &table)?.as_str(), want.as_str());
     }
-    let mut records = Records::new(alloc, "id,owner,region,parts,open\n7\n".as_bytes());
-    let told = table.append(&mut records);
+    let told = table.append("id,owner,region,parts,open\n7\n".as_bytes());
     assert_eq!(rt; told, Err(LoadError::Reader { row: 1 }));
     assert_eq!(rt; table.rows(), 6);
     Ok(())
@@ -404,7 +397,7 @@ fn append_or_refusal_of_memory(rt: HostRuntime) -> Result<(), Fail> {
         let Ok(mut table) = load(&heap, DEAL.as_bytes()) else {
             panic!(rt; "loaded with fewer requests before");
         };
-        let done = append(&heap, &mut table, DEAL.as_bytes());
+        let done = table.append(DEAL.as_bytes());
         let rows = shown(rt.alloc(), &table)?;
         if heap.requests(nth) < nth {
             assert_eq!(rt; done, Ok(()), "at {n}");

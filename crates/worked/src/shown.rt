@@ -178,7 +178,7 @@ fn show_prefix(a: &Expr<Global>, word: &str, at: u32, out: &mut Printer) -> Resu
     out.word(")")
 }
 
-// The operand and the operator behind it.
+// The operand and the operator after it.
 #[cycle(show)]
 fn show_postfix(
     a: &Expr<Global>,

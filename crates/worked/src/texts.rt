@@ -64,7 +64,7 @@ fn at_most_64_columns(rt: HostRuntime) -> Result<(), Fail> {
     let more = query_of(alloc, 65)?;
     let found = parse_query(alloc, more.as_str());
     assert_eq!(rt; found.err(), Some(ParseError::Limit));
-    // What is no query at all is told as that.
+    // What is no query at all is refused as that.
     let mut wrong = query_of(alloc, 65)?;
     wrong.push_str(" FROM")?;
     let at = wrong.len().saturating_sub(4);

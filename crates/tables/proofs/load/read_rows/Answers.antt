@@ -28,7 +28,7 @@ returns-in_err-next_record-clause-rows g c =
 pub returns-then-not-branch-clause-rows : goal.returns-then-not-branch-clause-rows
 returns-then-not-branch-clause-rows g c =
     let gives = rw c.if-not-branch.true at c.in_ok-next_record.ensures.gives in
-    all_seen (map col_of c.args.columns.now) c.args.room c.loop-done.done c.loop-done.rows c.args.records.now.records c.loop-done.records c.next_record.new.records (fields_of c.next_record.new.cells) c.next_record.new.records.failed c.loop-done.invariant.seen gives
+    all_seen (map col_of c.args.columns.now) c.args.room c.loop-done.done c.loop-done.rows c.args.records.now.records c.loop-done.records c.next_record.new.records (fields_of c.next_record.new.cells) c.loop-done.invariant.seen gives (rw c.if-not-branch.true at c.in_ok-next_record.ensures.given) c.loop-done.invariant.given
 
 pub returns-in_err-read_row-clause-rows : goal.returns-in_err-read_row-clause-rows
 returns-in_err-read_row-clause-rows g c =
@@ -36,12 +36,12 @@ returns-in_err-read_row-clause-rows g c =
     let gives = rw c.if-not-branch.false at c.in_ok-next_record.ensures.gives in
     let cols = map col_of c.args.columns.now in
     let expected : c.loop-done.records.expected ≡ Some (length cols) = rw length-map c.loop-done.invariant.expected in
-    rw (p.1, p.2) (cell_refused g.row.A.Denot cols c.args.room c.loop-done.done (rows_data c.loop-done.rows.items) c.args.records.now.records c.loop-done.records c.next_record.new.records (fields_of c.next_record.new.cells) c.next_record.new.records.failed _ c.loop-done-test.true c.loop-done.invariant.seen gives expected c.in_err-read_row.ensures.cells c.in_err-read_row.ensures.no_reader)
+    rw (p.1, p.2) (cell_refused g.row.A.Denot cols c.args.room c.loop-done.done (rows_data c.loop-done.rows.items) c.args.records.now.records c.loop-done.records c.next_record.new.records (fields_of c.next_record.new.cells) _ c.loop-done-test.true c.loop-done.invariant.seen gives expected c.in_err-read_row.ensures.cells c.in_err-read_row.ensures.no_reader)
 
 pub returns-in_err-push-clause-rows : goal.returns-in_err-push-clause-rows
 returns-in_err-push-clause-rows g c =
     let p = err_from_is_err_and c.from_residual-in_err-push.result c.from_residual-in_err-push.ensures.1 in
-    rw (p.1, p.2) (out_of_memory g.row.A.Denot (map col_of c.args.columns.now) c.args.room c.args.records.now.records c.next_record.new.records.failed _ refl)
+    rw (p.1, p.2) (out_of_memory g.row.A.Denot (map col_of c.args.columns.now) c.args.room c.args.records.now.records c.next_record.new.records _ refl)
 
 pub loop-done-preserved : goal.loop-done-preserved
 loop-done-preserved g c =
@@ -74,18 +74,18 @@ returns-then-branch-clause-rows g c =
     let cols = map col_of c.args.columns.now in
     let expected : c.loop-done.records.expected ≡ Some (length cols) = rw length-map c.loop-done.invariant.expected in
     let full : c.loop-done.done ≡ c.args.room = omega arith in
-    no_room_left g.row.A.Denot cols c.args.room c.loop-done.done (rows_data c.loop-done.rows.items) c.args.records.now.records c.loop-done.records c.next_record-2.new.records (fields_of c.next_record-2.new.cells) c.next_record-2.new.records.failed full c.loop-done.invariant.seen gives expected
+    no_room_left g.row.A.Denot cols c.args.room c.loop-done.done (rows_data c.loop-done.rows.items) c.args.records.now.records c.loop-done.records c.next_record-2.new.records (fields_of c.next_record-2.new.cells) full c.loop-done.invariant.seen gives expected
 
 pub returns-clause-rows : goal.returns-clause-rows
 returns-clause-rows g c =
     let gives = rw c.if-branch.false at c.in_ok-next_record-2.ensures.gives in
-    all_seen (map col_of c.args.columns.now) c.args.room c.loop-done.done c.loop-done.rows c.args.records.now.records c.loop-done.records c.next_record-2.new.records (fields_of c.next_record-2.new.cells) c.next_record-2.new.records.failed c.loop-done.invariant.seen gives
+    all_seen (map col_of c.args.columns.now) c.args.room c.loop-done.done c.loop-done.rows c.args.records.now.records c.loop-done.records c.next_record-2.new.records (fields_of c.next_record-2.new.cells) c.loop-done.invariant.seen gives (rw c.if-branch.false at c.in_ok-next_record-2.ensures.given) c.loop-done.invariant.given
 
 pub returns-in_err-next_record-clause-failed : goal.returns-in_err-next_record-clause-failed
 returns-in_err-next_record-clause-failed g c =
     let p = err_from_is_err_and c.from_residual.result c.from_residual.ensures.1 in
     let given = c.in_err-next_record.ensures.no_more ∙ c.loop-done.invariant.given in
-    rw (p.1, p.2) (λ _. refuses_unread (c.loop-done.done + 1) _ c.loop-done.records c.next_record.new.records _ given c.in_err-next_record.ensures.refuses)
+    rw (p.1, p.2) (refuses_unread _ (c.loop-done.done + 1) _ c.loop-done.records c.next_record.new.records _ given c.in_err-next_record.ensures.refuses)
 
 pub returns-in_err-next_record-2-clause-failed : goal.returns-in_err-next_record-2-clause-failed
 returns-in_err-next_record-2-clause-failed g c =
@@ -93,4 +93,4 @@ returns-in_err-next_record-2-clause-failed g c =
     let full : c.args.room ≡ c.loop-done.done = omega arith in
     let given = c.in_err-next_record-2.ensures.no_more ∙ c.loop-done.invariant.given in
     let refuses = rw full at c.in_err-next_record-2.ensures.refuses in
-    rw (p.1, p.2) (λ _. refuses_unread (c.loop-done.done + 1) _ c.loop-done.records c.next_record-2.new.records _ given refuses)
+    rw (p.1, p.2) (refuses_unread _ (c.loop-done.done + 1) _ c.loop-done.records c.next_record-2.new.records _ given refuses)

@@ -1,4 +1,4 @@
-use Rattle.std.proofs.Common.{◌≡◌, ◌+◌, Some, false, length, map, All}
+use Rattle.std.proofs.Common.{◌≡◌, ◌+◌, Some, None, length, map, All}
 use Rattle.tables.specs.Loading.{col_of, rows_data}
 use Rattle.tables.proofs.Follow.{SeenRows}
 use Rattle.tables.proofs.load.read_rows.Given as goal
@@ -8,7 +8,7 @@ invariant-loop-done g l = record {
   count : length l.rows.items ≡ l.done;
   expected : l.records.expected ≡ Some (length l.columns);
   given : l.records.given ≡ l.done + 1;
-  fresh : l.records.failed ≡ false;
+  fresh : l.records.failure ≡ None;
   wide : All (λ r. length r ≡ length l.columns) l.rows.items;
   seen : SeenRows (map col_of l.columns) l.room l.done (rows_data l.rows.items) l.fn.records.records l.records.records;
 }

@@ -11,4 +11,4 @@ returns-in_err-read_header-clause-rows g c =
 
 pub returns-clause-rows : goal.returns-clause-rows
 returns-clause-rows g c =
-    header_then_rows (map col_of c.args.columns.now) c.args.room c.args.records.now c.read_header.new.records c.read_rows.new.records.failed c.read_rows.result c.in_ok-read_header.ensures.header c.read_rows.ensures.rows
+    header_then_rows (map col_of c.args.columns.now) c.args.room c.args.records.now c.read_header.new.records c.read_rows.new.records c.read_rows.result c.in_ok-read_header.ensures.header c.read_rows.ensures.rows

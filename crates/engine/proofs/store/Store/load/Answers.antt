@@ -1,35 +1,33 @@
-use Rattle.std.proofs.Common.{[], map, sym, refl}
+use Rattle.std.proofs.Common.{◌≡◌, ◌∙◌, ap, sym, refl}
+use Rattle.std.proofs.Math.Seq.{map-set_same}
 use Rattle.engine.specs.Stored.{is_named}
 use Rattle.engine.specs.World.{stored_entry}
 use Rattle.engine.proofs.Places.{none_found}
-use Rattle.engine.proofs.Loads.{IfSome-all, IfSome-map, rows_loaded, fault_told}
+use Rattle.engine.proofs.Loads.{loaded_from, none_loaded, of_load, same_world}
 use Rattle.engine.proofs.store.Store.load.Goals as goal
 use Rattle.engine.proofs.store.Store.load.Goals.{in-Ok, in-Err}
 
-pub returns-in_default-clause-exact : goal.returns-in_default-clause-exact
-returns-in_default-clause-exact g c =
-    λ fine. rw (← c.self.view_is) (IfSome-all c.args.records.now.records _ (λ recs. none_found (is_named c.args.table.now) _ (sym (rw c.deref.ensures.value at c.in_default.ensures.place))))
+pub returns-in_default-clause-loaded : goal.returns-in_default-clause-loaded
+returns-in_default-clause-loaded g c =
+    rw (← c.self.view_is) (none_loaded (g.R.Read.remaining c.args.reader) _ _ c.args.table.now (none_found (is_named c.args.table.now) _ (sym (rw c.deref.ensures.value at c.in_default.ensures.place))))
 
-pub returns-in_default-clause-some_records : goal.returns-in_default-clause-some_records
-returns-in_default-clause-some_records g c =
-    λ fine. rw (← c.self.view_is) ([], none_found (is_named c.args.table.now) _ (sym (rw c.deref.ensures.value at c.in_default.ensures.place)))
-
-pub returns-clause-exact : goal.returns-clause-exact
-returns-clause-exact g c =
-    λ fine.
+pub returns-clause-loaded : goal.returns-clause-loaded
+returns-clause-loaded g c =
     let entries = c.self.inside.contents.items in
     let at = sym (rw c.deref.ensures.value at c.in-Some.ensures.place) in
-    elim c.match-append.branch [
-      | in-Ok w ↦ rw (← c.self.view_is, w.result-is) (IfSome-map c.args.records.now.records _ _ (λ recs h. rows_loaded (λ e. stored_entry e) c.args.table.now recs c.index_mut.result.now entries c.in-Some.i at c.index_mut.ensures.value _ _ refl c.append.ensures.columns h) ((rw w.in-Ok.is at c.append.ensures.exact) fine))
-      | in-Err w ↦ rw (← c.self.view_is, w.result-is) (IfSome-map c.args.records.now.records _ _ (λ recs h. fault_told (λ e. stored_entry e) c.args.table.now recs c.index_mut.result.now entries c.in-Some.i at c.index_mut.ensures.value (map (λ e. stored_entry e) entries) _ h) ((rw w.in-Err.is at c.append.ensures.exact) fine))
-    ]
+    let same : of_load c.append.result ≡ c.match-append.result = elim c.match-append.branch [
+      | in-Ok w ↦ rw (w.result-is, w.in-Ok.is) refl
+      | in-Err w ↦ rw (w.result-is, w.in-Err.is) refl
+    ] in
+    rw (← c.self.view_is, ← same) (loaded_from (λ e. stored_entry e) c.args.table.now c.index_mut.result.now entries c.in-Some.i at c.index_mut.ensures.value _ refl c.append.ensures.columns
+    (g.R.Read.remaining c.args.reader) c.append.result c.append.ensures.exact c.append.ensures.some_records c.append.ensures.stops)
 
-pub returns-clause-some_records : goal.returns-clause-some_records
-returns-clause-some_records g c =
-    λ fine.
-    let entries = c.self.inside.contents.items in
-    let at = sym (rw c.deref.ensures.value at c.in-Some.ensures.place) in
+pub returns-clause-unchanged : goal.returns-clause-unchanged
+returns-clause-unchanged g c =
     elim c.match-append.branch [
-      | in-Ok w ↦ let h = (rw w.in-Ok.is at c.append.ensures.some_records) fine in rw (← c.self.view_is, w.result-is) (h.0, rows_loaded (λ e. stored_entry e) c.args.table.now h.0 c.index_mut.result.now entries c.in-Some.i at c.index_mut.ensures.value _ _ refl c.append.ensures.columns h.1)
-      | in-Err w ↦ let h = (rw w.in-Err.is at c.append.ensures.some_records) fine in rw (← c.self.view_is, w.result-is) (h.0, fault_told (λ e. stored_entry e) c.args.table.now h.0 c.index_mut.result.now entries c.in-Some.i at c.index_mut.ensures.value (map (λ e. stored_entry e) entries) _ h.1)
+      | in-Ok w ↦ rw w.result-is tt
+      | in-Err w ↦
+          let kept : c.append.new.self ≡ c.index_mut.result.now.table = rw w.in-Err.is at c.append.ensures.unchanged in
+          let entry = ap (λ t. (c.index_mut.result.now.name, t)) kept ∙ ap (λ e. stored_entry e) c.index_mut.ensures.value in
+          rw (w.result-is, ← c.self.view_is) (same_world _ _ _ _ refl (map-set_same (λ e. stored_entry e) c.self.inside.contents.items c.in-Some.i _ c.index_mut.result.now entry))
     ]

@@ -1,56 +1,15 @@
-use Rattle.std.proofs.Common.{rules, arith, ◌≡◌, ◌-◌, true, false, length, map, refl}
-use Rattle.std.proofs.lemmas.List.{length-append, length-map, map-append}
-use Rattle.std.proofs.lemmas.List.Elements.{All-append}
-use Rattle.std.proofs.lemmas.Result.{err_from_is_err_and}
-use Rattle.std.specs.Result.{is_ok}
+use Rattle.std.proofs.Common.{List, [], ◌-◌, length, refl}
+use Rattle.tables.specs.Loading.{Appends, Fields, load_of}
 use Rattle.tables.specs.declared.TheConstants.{MAX_ROWS}
-use Rattle.tables.specs.Loading.{col_of, rows_data}
-use Rattle.tables.proofs.Follow.{fault_of_known, fault_of_some, rows_of_known, rows_of_some, stops_of_known}
+use Rattle.tables.proofs.Bytes.{unless_failed, unless_failed_known}
 use Rattle.tables.proofs.table.Table.append.Goals as goal
-
-pub returns-in_err-rows-clause-exact : goal.returns-in_err-rows-clause-exact
-returns-in_err-rows-clause-exact g c =
-    let p = err_from_is_err_and c.from_residual.result c.from_residual.ensures.1 in
-    let follows = rw (c.as_slice.ensures, c.len.ensures, c.self.inside.rows.ok.0) at c.in_err-rows.ensures.rows in
-    rw (← c.self.view_is, length-map, p.1, p.2) (fault_of_known g.row.A.Denot (map col_of c.self.inside.columns) (MAX_ROWS - length c.self.inside.rows.items) c.args.records.now.records c.read_table.new.records.failed _ (rows_data c.self.inside.rows.items) (rows_data c.self.inside.rows.items) follows)
-
-pub returns-in_err-rows-clause-some_records : goal.returns-in_err-rows-clause-some_records
-returns-in_err-rows-clause-some_records g c =
-    let p = err_from_is_err_and c.from_residual.result c.from_residual.ensures.1 in
-    let follows = rw (c.as_slice.ensures, c.len.ensures, c.self.inside.rows.ok.0) at c.in_err-rows.ensures.rows in
-    rw (← c.self.view_is, length-map, p.1, p.2) (fault_of_some g.row.A.Denot (map col_of c.self.inside.columns) (MAX_ROWS - length c.self.inside.rows.items) c.args.records.now.records c.read_table.new.records.failed _ (rows_data c.self.inside.rows.items) (rows_data c.self.inside.rows.items) follows)
-
-pub returns-in_err-rows-clause-stops : goal.returns-in_err-rows-clause-stops
-returns-in_err-rows-clause-stops g c =
-    let p = err_from_is_err_and c.from_residual.result c.from_residual.ensures.1 in
-    let follows = rw (c.as_slice.ensures, c.len.ensures, c.self.inside.rows.ok.0) at c.in_err-rows.ensures.rows in
-    rw (← c.self.view_is, length-map, p.1, p.2) (stops_of_known g.row.A.Denot (map col_of c.self.inside.columns) (MAX_ROWS - length c.self.inside.rows.items) c.args.records.now.records c.read_table.new.records.failed _ follows)
-
-pub invariant_of-self : goal.invariant_of-self
-invariant_of-self g c =
-    let bad : is_ok c.append.result ≡ false = search rules in
-    rw (rw bad at c.append.ensures.items) c.self.invariant
-
-pub invariant_of-self-2 : goal.invariant_of-self-2
-invariant_of-self-2 g c =
-    let good : is_ok c.append.result ≡ true = search rules in
-    let few = rw (c.len.ensures, c.self.inside.rows.ok.0) at c.in_ok-rows.ensures.few in
-    let at_most = c.self.invariant.1 in
-    rw (rw good at c.append.ensures.items) (
-      All-append (λ r. length r ≡ length c.self.inside.columns) c.self.inside.rows.items _ c.self.invariant.0 (rw c.as_slice.ensures at c.in_ok-rows.ensures.wide),
-      rw length-append (omega (arith, few, at_most)),
-    )
 
 pub returns-clause-exact : goal.returns-clause-exact
 returns-clause-exact g c =
-    let good : is_ok c.append.result ≡ true = search rules in
-    let items = rw good at c.append.ensures.items in
-    let follows = rw (c.as_slice.ensures, c.len.ensures, c.self.inside.rows.ok.0) at c.in_ok-rows.ensures.rows in
-    rw (← c.self.view_is, length-map, items, map-append) (λ _. rows_of_known (map col_of c.self.inside.columns) (MAX_ROWS - length c.self.inside.rows.items) c.args.records.now.records c.read_table.new.records.failed c.in_ok-rows.rows (rows_data c.self.inside.rows.items) _ follows refl)
+    let due = load_of c.args.self.now.columns (MAX_ROWS - length c.args.self.now.rows) in
+    unless_failed_known c.append_records.new.records.failure c.append_records.new.records.given c.append_records.result (λ recs. Appends (due recs) c.args.self.now.rows c.append_records.new.self.rows c.append_records.result) _ _ c.new-records.ensures.records c.append_records.ensures.exact c.append_records.ensures.failed (λ recs memory. rw memory (λ other. absurd (other refl)))
 
 pub returns-clause-some_records : goal.returns-clause-some_records
 returns-clause-some_records g c =
-    let good : is_ok c.append.result ≡ true = search rules in
-    let items = rw good at c.append.ensures.items in
-    let follows = rw (c.as_slice.ensures, c.len.ensures, c.self.inside.rows.ok.0) at c.in_ok-rows.ensures.rows in
-    rw (← c.self.view_is, length-map, items, map-append) (λ _. rows_of_some (map col_of c.self.inside.columns) (MAX_ROWS - length c.self.inside.rows.items) c.args.records.now.records c.read_table.new.records.failed c.in_ok-rows.rows (rows_data c.self.inside.rows.items) _ follows refl)
+    let due = load_of c.args.self.now.columns (MAX_ROWS - length c.args.self.now.rows) in
+    unless_failed c.append_records.new.records.failure c.append_records.new.records.given c.append_records.result ((recs : List Fields) × Appends (due recs) c.args.self.now.rows c.append_records.new.self.rows c.append_records.result) (λ none. let s = c.append_records.ensures.some_records none in (s.0, s.1)) c.append_records.ensures.failed (λ memory. ([], rw memory (λ other. absurd (other refl))))

@@ -1,0 +1,3 @@
+pub mod Fold
+pub mod Tables
+pub mod Opens

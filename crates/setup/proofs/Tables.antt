@@ -1,0 +1,110 @@
+-- Tables that are loaded one after another.
+use Rattle.std.proofs.Common.{◌≡◌, ℕ, zero, suc, ◌+◌, ◌<◌, Bool, true, false, cond, List, [], ◌∷◌, ◌++◌, length, map, take, drop, get_or, find, is_some, Option, Some, None, IsSome, option_map, Result, Ok, Err, OnOk, IfErr, refl, sym, ap, ◌∙◌, add-one, arith}
+use Rattle.std.proofs.Math.Seq.{take-suc, drop-cons}
+use Rattle.std.proofs.lemmas.List.{take-append-drop}
+use Rattle.std.proofs.lemmas.Option.{slice_get_within, get_or_from_slice_get}
+use Rattle.std.proofs.lemmas.Slice.Eq.{bytes_eq-Decides}
+use Rattle.std.proofs.lemmas.Bool.Decides.{nat_tests}
+use Rattle.std.specs.List.{slice_get}
+use Rattle.std.specs.Str.{bytes_eq}
+use Rattle.csv_records.specs.Left.{records_of}
+use Rattle.value.specs.Datum.{Row}
+use Rattle.tables.specs.Loading.{Contents, Fields}
+use Rattle.syntax.specs.Tree.{Name}
+use Rattle.engine.specs.declared.store.StoreError.{StoreError}
+use Rattle.engine.specs.Changes.{first_changed}
+use Rattle.engine.specs.Stored.{IsLoad, IsLoadFrom, is_named, with_rows}
+use Rattle.setup.specs.Loads.{AreLoaded, IsFaultOf, IsOfFile, Knows, names_of}
+use Rattle.setup.specs.declared.fault.Fault.{Fault}
+use Rattle.setup.specs.declared.fault.Fault.TheVariants as fault
+
+-- ---- the names stay
+
+names_changed : (name : Name) (rows : List Row) (es : List (Name × Contents)) → names_of (first_changed (is_named name) (with_rows rows) es) ≡ names_of es
+names_changed name rows [] = refl
+names_changed name rows (e ∷ es) = go (is_named name e) (names_changed name rows es)
+  where
+    go : (b : Bool) → names_of (first_changed (is_named name) (with_rows rows) es) ≡ names_of es
+        → names_of (cond b (with_rows rows e ∷ es) (e ∷ first_changed (is_named name) (with_rows rows) es)) ≡ e.0 ∷ names_of es
+    go true h = refl
+    go false h = ap (λ ns. e.0 ∷ ns) h
+
+loaded_names : (old new : List (Name × Contents)) (name : Name) (recs : List Fields) → IsLoad old new name recs (Ok tt) → names_of new ≡ names_of old
+loaded_names old new name recs h = ap names_of h.4 ∙ names_changed name h.1 old
+
+pub names_kept : (known : Option (List ℕ)) (old new : List (Name × Contents)) (name : Name) → IsLoadFrom known old new name (Ok tt) → names_of new ≡ names_of old
+names_kept None old new name h = loaded_names old new name h.0 h.1
+names_kept (Some bytes) old new name h = loaded_names old new name (records_of bytes) h.0
+
+-- ---- the table of a place
+
+same_bytes : (s t : List ℕ) → s ≡ t → bytes_eq s t ≡ true
+same_bytes s t e = grind (arith, bytes_eq-Decides)
+
+-- its name is that of a table that is there
+pub named : (es : List (Name × Contents)) (i : ℕ) (name : Name) → slice_get (names_of es) i ≡ Some name → IsSome (find (is_named name) es)
+named [] i name h = cc
+named (e ∷ es) zero name h = let same : e.0 ≡ name = cc in rw (same_bytes e.0 name same) refl
+named (e ∷ es) (suc i) name h = go (is_named name e) (named es i name h)
+  where
+    go : (b : Bool) → IsSome (find (is_named name) es) → is_some (cond b (Some e) (find (is_named name) es)) ≡ true
+    go true h = refl
+    go false h = h
+
+module _ (names : List Name) (i : ℕ) (name : Name) (at : slice_get names i ≡ Some name) where
+  is : get_or names i name ≡ name
+  is = get_or_from_slice_get names i name name at
+
+  below : i < length names
+  below = slice_get_within names i name at
+
+  pub parted : names ≡ take i names ++ name ∷ drop (i + 1) names
+  parted = sym (take-append-drop i names) ∙ ap (λ back. take i names ++ back) (rw (add-one, drop-cons names i name below, is) refl)
+
+  front : take (i + 1) names ≡ take i names ++ name ∷ []
+  front = rw (add-one, take-suc names i name below, is) refl
+
+  loaded_after : (bytes : Name → Option (List ℕ)) (done : List Name) (old mid new : List (Name × Contents)) → AreLoaded bytes done old mid → IsLoadFrom (bytes name) mid new name (Ok tt)
+      → AreLoaded bytes (done ++ name ∷ []) old new
+  loaded_after bytes [] old mid new h l = let same : mid ≡ old = h in (new, rw same at l, refl)
+  loaded_after bytes (n ∷ ns) old mid new h l = (h.0, h.1, loaded_after bytes ns h.0 mid new h.2 l)
+
+  -- one table more is loaded
+  pub loaded_more : (bytes : Name → Option (List ℕ)) (old mid new : List (Name × Contents)) → AreLoaded bytes (take i names) old mid → IsLoadFrom (bytes name) mid new name (Ok tt)
+      → AreLoaded bytes (take (i + 1) names) old new
+  loaded_more bytes old mid new h l = rw front (loaded_after bytes (take i names) old mid new h l)
+
+-- ---- what is known of a file
+
+pub load_known : (known left : Option (List ℕ)) (old new : List (Name × Contents)) (name : Name) (r : Result (Unit {0}) StoreError) → Knows known left → IsLoadFrom left old new name r → IsLoadFrom known old new name r
+load_known None None old new name r k h = h
+load_known None (Some bytes) old new name r k h = (records_of bytes, h.0)
+load_known (Some bytes) left old new name r k h = rw k at h
+
+pub fault_known : {A : Type 0} (known left : Option (List ℕ)) (old : List (Name × Contents)) (name : Name) (f : Fault A) → Knows known left → IsFaultOf left old name f → IsFaultOf known old name f
+fault_known known left old name (fault.Input path) k h = tt
+fault_known known left old name (fault.Schema e) k h = h
+fault_known known left old name (fault.Data table column e) k h = (h.0, h.1, load_known known left old old name _ k h.2)
+fault_known known left old name fault.OutOfMemory k h = tt
+
+-- ---- a fact of one outcome, from another fact
+
+pub on_ok : {T E : Type 0} (r : Result T E) (P Q : Type 0) → (P → Q) → OnOk r P → OnOk r Q
+on_ok (Ok x) P Q f h = f h
+on_ok (Err e) P Q f h = tt
+
+pub if_err : {T E : Type 0} (r : Result T E) (P Q : E → Type 0) → ((e : E) → P e → Q e) → IfErr r P → IfErr r Q
+if_err (Ok x) P Q f h = tt
+if_err (Err e) P Q f h = f e h
+
+pub file_fault : {A : Type 0} (known : Option (List ℕ)) (old : List (Name × Contents)) (name : Name) (f : Fault A) → IsOfFile f → IsFaultOf known old name f
+file_fault known old name (fault.Input path) h = tt
+file_fault known old name (fault.Schema e) h = h
+file_fault known old name (fault.Data table column e) h = absurd h
+file_fault known old name fault.OutOfMemory h = tt
+
+-- there is a table at each place below their number
+pub no_place : (es : List (Name × Contents)) (i : ℕ) → i < length es → ◌≡◌ {A = Option Name} None (option_map (λ e. e.0) (slice_get es i)) → ⊥
+no_place [] i h e = absurd (omega arith)
+no_place (x ∷ es) zero h e = cc
+no_place (x ∷ es) (suc i) h e = no_place es i (omega arith) e

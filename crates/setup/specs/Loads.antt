@@ -1,0 +1,65 @@
+-- The tables of a store, loaded from the files of a folder.
+use Rattle.std.specs.Prelude.{◌≡◌, ℕ, List, [], ◌∷◌, ◌++◌, map, Option, None, Some, Ok, Err, slice_get, ⊤}
+use Rattle.tables.specs.Loading.{Col, Contents}
+use Rattle.tables.specs.declared.LoadError.{LoadError}
+use Rattle.tables.specs.declared.LoadError.TheVariants as load
+use Rattle.syntax.specs.Tree.{Name}
+use Rattle.engine.specs.declared.store.StoreError.TheVariants.{Data}
+use Rattle.engine.specs.Stored.{IsLoadFrom, columns_in}
+use Rattle.setup.specs.declared.fault.Fault.{Fault}
+use Rattle.setup.specs.declared.fault.Fault.TheVariants as fault
+
+-- the names of the tables, in order of creation
+abbrev pub names_of : List (Name × Contents) → List Name
+names_of contents = map (λ entry. entry.0) contents
+
+abbrev pub name_at : Option Col → Name
+name_at None = []
+name_at (Some column) = column.name
+
+-- the name of the column of an error; empty for an error of no column
+abbrev pub column_of : List Col → LoadError → Name
+column_of columns load.Header = []
+column_of columns (load.Reader row) = []
+column_of columns (load.Cell row place) = name_at (slice_get columns place)
+column_of columns (load.NotNull row place) = name_at (slice_get columns place)
+column_of columns load.TooMany = []
+column_of columns load.OutOfMemory = []
+
+-- each table in turn has the rows of its file, whose bytes may be known
+abbrev pub AreLoaded : (Name → Option (List ℕ)) → List Name → List (Name × Contents) → List (Name × Contents) → Type 0
+AreLoaded bytes [] old new = new ≡ old
+AreLoaded bytes (name ∷ names) old new = (mid : List (Name × Contents)) × IsLoadFrom (bytes name) old mid name (Ok tt) × AreLoaded bytes names mid new
+
+-- a reader has these bytes left, where they are known
+abbrev pub Knows : Option (List ℕ) → Option (List ℕ) → Type 0
+Knows None left = ⊤
+Knows (Some bytes) left = left ≡ Some bytes
+
+-- an error of opening a file: it cannot be read, or memory ran out
+abbrev pub IsOfFile : {A : Type 0} → Fault A → Type 0
+IsOfFile (fault.Input path) = ⊤
+IsOfFile (fault.Schema e) = ⊥
+IsOfFile (fault.Data table column e) = ⊥
+IsOfFile fault.OutOfMemory = ⊤
+
+-- why the rows of a table were not loaded: its file cannot be read, the first fault of its rows, or memory ran out
+abbrev pub IsFaultOf : {A : Type 0} → Option (List ℕ) → List (Name × Contents) → Name → Fault A → Type 0
+IsFaultOf bytes contents name (fault.Input path) = ⊤
+IsFaultOf bytes contents name (fault.Schema e) = ⊥
+IsFaultOf bytes contents name (fault.Data table column e) =
+    (table ≡ name) × (column ≡ column_of (columns_in contents name) e) × IsLoadFrom bytes contents contents name (Err (Data e))
+IsFaultOf bytes contents name fault.OutOfMemory = ⊤
+
+-- the table at a place, in order of creation, has the rows of its file
+abbrev pub IsLoadedAt : (Name → Option (List ℕ)) → List (Name × Contents) → List (Name × Contents) → ℕ → Type 0
+IsLoadedAt bytes old new place = (name : Name) × (slice_get (names_of old) place ≡ Some name) × IsLoadFrom (bytes name) old new name (Ok tt)
+
+-- the fault is that of the table at a place
+abbrev pub IsFaultAt : {A : Type 0} → (Name → Option (List ℕ)) → List (Name × Contents) → ℕ → Fault A → Type 0
+IsFaultAt bytes old place f = (name : Name) × (slice_get (names_of old) place ≡ Some name) × IsFaultOf (bytes name) old name f
+
+-- the tables before one were loaded, and this is the fault of that one
+abbrev pub StopsAtTable : {A : Type 0} → (Name → Option (List ℕ)) → List (Name × Contents) → List (Name × Contents) → Fault A → Type 0
+StopsAtTable bytes old new f =
+    (front : List Name) × (name : Name) × (rest : List Name) × (names_of old ≡ front ++ name ∷ rest) × AreLoaded bytes front old new × IsFaultOf (bytes name) new name f
