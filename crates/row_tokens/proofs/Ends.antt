@@ -58,7 +58,7 @@ digits_some (b ∷ bs) h = rw h (omega arith)
 nothing_ends : (bs : List ℕ) → EndsInAscii bs 0
 nothing_ends bs = (omega arith, λ h. absurd (omega arith))
 
-length_run : (p : ℕ → Bool) (bs : List ℕ) → length (take_while p bs) ≡ prefix_len p bs
+pub length_run : (p : ℕ → Bool) (bs : List ℕ) → length (take_while p bs) ≡ prefix_len p bs
 length_run p bs = length-take-le (prefix_len p bs) bs (prefix_len-le-length p bs)
 
 number_ends : (value size : ℕ) (bs : List ℕ) → EndsInAscii bs size → EndsInAscii bs (number_of value size).size

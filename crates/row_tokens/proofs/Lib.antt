@@ -5,6 +5,12 @@ pub mod Fronts
 pub mod Steps
 pub mod Doubled
 pub mod Places
+pub mod Nulls
 pub mod Shapes
 pub mod Lasts
 pub mod Signs
+pub mod Filled
+pub mod Gaps
+pub mod Longest
+pub mod Wholes
+pub mod NoNulls

@@ -19,7 +19,7 @@ pairs_cons R x xs first rest (suc i) zero d lt within = absurd (omega arith)
 pairs_cons R x xs first rest (suc i) (suc j) d lt within = rest i j d (omega arith) (omega arith)
 
 -- one byte on
-next_byte : (at b : ℕ) (bs text : List ℕ) → drop at text ≡ b ∷ bs → drop (at + 1) text ≡ bs
+pub next_byte : (at b : ℕ) (bs text : List ℕ) → drop at text ≡ b ∷ bs → drop (at + 1) text ≡ bs
 next_byte at b bs text e = sym (drop-drop 1 at text) ∙ ap (drop 1) e
 
 word_stands : (at : ℕ) (l : Lexeme) (bs text : List ℕ) → drop at text ≡ bs → StandsIn text (word_at at l bs)

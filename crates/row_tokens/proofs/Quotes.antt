@@ -34,7 +34,7 @@ no_opening (b ∷ bs) h =
     (λ e. let quote : b ≡ 39 = eqb-true b 39 (and_parts _ _ (and_parts _ _ e).0).1 in absurd (h bs (ap (λ c. c ∷ bs) quote)))
     (λ e. refl)
 
-ends_with : (cs : List ℕ) → get_or cs (length cs - 1) 0 ≡ 39 → 0 < length cs → cs ≡ take (length cs - 1) cs ++ 39 ∷ []
+pub ends_with : (cs : List ℕ) → get_or cs (length cs - 1) 0 ≡ 39 → 0 < length cs → cs ≡ take (length cs - 1) cs ++ 39 ∷ []
 ends_with cs last some =
     let back : length cs - 1 + 1 ≡ length cs = omega arith in
     sym (take_all (length cs - 1 + 1) cs (omega arith)) ∙ take_more cs (length cs - 1) 0 (omega arith) ∙ ap (λ c. take (length cs - 1) cs ++ c ∷ []) last
@@ -53,7 +53,7 @@ no_closing bs cs split h =
     absurd (h (take (length cs - 1) cs) whole))
     (λ e. refl)
 
-between_is : (ds : List ℕ) → between_quotes (39 ∷ (ds ++ 39 ∷ [])) ≡ ds
+pub between_is : (ds : List ℕ) → between_quotes (39 ∷ (ds ++ 39 ∷ [])) ≡ ds
 between_is ds =
     let whole : List ℕ = 39 ∷ (ds ++ 39 ∷ []) in
     let size : length whole ≡ suc (length ds + 1) = ap suc (length-append ds (39 ∷ [])) in

@@ -1,5 +1,5 @@
 -- What kinds of tokens there are, by the first byte.
-use Rattle.std.proofs.Common.{◌≡◌, ℕ, zero, suc, ◌+◌, ◌-◌, ◌==◌, ◌^◌, ◌&&◌, ◌||◌, nat_lt, Bool, true, false, not, if◌then◌else◌, Option, Some, None, List, [], ◌∷◌, length, get_or, take, drop, slice_index, refl, ap, ◌∙◌, arith}
+use Rattle.std.proofs.Common.{◌≡◌, ◌≢◌, ℕ, zero, suc, ◌+◌, ◌-◌, ◌==◌, ◌^◌, ◌&&◌, ◌||◌, nat_lt, Bool, true, false, not, if◌then◌else◌, Option, Some, None, List, [], ◌∷◌, ◌++◌, length, get_or, take, drop, slice_index, refl, sym, ap, ◌∙◌, arith}
 use Rattle.std.specs.Prelude.{All}
 use Rattle.std.specs.Char.{is_ascii_digit}
 use Rattle.std.specs.List.{list_all, prefix_len, take_while}
@@ -11,9 +11,11 @@ use Rattle.std.proofs.lemmas.List.Elements.{All-nil, All-cons}
 use Rattle.row_tokens.specs.declared.lexeme.Lexeme.{Lexeme}
 use Rattle.row_tokens.specs.declared.token.Kind.{Kind}
 use Rattle.row_tokens.specs.declared.token.Kind.TheVariants.{Quoted, Name, Number, Greatest, Negative, Minus, Bad}
-use Rattle.row_tokens.specs.Words.{bad, begins, begins_number, behind_space, by_place, closing, first_number, goes_on, in_quotes, is_bad, is_letter, is_space, keyword_in, kind_of_word, lexeme, minus_lexeme, number_of, plain, quoted_lexeme, reserved, sign_lexeme, word_lexeme, words_from}
+use Rattle.row_tokens.specs.Words.{bad, begins, begins_number, behind_space, by_place, closing, first_number, goes_on, in_quotes, is_bad, is_letter, is_space, keyword_in, kind_of_word, lexeme, minus_lexeme, number_of, plain, quoted_lexeme, quoted_value, reserved, sign_lexeme, undoubled, word_lexeme, words_from}
 use Rattle.row_tokens.specs.Slices.{AreInQuotes, HasQuotes}
 use Rattle.row_tokens.proofs.Ends.{ClosesAt, closes}
+use Rattle.row_tokens.proofs.Nulls.{undoubled_mark}
+use Rattle.row_tokens.proofs.Quotes.{between_is, ends_with}
 
 -- no text in quotes, no number and no minus
 abbrev pub is_other : Kind → Bool
@@ -78,17 +80,21 @@ abbrev is_quoted : Kind → Bool
 is_quoted Quoted = true
 is_quoted _ = false
 
+-- and its value is not what stands for null
+abbrev NoNull : List ℕ → Lexeme → Type 0
+NoNull bs l = l.kind ≡ Quoted → quoted_value (take l.size bs) ≢ 92 ∷ 78 ∷ []
+
 abbrev Shape : List ℕ → Lexeme → Type 0
-Shape bs l = Quotes bs l × IsSized l
+Shape bs l = Quotes bs l × NoNull bs l × IsSized l
 
 -- a lexeme that is no text in quotes
 unquoted_shape : (bs : List ℕ) (l : Lexeme) → is_quoted l.kind ≡ false → IsSized l → Shape bs l
-unquoted_shape bs l o sized = (λ e. cc (ap is_quoted e), sized)
+unquoted_shape bs l o sized = (λ e. cc (ap is_quoted e), λ e m. cc (ap is_quoted e, o), sized)
 
 other_shape : (bs : List ℕ) (l : Lexeme) → IsOther l → Shape bs l
 other_shape bs l o =
     let both = and_parts (is_other l.kind) (is_sized l) o in
-    (λ e. cc (ap is_other e, both.0), both.1)
+    (λ e. cc (ap is_other e, both.0), λ e m. cc (ap is_other e, both.0), both.1)
 
 number_of_shape : (cs : List ℕ) (value size : ℕ) → Shape cs (number_of value size)
 number_of_shape cs value size =
@@ -105,18 +111,33 @@ minus_shape cs bs =
     cond_both (begins (λ c. c == 45) bs) bad _ (Shape cs) (λ _. unquoted_shape cs bad refl refl)
     (λ _. cond_both (begins_number (behind_space bs)) Negative Minus (λ kind. Shape cs (plain kind 1)) (λ _. unquoted_shape cs (plain Negative 1) refl refl) (λ _. unquoted_shape cs (plain Minus 1) refl refl))
 
+-- a text in quotes of which the bytes behind the first quote are not those of what stands for null
+quoted_no_null : (b : ℕ) (bs : List ℕ) (n : ℕ) → b ≡ 39 → ClosesAt bs (Some n) → bytes_eq (take n bs) (92 ∷ 78 ∷ 39 ∷ []) ≡ false → quoted_value (take (n + 1) (b ∷ bs)) ≢ 92 ∷ 78 ∷ []
+quoted_no_null b bs n e h differs null =
+    let cs : List ℕ = take n bs in
+    let ds : List ℕ = take (length cs - 1) cs in
+    let long : length cs ≡ n = length-take-le n bs h.1 in
+    let last : get_or cs (length cs - 1) 0 ≡ 39 = ap (λ k. get_or cs (k - 1) 0) long ∙ get_or-take n bs (n - 1) 0 (omega (arith, h.0)) ∙ h.2 in
+    let split : cs ≡ ds ++ 39 ∷ [] = ends_with cs last (omega (arith, long, h.0)) in
+    let step : n + 1 ≡ suc n = omega arith in
+    let whole : take (n + 1) (b ∷ bs) ≡ 39 ∷ (ds ++ 39 ∷ []) = ap (λ k. take k (b ∷ bs)) step ∙ ap (λ x. x ∷ cs) e ∙ ap (λ xs. 39 ∷ xs) split in
+    let between : quoted_value (take (n + 1) (b ∷ bs)) ≡ undoubled ds = ap quoted_value whole ∙ ap undoubled (between_is ds) in
+    let mark : ds ≡ 92 ∷ 78 ∷ [] = undoubled_mark ds (sym between ∙ null) in
+    let same : bytes_eq cs (92 ∷ 78 ∷ 39 ∷ []) ≡ true = ap (λ xs. bytes_eq xs (92 ∷ 78 ∷ 39 ∷ [])) (split ∙ ap (λ xs. xs ++ 39 ∷ []) mark) in
+    cc (same, differs)
+
 quoted_shape : (b : ℕ) (bs : List ℕ) (o : Option ℕ) → b ≡ 39 → ClosesAt bs o → Shape (b ∷ bs) (quoted_lexeme bs o)
 quoted_shape b bs None e h = unquoted_shape (b ∷ bs) bad refl refl
 quoted_shape b bs (Some n) e h =
     cond_both (bytes_eq (take n bs) (92 ∷ 78 ∷ 39 ∷ [])) bad _ (Shape (b ∷ bs)) (λ _. unquoted_shape (b ∷ bs) bad refl refl)
-    (λ _.
+    (λ differs.
     let long : length (take (n + 1) (b ∷ bs)) ≡ n + 1 = length-take-le (n + 1) (b ∷ bs) (omega arith) in
     let step : n + 1 - 1 ≡ suc (n - 1) = omega arith in
     let whole : List ℕ = take (n + 1) (b ∷ bs) in
     let first : slice_index whole 0 ≡ 39 = get_or-take (n + 1) (b ∷ bs) 0 0 (omega arith) ∙ e in
     let end : get_or (b ∷ bs) (n + 1 - 1) 0 ≡ 39 = rw step h.2 in
     let last : slice_index whole (length whole - 1) ≡ 39 = ap (λ k. slice_index whole (k - 1)) long ∙ get_or-take (n + 1) (b ∷ bs) (n + 1 - 1) 0 (omega arith) ∙ end in
-    (λ _. and_from _ _ (and_from _ _ (lt-ltb 1 (length whole) (omega (arith, long, h.0))) (eq-eqb _ 39 first)) (eq-eqb _ 39 last), refl))
+    (λ _. and_from _ _ (and_from _ _ (lt-ltb 1 (length whole) (omega (arith, long, h.0))) (eq-eqb _ 39 first)) (eq-eqb _ 39 last), λ _. quoted_no_null b bs n e h differs, refl))
 
 lexeme_shape : (bs : List ℕ) → Shape bs (lexeme bs)
 unfolding lexeme
@@ -130,10 +151,13 @@ lexeme_shape (b ∷ bs) =
 
 -- a bad token takes no byte
 pub bad_is_empty : (bs : List ℕ) → (lexeme bs).kind ≡ Bad → (lexeme bs).size ≡ 0
-bad_is_empty bs e = of_sized (is_bad (lexeme bs).kind) (ap is_bad e) (lexeme_shape bs).1 where
+bad_is_empty bs e = of_sized (is_bad (lexeme bs).kind) (ap is_bad e) (lexeme_shape bs).2 where
   of_sized : (t : Bool) → t ≡ true → (not t || ((lexeme bs).size == 0)) ≡ true → (lexeme bs).size ≡ 0
   of_sized true e h = eqb-true _ 0 h
   of_sized false e h = cc
+
+pub no_null_lexeme : (bs : List ℕ) → (lexeme bs).kind ≡ Quoted → quoted_value (take (lexeme bs).size bs) ≢ 92 ∷ 78 ∷ []
+no_null_lexeme bs = (lexeme_shape bs).1
 
 quotes_from : (skip at : ℕ) (bs : List ℕ) → All HasQuotes (words_from skip at bs)
 unfolding words_from

@@ -88,9 +88,12 @@ bad = record { kind = k.Bad; size = 0; number = 0 }
 abbrev pub plain : Kind → ℕ → Lexeme
 plain kind size = record { kind = kind; size = size; number = 0 }
 
--- a name has at most 63 bytes
+-- how many bytes a name may have
+abbrev pub most_name_bytes : ℕ
+most_name_bytes = 63
+
 abbrev pub word_lexeme : List ℕ → Lexeme
-word_lexeme w = if nat_lt 63 (length w) then bad else plain (kind_of_word w) (length w)
+word_lexeme w = if nat_lt most_name_bytes (length w) then bad else plain (kind_of_word w) (length w)
 
 -- a number by its value and how many digits it has; at most 9223372036854775808
 abbrev pub number_of : ℕ → ℕ → Lexeme

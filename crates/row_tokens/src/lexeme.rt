@@ -19,7 +19,8 @@ pub struct Lexeme {
     pub number: u64,
 }
 
-const LONGEST_NAME: usize = 63;
+// How many bytes a name may have.
+const MOST_NAME_BYTES: usize = 63;
 
 // What a bigint has below 0 and no more above it.
 const GREATEST: u64 = 1 << 63;
@@ -93,7 +94,7 @@ fn plain(kind: Kind, size: usize) -> Lexeme
 fn word_lexeme(word: &[u8]) -> Lexeme
     ensures { result ≡ word_lexeme word.now }
 {
-    if word.len() > LONGEST_NAME {
+    if word.len() > MOST_NAME_BYTES {
         return BAD;
     }
     plain(kind_of_word(word), word.len())

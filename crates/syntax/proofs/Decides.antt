@@ -7,7 +7,7 @@ use Rattle.row_tokens.specs.contracts.token.Kind.{the_type}
 use Rattle.row_tokens.specs.declared.token.Kind.{Kind}
 use Rattle.row_tokens.specs.declared.token.Kind.TheVariants as k
 use Rattle.syntax.specs.Language.{Nested, an_expression, a_negation, a_unary, language, is, of}
-use Rattle.syntax.specs.Expressions.{grammar, rule, nested_first, name, next_name, names, dot_name, column, next_column, columns, type_name, word_literal, unsigned_literal, literal, value, next_value, value_list, parenthesized, cast, arm, arms, otherwise, case, counted_rows, count_tail, count, aggregate_tail, aggregate, constant, plain_column, primary, unary, factor, product, addend, sum, between, in_list, range, negated_range, range_tail, ranged_sum, compared_with, comparison, null_word, is_null, null_test, negation, and_operand, conjunction, or_operand, expression}
+use Rattle.syntax.specs.Expressions.{grammar, rule, nested_first, name, next_name, names, dot_name, column, next_column, columns, type_name, word_literal, unsigned_literal, literal, value, next_value, value_list, parenthesized, cast, arm, arms, otherwise, case, counted_rows, count_tail, count, aggregate_tail, aggregate, constant, plain_column, multiplication, addition, comparison_sign, aggregate_name, primary, unary, factor, product, addend, sum, between, in_list, range, negated_range, range_tail, ranged_sum, compared_with, comparison, null_word, is_null, null_test, negation, and_operand, conjunction, or_operand, expression}
 use Rattle.syntax.specs.Queries.{condition, item_alias, item, next_item, item_list, selection, entry_alias, entry, plain_join, join, join_list, chain, next_chain, from, filter, groups, having, target, direction, key, next_key, keys, order, limit, clauses, query}
 use Rattle.syntax.specs.Statements.{superuser, bypassrls, new_role, column_type, required, column_def, next_column_def, column_defs, new_table, new_index, strength, command, policy_roles, using, new_policy, create, owner, security_setting, security, alter, grant_columns, granted, grant, revoke, drop, statement, ended_statement, schema}
 
@@ -66,7 +66,7 @@ nested_ext a_negation kind = extends_negation kind
 nested_ext a_unary kind = extends_unary kind
 
 pub decided : IsDecided grammar kinds nested_ext
-unfolding is of name next_name names dot_name column next_column columns type_name word_literal unsigned_literal literal value next_value value_list parenthesized cast arm arms otherwise case counted_rows count_tail count aggregate_tail aggregate constant plain_column primary unary factor product addend sum between in_list range negated_range range_tail ranged_sum compared_with comparison null_word is_null null_test negation and_operand conjunction or_operand expression
+unfolding is of name next_name names dot_name column next_column columns type_name word_literal unsigned_literal literal value next_value value_list parenthesized cast arm arms otherwise case counted_rows count_tail count aggregate_tail aggregate constant plain_column multiplication addition comparison_sign aggregate_name primary unary factor product addend sum between in_list range negated_range range_tail ranged_sum compared_with comparison null_word is_null null_test negation and_operand conjunction or_operand expression
 decided = record {
   every = every_kind;
   first_fits = first_fits;
@@ -96,13 +96,13 @@ decided = record {
     rules_good a_unary = refl
 
 pub query_good : good language nested_first nested_ext kinds false query ≡ true
-unfolding is of condition item_alias item next_item item_list selection entry_alias entry plain_join join join_list chain next_chain from filter groups having target direction key next_key keys order limit clauses query name next_name names dot_name column next_column columns type_name word_literal unsigned_literal literal value next_value value_list parenthesized cast arm arms otherwise case counted_rows count_tail count aggregate_tail aggregate constant plain_column primary unary factor product addend sum between in_list range negated_range range_tail ranged_sum compared_with comparison null_word is_null null_test negation and_operand conjunction or_operand expression
+unfolding is of condition item_alias item next_item item_list selection entry_alias entry plain_join join join_list chain next_chain from filter groups having target direction key next_key keys order limit clauses query name next_name names dot_name column next_column columns type_name word_literal unsigned_literal literal value next_value value_list parenthesized cast arm arms otherwise case counted_rows count_tail count aggregate_tail aggregate constant plain_column multiplication addition comparison_sign aggregate_name primary unary factor product addend sum between in_list range negated_range range_tail ranged_sum compared_with comparison null_word is_null null_test negation and_operand conjunction or_operand expression
 query_good = refl
 
 pub schema_good : good language nested_first nested_ext kinds false schema ≡ true
-unfolding is of superuser bypassrls new_role column_type required column_def next_column_def column_defs new_table new_index strength command policy_roles using new_policy create owner security_setting security alter grant_columns granted grant revoke drop statement ended_statement schema name next_name names dot_name column next_column columns type_name word_literal unsigned_literal literal value next_value value_list parenthesized cast arm arms otherwise case counted_rows count_tail count aggregate_tail aggregate constant plain_column primary unary factor product addend sum between in_list range negated_range range_tail ranged_sum compared_with comparison null_word is_null null_test negation and_operand conjunction or_operand expression
+unfolding is of superuser bypassrls new_role column_type required column_def next_column_def column_defs new_table new_index strength command policy_roles using new_policy create owner security_setting security alter grant_columns granted grant revoke drop statement ended_statement schema name next_name names dot_name column next_column columns type_name word_literal unsigned_literal literal value next_value value_list parenthesized cast arm arms otherwise case counted_rows count_tail count aggregate_tail aggregate constant plain_column multiplication addition comparison_sign aggregate_name primary unary factor product addend sum between in_list range negated_range range_tail ranged_sum compared_with comparison null_word is_null null_test negation and_operand conjunction or_operand expression
 schema_good = refl
 
 pub statement_good : good language nested_first nested_ext kinds false statement ≡ true
-unfolding is of superuser bypassrls new_role column_type required column_def next_column_def column_defs new_table new_index strength command policy_roles using new_policy create owner security_setting security alter grant_columns granted grant revoke drop statement ended_statement schema name next_name names dot_name column next_column columns type_name word_literal unsigned_literal literal value next_value value_list parenthesized cast arm arms otherwise case counted_rows count_tail count aggregate_tail aggregate constant plain_column primary unary factor product addend sum between in_list range negated_range range_tail ranged_sum compared_with comparison null_word is_null null_test negation and_operand conjunction or_operand expression
+unfolding is of superuser bypassrls new_role column_type required column_def next_column_def column_defs new_table new_index strength command policy_roles using new_policy create owner security_setting security alter grant_columns granted grant revoke drop statement ended_statement schema name next_name names dot_name column next_column columns type_name word_literal unsigned_literal literal value next_value value_list parenthesized cast arm arms otherwise case counted_rows count_tail count aggregate_tail aggregate constant plain_column multiplication addition comparison_sign aggregate_name primary unary factor product addend sum between in_list range negated_range range_tail ranged_sum compared_with comparison null_word is_null null_test negation and_operand conjunction or_operand expression
 statement_good = refl

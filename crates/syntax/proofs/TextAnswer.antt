@@ -38,8 +38,8 @@ module _ {A : Type 0} (f : Rule A) (decides : good language nested_first nested_
   pub within_only : (t : A) → Spells f text t → length text ≤ most → read_within most f text ≡ Ok t
   within_only t h l = rw (le-ltb most (length text) l, only grammar kinds nested_ext decided f decides run_limit depth_limit (words text) t h) refl
 
-  pub within_stops : (at : ℕ) → read_within most f text ≡ Err (wrong_at at) → StopsAt f text at × (length text ≤ most)
-  within_stops at e = long (nat_lt most (length text)) refl e
+  stops_within : (at : ℕ) → read_within most f text ≡ Err (wrong_at at) → StopsAt f text at × (length text ≤ most)
+  stops_within at e = long (nat_lt most (length text)) refl e
     where
       short : (r : Result A Stop) → r ≡ whole → of_text text r ≡ Err (wrong_at at) → StopsAt f text at
       short (Ok x) q e = cc
@@ -49,6 +49,9 @@ module _ {A : Type 0} (f : Rule A) (decides : good language nested_first nested_
       long : (b : Bool) → nat_lt most (length text) ≡ b → (if b then Err over_limit else of_text text whole) ≡ Err (wrong_at at) → StopsAt f text at × (length text ≤ most)
       long true b e = cc
       long false b e = (short whole refl e, ltb-false most (length text) b)
+
+  pub within_stops : (at : ℕ) → read_within most f text ≡ Err (wrong_at at) → StopsAt f text at × (length text ≤ most) × ((t : A) → Spells f text t → ⊥)
+  within_stops at e = let w = stops_within at e in (w.0, w.1, λ t h. let o = within_only t h w.1 in cc (o, e))
 
   pub within_limit : read_within most f text ≡ Err over_limit → (most < length text) ⊎ PassesLimit f text
   within_limit e = long (nat_lt most (length text)) refl e
@@ -94,7 +97,7 @@ module _ {A : Type 0} (f : Rule A) (decides : good language nested_first nested_
   within_determined = record {
     found = λ text t e. let w = within_found f decides most text t e in (w.0, w.1, tt);
     only = λ text t h l s. within_only f decides most text t h l;
-    stops = λ text at e. (within_stops f decides most text at e).0;
+    stops = λ text at e. within_stops f decides most text at e;
     limits = λ text e. limits text (within_limit f decides most text e);
     one_tree = λ text t t' h h'. within_one f decides most text t t' h h';
   }
@@ -133,7 +136,7 @@ module _ (text : List ℕ) where
   unfolding parsed_query
   query_only q h l s = rw (within_only query query_good query_bytes text q h l, s) refl
 
-  pub query_stops : (at : ℕ) → parsed_query text ≡ Err (wrong_at at) → StopsAt query text at × (length text ≤ query_bytes)
+  pub query_stops : (at : ℕ) → parsed_query text ≡ Err (wrong_at at) → StopsAt query text at × (length text ≤ query_bytes) × ((q : Question) → Spells query text q → ⊥)
   unfolding parsed_query
   query_stops at e = of_size_err read refl e
     where
@@ -141,7 +144,7 @@ module _ (text : List ℕ) where
       small x true e = cc
       small x false e = cc
 
-      of_size_err : (r : Result Question TextFault) → read ≡ r → of_size r ≡ Err (wrong_at at) → StopsAt query text at × (length text ≤ query_bytes)
+      of_size_err : (r : Result Question TextFault) → read ≡ r → of_size r ≡ Err (wrong_at at) → StopsAt query text at × (length text ≤ query_bytes) × ((q : Question) → Spells query text q → ⊥)
       of_size_err (Err e) r h = within_stops query query_good query_bytes text at (r ∙ h)
       of_size_err (Ok x) r h = absurd (small x (is_small x) h)
 
@@ -176,7 +179,7 @@ pub query_determined : IsDetermined query query_bytes IsSmall parsed_query
 query_determined = record {
   found = query_found;
   only = query_only;
-  stops = λ text at e. (query_stops text at e).0;
+  stops = query_stops;
   limits = λ text e. query_limits text (query_limit text e);
   one_tree = λ text t t' h h'. within_one query query_good query_bytes text t t' h h';
 }

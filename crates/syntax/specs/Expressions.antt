@@ -32,30 +32,10 @@ column_at w n = column_ex (column_of w n)
 abbrev pub number_of : ℤ → Datum
 number_of z = int (if is_bigint z then z else pos 0)
 
-abbrev pub arithmetic_of : Kind → Arithmetic
-arithmetic_of k.Plus = sign.Add
-arithmetic_of k.Star = sign.Multiply
-arithmetic_of k.Slash = sign.Divide
-arithmetic_of k.Percent = sign.Remainder
-arithmetic_of _ = sign.Subtract
-
-abbrev pub comparison_of : Kind → Comparison
-comparison_of k.NotEqual = sign'.NotEqual
-comparison_of k.Less = sign'.Less
-comparison_of k.LessEqual = sign'.LessOrEqual
-comparison_of k.Greater = sign'.Greater
-comparison_of k.GreaterEqual = sign'.GreaterOrEqual
-comparison_of _ = sign'.Equal
-
-abbrev pub function_of : Kind → Function
-function_of k.Min = function.Min
-function_of k.Max = function.Max
-function_of _ = function.Sum
-
 -- operators bind from the left
-abbrev pub folded_left : Placed → List (Word × Placed) → Placed
+abbrev pub folded_left : Placed → List ((ℕ × Arithmetic) × Placed) → Placed
 folded_left x [] = x
-folded_left x (y ∷ ys) = folded_left (x.0, arithmetic (arithmetic_of y.0.kind) y.0.at x.1 y.1.1) ys
+folded_left x (y ∷ ys) = folded_left (x.0, arithmetic y.0.1 y.0.0 x.1 y.1.1) ys
 
 -- AND of several; a member that is itself an AND is merged
 abbrev pub and_of : Placed → List (Word × Placed) → Placed
@@ -66,9 +46,9 @@ abbrev pub or_of : Placed → List (Word × Placed) → Placed
 or_of x [] = x
 or_of x (y ∷ ys) = (x.0, any_of y.0.at (exs_of (flat_map or_members (x.1 ∷ map (λ z. z.1.1) (y ∷ ys)))))
 
-abbrev pub compared : Placed → Option (Word × Placed) → Placed
+abbrev pub compared : Placed → Option ((ℕ × Comparison) × Placed) → Placed
 compared x None = x
-compared x (Some p) = (x.0, comparison_ex (comparison_of p.0.kind) p.0.at x.1 p.1.1)
+compared x (Some p) = (x.0, comparison_ex p.0.1 p.0.0 x.1 p.1.1)
 
 -- what may follow in BETWEEN or IN
 pub data Range : Type 0 where
@@ -102,10 +82,10 @@ counted w every_row = row_count w.at
 counted w (argument a) = call function.Count w.at a
 counted w (dotted n) = column_at w n
 
-abbrev pub called : Word → Tail → Ex
-called w every_row = row_count w.at
-called w (argument a) = call (function_of w.kind) w.at a
-called w (dotted n) = column_at w n
+abbrev pub called : Word × Function → Tail → Ex
+called p every_row = row_count p.0.at
+called p (argument a) = call p.1 p.0.at a
+called p (dotted n) = column_at p.0 n
 
 -- ---- names
 
@@ -173,6 +153,38 @@ next_value = after (is k.Comma) value
 unfoldable pub value_list : Rule (List Datum)
 value_list = listed value next_value
 
+-- ---- operators, each with where it begins
+
+-- * | / | %
+unfoldable pub multiplication : Rule (ℕ × Arithmetic)
+multiplication =
+    either (made (λ w. (w.at, sign.Multiply)) (word (is k.Star)))
+    (either (made (λ w. (w.at, sign.Divide)) (word (is k.Slash)))
+    (made (λ w. (w.at, sign.Remainder)) (word (is k.Percent))))
+
+-- + | -, the minus before a number or not
+unfoldable pub addition : Rule (ℕ × Arithmetic)
+addition =
+    either (made (λ w. (w.at, sign.Add)) (word (is k.Plus)))
+    (made (λ w. (w.at, sign.Subtract)) (word (of c.Sign)))
+
+-- = | <> | < | <= | > | >=
+unfoldable pub comparison_sign : Rule (ℕ × Comparison)
+comparison_sign =
+    either (made (λ w. (w.at, sign'.Equal)) (word (is k.Equal)))
+    (either (made (λ w. (w.at, sign'.NotEqual)) (word (is k.NotEqual)))
+    (either (made (λ w. (w.at, sign'.Less)) (word (is k.Less)))
+    (either (made (λ w. (w.at, sign'.LessOrEqual)) (word (is k.LessEqual)))
+    (either (made (λ w. (w.at, sign'.Greater)) (word (is k.Greater)))
+    (made (λ w. (w.at, sign'.GreaterOrEqual)) (word (is k.GreaterEqual)))))))
+
+-- sum | min | max, with its word
+unfoldable pub aggregate_name : Rule (Word × Function)
+aggregate_name =
+    either (made (λ w. (w, function.Sum)) (word (is k.Sum)))
+    (either (made (λ w. (w, function.Min)) (word (is k.Min)))
+    (made (λ w. (w, function.Max)) (word (is k.Max))))
+
 -- ---- expressions
 
 -- ( expr )
@@ -214,7 +226,7 @@ unfoldable pub aggregate_tail : Rule Tail
 aggregate_tail = either (made (λ e. argument e.1) (inside (inner an_expression))) (made dotted dot_name)
 
 unfoldable pub aggregate : Rule Placed
-aggregate = made (λ p. (p.0.at, called p.0 p.1)) (both (word (of c.Aggregate)) aggregate_tail)
+aggregate = made (λ p. (p.0.0.at, called p.0 p.1)) (both aggregate_name aggregate_tail)
 
 -- CURRENT_USER | lit
 unfoldable pub constant : Rule Placed
@@ -232,15 +244,15 @@ primary = either parenthesized (either cast (either case (either plain_column (e
 unfoldable pub unary : Rule Placed
 unary = either (made (λ p. (p.0.at, opposite p.0.at p.1.1)) (nest (is k.Minus) (inner a_unary))) primary
 
-unfoldable pub factor : Rule (Word × Placed)
-factor = both (word (of c.Multiplication)) unary
+unfoldable pub factor : Rule ((ℕ × Arithmetic) × Placed)
+factor = both multiplication unary
 
 -- prod := un {(* | / | %) un}
 unfoldable pub product : Rule Placed
 product = made (λ p. folded_left p.0 p.1) (both unary (many true factor))
 
-unfoldable pub addend : Rule (Word × Placed)
-addend = both (word (of c.Addition)) product
+unfoldable pub addend : Rule ((ℕ × Arithmetic) × Placed)
+addend = both addition product
 
 -- sum := prod {(+ | -) prod}
 unfoldable pub sum : Rule Placed
@@ -274,8 +286,8 @@ unfoldable pub ranged_sum : Rule Placed
 ranged_sum = made (λ p. ranged p.0 p.1) (both sum range_tail)
 
 -- (= | <> | < | <= | > | >=) rng
-unfoldable pub compared_with : Rule (Word × Placed)
-compared_with = both (word (of c.Comparison)) ranged_sum
+unfoldable pub compared_with : Rule ((ℕ × Comparison) × Placed)
+compared_with = both comparison_sign ranged_sum
 
 -- cmp := rng [compared_with]
 unfoldable pub comparison : Rule Placed

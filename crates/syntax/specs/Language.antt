@@ -1,5 +1,5 @@
 -- What the rules of the grammar speak of.
-use Rattle.std.specs.Prelude.{ℕ, Bool, true, false, List, [], ◌∷◌, Option, Some, None}
+use Rattle.std.specs.Prelude.{ℕ, Bool, true, false, ◌||◌, List, [], ◌∷◌, Option, Some, None}
 use denote.Enum.Bare.{sameb}
 use Rattle.row_grammar.specs.Grammar.{Language, Form, word, nothing, both, either, made, many, nest}
 use Rattle.row_tokens.specs.contracts.token.Kind.{the_type}
@@ -74,10 +74,7 @@ is_plain _ = false
 
 -- sum, min and max
 abbrev pub is_aggregate : Kind → Bool
-is_aggregate k.Sum = true
-is_aggregate k.Min = true
-is_aggregate k.Max = true
-is_aggregate _ = false
+is_aggregate kind = is k.Sum kind || (is k.Min kind || is k.Max kind)
 
 abbrev pub is_name : Kind → Bool
 is_name k.Count = true
@@ -100,27 +97,15 @@ is_sign _ = false
 
 -- = <> < <= > >=
 abbrev pub is_comparison : Kind → Bool
-is_comparison k.Equal = true
-is_comparison k.NotEqual = true
-is_comparison k.Less = true
-is_comparison k.LessEqual = true
-is_comparison k.Greater = true
-is_comparison k.GreaterEqual = true
-is_comparison _ = false
+is_comparison kind = is k.Equal kind || (is k.NotEqual kind || (is k.Less kind || (is k.LessEqual kind || (is k.Greater kind || is k.GreaterEqual kind))))
 
 -- + and -, before a number or not
 abbrev pub is_addition : Kind → Bool
-is_addition k.Plus = true
-is_addition k.Minus = true
-is_addition k.Negative = true
-is_addition _ = false
+is_addition kind = is k.Plus kind || is_sign kind
 
 -- * / %
 abbrev pub is_multiplication : Kind → Bool
-is_multiplication k.Star = true
-is_multiplication k.Slash = true
-is_multiplication k.Percent = true
-is_multiplication _ = false
+is_multiplication kind = is k.Star kind || (is k.Slash kind || is k.Percent kind)
 
 -- the kinds of a class
 unfoldable pub of : Class → Kind → Bool

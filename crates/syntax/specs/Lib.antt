@@ -7,3 +7,4 @@ pub mod Statements
 pub mod Reading
 pub mod Limits
 pub mod Parsing
+pub mod Literals

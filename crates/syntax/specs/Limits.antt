@@ -3,6 +3,26 @@ use Rattle.std.specs.Prelude.{ℕ, ◌+◌, Bool, ◌&&◌, nat_le, List, length
 use Rattle.std.specs.List.{sum}
 use Rattle.syntax.specs.Tree.{and_members, Condition, Selection, every_column, items, Join, inner_join, cross_join, Chain, Question}
 
+-- how many entries FROM may have
+abbrev pub most_entries : ℕ
+most_entries = 8
+
+-- how many conjuncts ON and WHERE may have together
+abbrev pub most_conjuncts : ℕ
+most_conjuncts = 64
+
+-- how many items SELECT may have
+abbrev pub most_items : ℕ
+most_items = 64
+
+-- how many columns GROUP BY may have
+abbrev pub most_groups : ℕ
+most_groups = 64
+
+-- how many keys ORDER BY may have
+abbrev pub most_keys : ℕ
+most_keys = 64
+
 -- the entries of FROM
 abbrev pub entries : List Chain → ℕ
 entries chains = sum (map (λ c. 1 + length c.joins) chains)
@@ -33,14 +53,14 @@ item_count (items list) = length list
 
 -- FROM and the conditions
 abbrev pub few_joined : Question → Bool
-few_joined q = nat_le (entries q.from) 8 && nat_le (conjuncts q) 64
+few_joined q = nat_le (entries q.from) most_entries && nat_le (conjuncts q) most_conjuncts
 
 abbrev pub few_lists : Question → Bool
-few_lists q = nat_le (length q.groups) 64 && nat_le (length q.order) 64
+few_lists q = nat_le (length q.groups) most_groups && nat_le (length q.order) most_keys
 
 -- the items, and the columns of GROUP BY and ORDER BY
 abbrev pub few_columns : Question → Bool
-few_columns q = nat_le (item_count q.selection) 64 && few_lists q
+few_columns q = nat_le (item_count q.selection) most_items && few_lists q
 
 abbrev pub is_small : Question → Bool
 is_small q = few_joined q && few_columns q

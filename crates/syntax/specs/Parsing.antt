@@ -51,13 +51,13 @@ IsSmall q = is_small q ≡ true
 -- why a text is no query: the byte from which on it goes wrong, or a limit
 abbrev pub RefusesQuery : List ℕ → ParseError → Type 0
 RefusesQuery text errors.Memory = Unit {0}
-RefusesQuery text (errors.Syntax at) = StopsAt query text at × (length text ≤ query_bytes)
+RefusesQuery text (errors.Syntax at) = StopsAt query text at × (length text ≤ query_bytes) × ((q : Question) → Spells query text q → ⊥)
 RefusesQuery text errors.Limit = (query_bytes < length text) ⊎ (PassesLimit query text ⊎ ((q : Question) × Spells query text q × (is_small q ≡ false)))
 
 -- the same of a text that has no further limits
 abbrev pub Refuses : {A : Type 0} → ℕ → Rule A → List ℕ → ParseError → Type 0
 Refuses most f text errors.Memory = Unit {0}
-Refuses most f text (errors.Syntax at) = StopsAt f text at × (length text ≤ most)
+Refuses {A = A} most f text (errors.Syntax at) = StopsAt f text at × (length text ≤ most) × ((t : A) → Spells f text t → ⊥)
 Refuses most f text errors.Limit = (most < length text) ⊎ PassesLimit f text
 
 abbrev pub RefusesSchema : List ℕ → ParseError → Type 0
@@ -120,7 +120,7 @@ Gives view (Err e) due = IsTextFault (text_fault e) due
 pub record IsDetermined {A : Type 0} (f : Rule A) (most : ℕ) (fits : A → Type 0) (parsed : List ℕ → Result A TextFault) : Type 0 where
   pub found : (text : List ℕ) (t : A) → parsed text ≡ Ok t → Spells f text t × (length text ≤ most) × fits t
   pub only : (text : List ℕ) (t : A) → Spells f text t → length text ≤ most → fits t → parsed text ≡ Ok t
-  pub stops : (text : List ℕ) (at : ℕ) → parsed text ≡ Err (wrong_at at) → StopsAt f text at
+  pub stops : (text : List ℕ) (at : ℕ) → parsed text ≡ Err (wrong_at at) → StopsAt f text at × (length text ≤ most) × ((t : A) → Spells f text t → ⊥)
   pub limits : (text : List ℕ) → parsed text ≡ Err over_limit → (most < length text) ⊎ (PassesLimit f text ⊎ ((t : A) × Spells f text t × (fits t → ⊥)))
   -- a text has at most one tree
   pub one_tree : (text : List ℕ) (t t' : A) → Spells f text t → Spells f text t' → t ≡ t'

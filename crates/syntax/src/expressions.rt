@@ -11,6 +11,7 @@ ghost use Rattle.syntax.specs.View.{ex, placed, arm_pair, range_of, signed_of, t
 
 use crate::literals::{literal, value_list};
 use crate::names::{dot_name, type_name};
+use crate::operators::{addition, aggregate_name, comparison_sign, multiplication};
 use crate::parts::{
     Otherwise, Placed, Range, Tail, and_members, called, case_of, column_at, combined, compared,
     counted, or_members, ranged,
@@ -18,7 +19,7 @@ use crate::parts::{
 use crate::reader::{
     Class, Parsed, ReadError, Reader, expect, expect_any, next_offset, open, sees, sees_any,
 };
-use crate::tree::{Arm, Expr};
+use crate::tree::{Arithmetic, Arm, Expr};
 use memory::Heap;
 use row_tokens::{Kind, Token};
 
@@ -216,9 +217,9 @@ fn aggregate_tail<'t, A: Heap>(reader: Reader<A>, tokens: &'t [Token<'t>]) -> Pa
 fn aggregate<'t, A: Heap>(reader: Reader<A>, tokens: &'t [Token<'t>]) -> Parsed<'t, Placed<A>>
     ensures { Reads (λ x. (placed x.0, words_of x.1.now)) result (reads grammar reader.width reader.depth rules.aggregate (words_of tokens.now)) }
 {
-    let (word, rest) = expect_any(Class::Aggregate, tokens)?;
+    let ((word, function), rest) = aggregate_name(reader, tokens)?;
     let (tail, rest) = aggregate_tail(reader, rest)?;
-    let value = called(reader.alloc, &word, tail)?;
+    let value = called(reader.alloc, &word, function, tail)?;
     Ok(((word.offset, value), rest))
 }
 
@@ -249,7 +250,7 @@ fn plain_column<'t, A: Heap>(reader: Reader<A>, tokens: &'t [Token<'t>]) -> Pars
 
 // An expression without an operator outside parentheses.
 #[cycle(expression)]
-#[tactic(auto, unfolding(crate::specs::Expressions::primary, crate::specs::Expressions::parenthesized, crate::specs::Expressions::cast, crate::specs::Expressions::case, crate::specs::Expressions::plain_column, crate::specs::Expressions::count, crate::specs::Expressions::aggregate))]
+#[tactic(auto, unfolding(crate::specs::Expressions::primary, crate::specs::Expressions::parenthesized, crate::specs::Expressions::cast, crate::specs::Expressions::case, crate::specs::Expressions::plain_column, crate::specs::Expressions::count, crate::specs::Expressions::aggregate, crate::specs::Expressions::aggregate_name, crate::specs::Language::of))]
 fn primary<'t, A: Heap>(reader: Reader<A>, tokens: &'t [Token<'t>]) -> Parsed<'t, Placed<A>>
     ensures { Reads (λ x. (placed x.0, words_of x.1.now)) result (reads grammar reader.width reader.depth rules.primary (words_of tokens.now)) }
 {
@@ -292,10 +293,10 @@ fn unary<'t, A: Heap>(reader: Reader<A>, tokens: &'t [Token<'t>]) -> Parsed<'t, 
 fn factor<'t, A: Heap>(
     reader: Reader<A>,
     tokens: &'t [Token<'t>],
-) -> Parsed<'t, (Token<'t>, Placed<A>)>
-    ensures { Reads (λ x. ((word_of x.0.0, placed x.0.1), words_of x.1.now)) result (reads grammar reader.width reader.depth rules.factor (words_of tokens.now)) }
+) -> Parsed<'t, ((u32, Arithmetic), Placed<A>)>
+    ensures { Reads (λ x. ((x.0.0, placed x.0.1), words_of x.1.now)) result (reads grammar reader.width reader.depth rules.factor (words_of tokens.now)) }
 {
-    let (sign, rest) = expect_any(Class::Multiplication, tokens)?;
+    let (sign, rest) = multiplication(reader, tokens)?;
     let (operand, rest) = unary(reader, rest)?;
     Ok(((sign, operand), rest))
 }
@@ -311,7 +312,7 @@ fn product<'t, A: Heap>(reader: Reader<A>, tokens: &'t [Token<'t>]) -> Parsed<'t
             return Ok((left, rest));
         }
         let ((sign, right), after) = factor(reader, rest)?;
-        left = combined(reader.alloc, left, &sign, right)?;
+        left = combined(reader.alloc, left, sign, right)?;
         rest = after;
     }
     if sees_any(Class::Multiplication, rest) {
@@ -326,10 +327,10 @@ fn product<'t, A: Heap>(reader: Reader<A>, tokens: &'t [Token<'t>]) -> Parsed<'t
 fn addend<'t, A: Heap>(
     reader: Reader<A>,
     tokens: &'t [Token<'t>],
-) -> Parsed<'t, (Token<'t>, Placed<A>)>
-    ensures { Reads (λ x. ((word_of x.0.0, placed x.0.1), words_of x.1.now)) result (reads grammar reader.width reader.depth rules.addend (words_of tokens.now)) }
+) -> Parsed<'t, ((u32, Arithmetic), Placed<A>)>
+    ensures { Reads (λ x. ((x.0.0, placed x.0.1), words_of x.1.now)) result (reads grammar reader.width reader.depth rules.addend (words_of tokens.now)) }
 {
-    let (sign, rest) = expect_any(Class::Addition, tokens)?;
+    let (sign, rest) = addition(reader, tokens)?;
     let (operand, rest) = product(reader, rest)?;
     Ok(((sign, operand), rest))
 }
@@ -345,7 +346,7 @@ fn sum<'t, A: Heap>(reader: Reader<A>, tokens: &'t [Token<'t>]) -> Parsed<'t, Pl
             return Ok((left, rest));
         }
         let ((sign, right), after) = addend(reader, rest)?;
-        left = combined(reader.alloc, left, &sign, right)?;
+        left = combined(reader.alloc, left, sign, right)?;
         rest = after;
     }
     if sees_any(Class::Addition, rest) {
@@ -434,7 +435,7 @@ fn ranged_sum<'t, A: Heap>(reader: Reader<A>, tokens: &'t [Token<'t>]) -> Parsed
 
 // A comparison, of which there is at most one.
 #[cycle(expression)]
-#[tactic(auto, unfolding(crate::specs::Expressions::comparison, crate::specs::Expressions::compared_with))]
+#[tactic(auto, unfolding(crate::specs::Expressions::comparison, crate::specs::Expressions::compared_with, crate::specs::Expressions::comparison_sign, crate::specs::Language::of))]
 fn comparison<'t, A: Heap>(reader: Reader<A>, tokens: &'t [Token<'t>]) -> Parsed<'t, Placed<A>>
     ensures { Reads (λ x. (placed x.0, words_of x.1.now)) result (reads grammar reader.width reader.depth rules.comparison (words_of tokens.now)) }
 {
@@ -442,9 +443,9 @@ fn comparison<'t, A: Heap>(reader: Reader<A>, tokens: &'t [Token<'t>]) -> Parsed
     if !sees_any(Class::Comparison, rest) {
         return Ok((left, rest));
     }
-    let (sign, rest) = expect_any(Class::Comparison, rest)?;
+    let (sign, rest) = comparison_sign(reader, rest)?;
     let (right, rest) = ranged_sum(reader, rest)?;
-    Ok((compared(reader.alloc, left, &sign, right)?, rest))
+    Ok((compared(reader.alloc, left, sign, right)?, rest))
 }
 
 // `IS [NOT] NULL`, and whether with NOT.

@@ -4,9 +4,11 @@
 mod creating;
 mod expressions;
 mod fault;
+mod laws;
 mod limits;
 mod literals;
 mod names;
+mod operators;
 mod parsing;
 mod parts;
 mod queries;
@@ -15,6 +17,7 @@ mod statements;
 mod tree;
 
 pub use fault::ParseError;
+pub use laws::law_no_null_literal;
 pub use parsing::{parse_query, parse_schema, parse_statement, parsing_is_determined};
 pub use tree::{
     Arithmetic, Arm, Chain, ColumnDef, ColumnRef, Comparison, Condition, Entry, Expr, Function,

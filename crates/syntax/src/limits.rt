@@ -3,7 +3,7 @@
 ghost use Rattle.std.specs.Prelude.{◌≡◌, ◌≤◌, ◌-◌, nat_le, length, map, option_map, SomeIff};
 ghost use Rattle.std.specs.List.{sum};
 ghost use Rattle.syntax.specs.Limits as sizes;
-ghost use Rattle.syntax.specs.Limits.{entries, join_members, filter_members, from_members, conjuncts, item_count, few_joined, few_lists, few_columns};
+ghost use Rattle.syntax.specs.Limits.{entries, join_members, filter_members, from_members, conjuncts, item_count, few_joined, few_lists, few_columns, most_entries, most_conjuncts, most_items};
 ghost use Rattle.syntax.specs.Tree as tree;
 ghost use Rattle.syntax.specs.View.{ex, condition_of, selection_of, join_of, chain_of, question_of};
 
@@ -13,14 +13,17 @@ use memory::Heap;
 // How many entries FROM may have.
 const MOST_ENTRIES: usize = 8;
 
-// How many members the conditions of ON and WHERE may have together, and how many items, columns or keys a list.
-const MOST: usize = 64;
+// How many conjuncts ON and WHERE may have together.
+const MOST_CONJUNCTS: usize = 64;
 
-fn few(count: usize) -> bool
-    ensures { result ≡ nat_le count 64 }
-{
-    count <= MOST
-}
+// How many items SELECT may have.
+const MOST_ITEMS: usize = 64;
+
+// How many columns GROUP BY may have.
+const MOST_GROUPS: usize = 64;
+
+// How many keys ORDER BY may have.
+const MOST_KEYS: usize = 64;
 
 // How many conjuncts an expression is.
 fn members<A: Heap>(expr: &Expr<A>) -> usize
@@ -87,7 +90,7 @@ fn left_by_chains<A: Heap>(chains: &[Chain<A>], room: usize) -> Option<usize>
 }
 
 fn few_entries<A: Heap>(chains: &[Chain<A>]) -> bool
-    ensures { result ≡ nat_le (entries (map (λ c. chain_of c) chains.now)) 8 }
+    ensures { result ≡ nat_le (entries (map (λ c. chain_of c) chains.now)) most_entries }
 {
     let mut left = MOST_ENTRIES;
     for chain in chains {
@@ -101,19 +104,19 @@ fn few_entries<A: Heap>(chains: &[Chain<A>]) -> bool
 }
 
 fn few_conjuncts<A: Heap>(query: &Query<A>) -> bool
-    ensures { result ≡ nat_le (conjuncts (question_of query.now)) 64 }
+    ensures { result ≡ nat_le (conjuncts (question_of query.now)) most_conjuncts }
 {
-    match left_by_chains(query.from.as_slice(), MOST) {
+    match left_by_chains(query.from.as_slice(), MOST_CONJUNCTS) {
         Some(left) => filter_members(&query.filter) <= left,
         None => false,
     }
 }
 
 fn few_items<A: Heap>(selection: &Selection<A>) -> bool
-    ensures { result ≡ nat_le (item_count (selection_of selection.now)) 64 }
+    ensures { result ≡ nat_le (item_count (selection_of selection.now)) most_items }
 {
     match selection {
-        Selection::Items(items) => few(items.len()),
+        Selection::Items(items) => items.len() <= MOST_ITEMS,
         Selection::All(_) => true,
     }
 }
@@ -127,7 +130,7 @@ fn few_joined<A: Heap>(query: &Query<A>) -> bool
 fn few_lists<A: Heap>(query: &Query<A>) -> bool
     ensures { result ≡ few_lists (question_of query.now) }
 {
-    few(query.groups.len()) && few(query.order.len())
+    query.groups.len() <= MOST_GROUPS && query.order.len() <= MOST_KEYS
 }
 
 fn few_columns<A: Heap>(query: &Query<A>) -> bool
@@ -136,8 +139,8 @@ fn few_columns<A: Heap>(query: &Query<A>) -> bool
     few_items(&query.selection) && few_lists(query)
 }
 
-/// Whether a query is within the limits: at most 8 entries of FROM, 64 members of the conditions of ON and WHERE together, 64
-/// items, 64 columns of GROUP BY and 64 keys of ORDER BY.
+/// Whether a query is within the limits: at most 8 entries of FROM, 64 conjuncts of ON and WHERE together, 64 items,
+/// 64 columns of GROUP BY and 64 keys of ORDER BY.
 pub fn is_small<A: Heap>(query: &Query<A>) -> bool
     ensures { result ≡ sizes.is_small (question_of query.now) }
 {

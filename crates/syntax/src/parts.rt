@@ -10,7 +10,7 @@ ghost use Rattle.syntax.specs.View.{ex, placed, arm_pair, signed_of, tail_of, ot
 use crate::names::column_ref;
 use crate::tree::{Arithmetic, Arm, Comparison, Expr, Function};
 use memory::Heap;
-use row_tokens::{Kind, Token};
+use row_tokens::Token;
 use std::alloc::AllocError;
 use text::{Items, Text};
 use value::Value;
@@ -47,73 +47,38 @@ pub enum Otherwise<A: Heap> {
     Value(Expr<A>),
 }
 
-fn arithmetic_of(kind: Kind) -> Arithmetic
-    ensures { result ≡ rules.arithmetic_of kind }
-{
-    match kind {
-        Kind::Plus => Arithmetic::Add,
-        Kind::Star => Arithmetic::Multiply,
-        Kind::Slash => Arithmetic::Divide,
-        Kind::Percent => Arithmetic::Remainder,
-        _ => Arithmetic::Subtract,
-    }
-}
-
-fn comparison_of(kind: Kind) -> Comparison
-    ensures { result ≡ rules.comparison_of kind }
-{
-    match kind {
-        Kind::NotEqual => Comparison::NotEqual,
-        Kind::Less => Comparison::Less,
-        Kind::LessEqual => Comparison::LessOrEqual,
-        Kind::Greater => Comparison::Greater,
-        Kind::GreaterEqual => Comparison::GreaterOrEqual,
-        _ => Comparison::Equal,
-    }
-}
-
-fn function_of(kind: Kind) -> Function
-    ensures { result ≡ rules.function_of kind }
-{
-    match kind {
-        Kind::Min => Function::Min,
-        Kind::Max => Function::Max,
-        _ => Function::Sum,
-    }
-}
-
 /// An operation on two numbers.
 pub fn combined<A: Heap>(
     alloc: A,
     left: Placed<A>,
-    sign: &Token<'_>,
+    sign: (u32, Arithmetic),
     right: Placed<A>,
 ) -> Result<Placed<A>, AllocError>
-    ensures { IfOk result (λ p. placed p ≡ (left.0, tree.arithmetic (rules.arithmetic_of sign.now.kind) sign.now.offset (ex left.1) (ex right.1))) }
+    ensures { IfOk result (λ p. placed p ≡ (left.0, tree.arithmetic sign.1 sign.0 (ex left.1) (ex right.1))) }
 {
     let (start, left) = left;
     let (_, right) = right;
     let left = Box::new(alloc, left)?;
     let right = Box::new(alloc, right)?;
-    let operator = arithmetic_of(sign.kind);
-    Ok((start, Expr::Arithmetic(operator, sign.offset, left, right)))
+    let (offset, operator) = sign;
+    Ok((start, Expr::Arithmetic(operator, offset, left, right)))
 }
 
 /// A comparison.
 pub fn compared<A: Heap>(
     alloc: A,
     left: Placed<A>,
-    sign: &Token<'_>,
+    sign: (u32, Comparison),
     right: Placed<A>,
 ) -> Result<Placed<A>, AllocError>
-    ensures { IfOk result (λ p. placed p ≡ (left.0, tree.comparison (rules.comparison_of sign.now.kind) sign.now.offset (ex left.1) (ex right.1))) }
+    ensures { IfOk result (λ p. placed p ≡ (left.0, tree.comparison sign.1 sign.0 (ex left.1) (ex right.1))) }
 {
     let (start, left) = left;
     let (_, right) = right;
     let left = Box::new(alloc, left)?;
     let right = Box::new(alloc, right)?;
-    let operator = comparison_of(sign.kind);
-    Ok((start, Expr::Comparison(operator, sign.offset, left, right)))
+    let (offset, operator) = sign;
+    Ok((start, Expr::Comparison(operator, offset, left, right)))
 }
 
 fn between<A: Heap>(
@@ -218,14 +183,19 @@ pub fn counted<A: Heap>(alloc: A, word: &Token<'_>, tail: Tail<A>) -> Result<Exp
 }
 
 /// Another function's name and what follows it.
-pub fn called<A: Heap>(alloc: A, word: &Token<'_>, tail: Tail<A>) -> Result<Expr<A>, AllocError>
-    ensures { IfOk result (λ e. ex e ≡ rules.called (word_of word.now) (tail_of tail)) }
+pub fn called<A: Heap>(
+    alloc: A,
+    word: &Token<'_>,
+    function: Function,
+    tail: Tail<A>,
+) -> Result<Expr<A>, AllocError>
+    ensures { IfOk result (λ e. ex e ≡ rules.called (word_of word.now, function) (tail_of tail)) }
 {
     match tail {
         Tail::EveryRow => Ok(Expr::CountRows(word.offset)),
         Tail::Argument(argument) => {
             let argument = Box::new(alloc, argument)?;
-            Ok(Expr::Call(function_of(word.kind), word.offset, argument))
+            Ok(Expr::Call(function, word.offset, argument))
         }
         Tail::Dotted(name) => column_at(alloc, word, name),
     }

@@ -5,7 +5,7 @@ ghost use Rattle.row_grammar.specs.Decoder.{head_in, word_at, opened_at};
 ghost use Rattle.row_grammar.specs.Limits.{can_open};
 ghost use Rattle.row_tokens.specs.View.{word_of, words_of};
 ghost use Rattle.syntax.specs.Reading.{Reads};
-ghost use Rattle.syntax.specs.Language.{next_at, is, of, is_plain, is_aggregate, is_name, is_comparison, kind_of};
+ghost use Rattle.syntax.specs.Language.{next_at, is, of, is_plain, is_aggregate, is_name, is_sign, is_comparison, is_addition, is_multiplication, kind_of};
 ghost use Rattle.syntax.specs.declared.reader.ReadError.TheVariants.{Memory};
 
 use memory::Heap;
@@ -187,7 +187,7 @@ fn is_plain(kind: Kind) -> bool
 fn is_aggregate(kind: Kind) -> bool
     ensures { result ≡ is_aggregate kind }
 {
-    matches!(kind, Kind::Sum | Kind::Min | Kind::Max)
+    same(Kind::Sum, kind) || (same(Kind::Min, kind) || same(Kind::Max, kind))
 }
 
 fn is_name(kind: Kind) -> bool
@@ -199,18 +199,32 @@ fn is_name(kind: Kind) -> bool
     }
 }
 
+fn is_sign(kind: Kind) -> bool
+    ensures { result ≡ is_sign kind }
+{
+    matches!(kind, Kind::Minus | Kind::Negative)
+}
+
 fn is_comparison(kind: Kind) -> bool
     ensures { result ≡ is_comparison kind }
 {
-    matches!(
-        kind,
-        Kind::Equal
-            | Kind::NotEqual
-            | Kind::Less
-            | Kind::LessEqual
-            | Kind::Greater
-            | Kind::GreaterEqual
-    )
+    same(Kind::Equal, kind)
+        || (same(Kind::NotEqual, kind)
+            || (same(Kind::Less, kind)
+                || (same(Kind::LessEqual, kind)
+                    || (same(Kind::Greater, kind) || same(Kind::GreaterEqual, kind)))))
+}
+
+fn is_addition(kind: Kind) -> bool
+    ensures { result ≡ is_addition kind }
+{
+    same(Kind::Plus, kind) || is_sign(kind)
+}
+
+fn is_multiplication(kind: Kind) -> bool
+    ensures { result ≡ is_multiplication kind }
+{
+    same(Kind::Star, kind) || (same(Kind::Slash, kind) || same(Kind::Percent, kind))
 }
 
 #[tactic(auto, unfolding(crate::specs::Language::of))]
@@ -222,10 +236,10 @@ fn belongs(class: Class, kind: Kind) -> bool
         Class::PlainName => is_plain(kind),
         Class::Aggregate => is_aggregate(kind),
         Class::Magnitude => matches!(kind, Kind::Number | Kind::Greatest),
-        Class::Sign => matches!(kind, Kind::Minus | Kind::Negative),
+        Class::Sign => is_sign(kind),
         Class::Comparison => is_comparison(kind),
-        Class::Addition => matches!(kind, Kind::Plus | Kind::Minus | Kind::Negative),
-        Class::Multiplication => matches!(kind, Kind::Star | Kind::Slash | Kind::Percent),
+        Class::Addition => is_addition(kind),
+        Class::Multiplication => is_multiplication(kind),
     }
 }
 

@@ -57,7 +57,7 @@ arms-loop-preserved g t c =
 -- ---- product
 
 begins_factor : first language nested_first rules.factor ≡ of class.Multiplication
-unfolding rules.factor
+unfolding rules.factor rules.multiplication of
 begins_factor = refl
 
 start_product : (w d n : _) (ts : List Word) (x : Placed) (us : List Word) → reads grammar w d rules.unary ts ≡ Ok (x, us) → n ≡ w → run_on w d rules.factor (of class.Multiplication) (folded_left x) n us ≡ reads grammar w d rules.product ts
@@ -91,13 +91,13 @@ product-returns-in_err-sign g t c =
 pub product-loop-preserved : goal.product-loop-preserved
 product-loop-preserved g t c =
     run_go c.args.reader.width c.args.reader.depth rules.factor (of class.Multiplication) (folded_left (placed c.loop.left)) _ _ (map word_of c.loop.rest.now) c.loop.invariant
-    (word_of c.in_ok-sign.sign, placed c.in_ok-sign.right) (map word_of c.in_ok-sign.after.now) _ _ (omega arith) (cc) c.in_ok-sign.ensures
+    (c.in_ok-sign.sign, placed c.in_ok-sign.right) (map word_of c.in_ok-sign.after.now) _ _ (omega arith) (cc) c.in_ok-sign.ensures
     (λ xs. ap (λ x. folded_left x xs) (sym c.in_ok-left-2.ensures)) (omega arith)
 
 -- ---- sum
 
 begins_addend : first language nested_first rules.addend ≡ of class.Addition
-unfolding rules.addend
+unfolding rules.addend rules.addition of
 begins_addend = refl
 
 start_sum : (w d n : _) (ts : List Word) (x : Placed) (us : List Word) → reads grammar w d rules.product ts ≡ Ok (x, us) → n ≡ w → run_on w d rules.addend (of class.Addition) (folded_left x) n us ≡ reads grammar w d rules.sum ts
@@ -131,7 +131,7 @@ sum-returns-in_err-sign g t c =
 pub sum-loop-preserved : goal.sum-loop-preserved
 sum-loop-preserved g t c =
     run_go c.args.reader.width c.args.reader.depth rules.addend (of class.Addition) (folded_left (placed c.loop.left)) _ _ (map word_of c.loop.rest.now) c.loop.invariant
-    (word_of c.in_ok-sign.sign, placed c.in_ok-sign.right) (map word_of c.in_ok-sign.after.now) _ _ (omega arith) (cc) c.in_ok-sign.ensures
+    (c.in_ok-sign.sign, placed c.in_ok-sign.right) (map word_of c.in_ok-sign.after.now) _ _ (omega arith) (cc) c.in_ok-sign.ensures
     (λ xs. ap (λ x. folded_left x xs) (sym c.in_ok-left-2.ensures)) (omega arith)
 
 -- ---- conjunction

@@ -1,0 +1,13 @@
+-- What the literals of a text are not.
+use Rattle.std.specs.Prelude.{◌≡◌, ℕ, List, All}
+use Rattle.row_tokens.specs.declared.token.Kind.TheVariants.{Quoted}
+use Rattle.row_tokens.specs.Words.{Word, quoted_value, words}
+use Rattle.value.specs.Datum.{text}
+use Rattle.value.specs.Texts.{IsNoNullMark}
+
+-- the value of a text in quotes is not the null mark
+abbrev pub HasNoNullMark : Word → Type 0
+HasNoNullMark w = w.kind ≡ Quoted → IsNoNullMark (text (quoted_value w.bytes))
+
+abbrev pub HaveNoNullMarks : Type 0
+HaveNoNullMarks = (source : List ℕ) → All HasNoNullMark (words source)

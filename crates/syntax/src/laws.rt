@@ -1,0 +1,8 @@
+//! What is true of every text.
+
+ghost use Rattle.syntax.specs.Literals.{HaveNoNullMarks};
+
+/// A text literal is never the two bytes that stand for null in a file.
+pub fn law_no_null_literal()
+    ensures { HaveNoNullMarks }
+{}
