@@ -5,8 +5,11 @@ use clap::{Arg, ArgAction, Command};
 use setup::{Arguments, Fault};
 use std::alloc::Global;
 
+/// The version of the program.
+const VERSION: &str = "0.1.0";
+
 const EXAMPLE: &str =
-    "Example:\n  rowplan query --schema examples/deals/schema.sql --dir examples/deals --role alice 'SELECT id FROM deal'\n\nExit status: 0 answer, 2 command line, 3 refused text, 4 denial, 6 schema, data or unknown role, 7 memory, 8 input or output";
+    "Example, in crates/rowplan:\n  out/rowplan query --schema ../../examples/deals/schema.sql --dir ../../examples/deals --role alice 'SELECT id FROM deal'\n\nExit status: 0 answer, 2 command line, 3 refused text, 4 denial, 6 schema, rows or unknown role, 7 memory, 8 input or output";
 
 fn option<'a>(alloc: Global, name: &'a str, value: &'a str, help: &'a str) -> Arg<'a> {
     Arg::new(alloc, name)
@@ -19,7 +22,7 @@ fn option<'a>(alloc: Global, name: &'a str, value: &'a str, help: &'a str) -> Ar
 
 fn command<'a>(alloc: Global) -> Result<Command<'a>, Failure> {
     let text = Arg::new(alloc, "TEXT")
-        .help("The query; behind -- where it begins with a minus")
+        .help("The query; after -- where it starts with a minus")
         .required(true)
         .action(ArgAction::Set);
     let query = Command::new(alloc, "query")
@@ -35,6 +38,7 @@ fn command<'a>(alloc: Global) -> Result<Command<'a>, Failure> {
         .arg(text)?
         .after_help(EXAMPLE);
     let program = Command::new(alloc, "rowplan")
+        .version(VERSION)
         .about("Queries over tables with row security")
         .subcommand_required(true)
         .subcommand(query)?

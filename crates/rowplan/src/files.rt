@@ -1,9 +1,11 @@
 //! The files that the program reads.
 
+ghost use Rattle.std.specs.Prelude.{◌≡◌, IfOk, string_bytes};
+ghost use Rattle.rowplan.specs.Files.{csv_path};
 ghost use Rattle.setup.specs.Loads.{IsOfFile};
 
 use setup::{Fault, Folder};
-use std::alloc::Global;
+use std::alloc::{AllocError, Global};
 use std::fs::File;
 use std::io::ErrorKind;
 use std::rt::Files;
@@ -12,7 +14,7 @@ use text::Text;
 
 // The fault of a file of that path that cannot be read.
 fn unreadable(alloc: Global, path: &str, error: &io::Error) -> Fault<Global>
-    ensures { IsOfFile result }
+    ensures { IsOfFile path.now result }
 {
     match error.kind() {
         ErrorKind::OutOfMemory => Fault::OutOfMemory,
@@ -35,6 +37,17 @@ pub fn read_text<R: Files + AllocGlobal>(
     }
 }
 
+// The path of a table's file.
+fn path_of(alloc: Global, dir: &str, table: &str) -> Result<String, AllocError>
+    ensures { IfOk result (λ path. string_bytes path ≡ csv_path dir.now table.now) }
+{
+    let mut path = String::from_str(alloc, dir)?;
+    path.push_str("/")?;
+    path.push_str(table)?;
+    path.push_str(".csv")?;
+    Ok(path)
+}
+
 /// A folder with a file `t.csv` for each table `t`.
 #[derive(Clone, Copy)]
 pub struct Directory<'a, R: Files> {
@@ -47,9 +60,10 @@ pub struct Directory<'a, R: Files> {
 impl<R: Files> Folder<Global> for Directory<'_, R> {
     type File = R::File;
 
+    ghost path = { λ folder table. csv_path folder.path.now table };
+
     fn open(&self, alloc: Global, table: &str) -> Result<R::File, Fault<Global>> {
-        let dir = self.path;
-        let path = format!(in alloc; "{dir}/{table}.csv")?;
+        let path = path_of(alloc, self.path, table)?;
         match File::open(self.files, path.as_str()) {
             Ok(file) => Ok(file),
             Err(error) => Err(unreadable(alloc, path.as_str(), &error)),

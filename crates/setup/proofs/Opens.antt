@@ -7,8 +7,8 @@ use Rattle.setup.specs.Opening.{IsNotOpened, schema_fault}
 use Rattle.setup.specs.declared.fault.SchemaError.{SchemaError}
 use Rattle.setup.specs.declared.fault.SchemaError.TheVariants as errors
 
-pub schema_stops : (A : Type 0) (schema : List ℕ) (bytes : Name → Option (List ℕ)) (e : SchemaError) → (e ≢ errors.OutOfMemory → schema_applied at_start schema ≡ Err e) → IsNotOpened {A = A} schema bytes (schema_fault e)
-schema_stops A schema bytes (errors.Syntax at) h = h (λ same. cc)
-schema_stops A schema bytes errors.Limit h = h (λ same. cc)
-schema_stops A schema bytes (errors.Statement n why) h = h (λ same. cc)
-schema_stops A schema bytes errors.OutOfMemory h = tt
+pub schema_stops : (A : Type 0) (schema : List ℕ) (paths : Name → List ℕ) (bytes : Name → Option (List ℕ)) (e : SchemaError) → (e ≢ errors.OutOfMemory → schema_applied at_start schema ≡ Err e) → IsNotOpened {A = A} schema paths bytes (schema_fault e)
+schema_stops A schema paths bytes (errors.Syntax at) h = h (λ same. cc)
+schema_stops A schema paths bytes errors.Limit h = h (λ same. cc)
+schema_stops A schema paths bytes (errors.Statement n why) h = h (λ same. cc)
+schema_stops A schema paths bytes errors.OutOfMemory h = tt

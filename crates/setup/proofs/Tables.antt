@@ -1,5 +1,5 @@
 -- Tables that are loaded one after another.
-use Rattle.std.proofs.Common.{◌≡◌, ℕ, zero, suc, ◌+◌, ◌<◌, Bool, true, false, cond, List, [], ◌∷◌, ◌++◌, length, map, take, drop, get_or, find, is_some, Option, Some, None, IsSome, option_map, Result, Ok, Err, OnOk, IfErr, refl, sym, ap, ◌∙◌, add-one, arith}
+use Rattle.std.proofs.Common.{◌≡◌, inr, ℕ, zero, suc, ◌+◌, ◌<◌, Bool, true, false, cond, List, [], ◌∷◌, ◌++◌, length, map, take, drop, get_or, find, is_some, Option, Some, None, IsSome, option_map, Result, Ok, Err, OnOk, IfErr, refl, sym, ap, ◌∙◌, add-one, arith}
 use Rattle.std.proofs.Math.Seq.{take-suc, drop-cons}
 use Rattle.std.proofs.lemmas.List.{take-append-drop}
 use Rattle.std.proofs.lemmas.Option.{slice_get_within, get_or_from_slice_get}
@@ -14,7 +14,7 @@ use Rattle.syntax.specs.Tree.{Name}
 use Rattle.engine.specs.declared.store.StoreError.{StoreError}
 use Rattle.engine.specs.Changes.{first_changed}
 use Rattle.engine.specs.Stored.{IsLoad, IsLoadFrom, is_named, with_rows}
-use Rattle.setup.specs.Loads.{AreLoaded, IsFaultOf, IsOfFile, Knows, names_of}
+use Rattle.setup.specs.Loads.{AreLoaded, IsFaultOf, IsRowFault, Knows, names_of}
 use Rattle.setup.specs.declared.fault.Fault.{Fault}
 use Rattle.setup.specs.declared.fault.Fault.TheVariants as fault
 
@@ -81,11 +81,11 @@ load_known None None old new name r k h = h
 load_known None (Some bytes) old new name r k h = (records_of bytes, h.0)
 load_known (Some bytes) left old new name r k h = rw k at h
 
-pub fault_known : {A : Type 0} (known left : Option (List ℕ)) (old : List (Name × Contents)) (name : Name) (f : Fault A) → Knows known left → IsFaultOf left old name f → IsFaultOf known old name f
-fault_known known left old name (fault.Input path) k h = tt
-fault_known known left old name (fault.Schema e) k h = h
-fault_known known left old name (fault.Data table column e) k h = (h.0, h.1, load_known known left old old name _ k h.2)
-fault_known known left old name fault.OutOfMemory k h = tt
+pub fault_known : {A : Type 0} (path : List ℕ) (known left : Option (List ℕ)) (old : List (Name × Contents)) (name : Name) (f : Fault A) → Knows known left → IsRowFault left old name f → IsFaultOf path known old name f
+fault_known path known left old name (fault.Input p) k h = absurd h
+fault_known path known left old name (fault.Schema e) k h = absurd h
+fault_known path known left old name (fault.Data table column e) k h = inr (h.0, h.1, load_known known left old old name _ k h.2)
+fault_known path known left old name fault.OutOfMemory k h = inr tt
 
 -- ---- a fact of one outcome, from another fact
 
@@ -96,12 +96,6 @@ on_ok (Err e) P Q f h = tt
 pub if_err : {T E : Type 0} (r : Result T E) (P Q : E → Type 0) → ((e : E) → P e → Q e) → IfErr r P → IfErr r Q
 if_err (Ok x) P Q f h = tt
 if_err (Err e) P Q f h = f e h
-
-pub file_fault : {A : Type 0} (known : Option (List ℕ)) (old : List (Name × Contents)) (name : Name) (f : Fault A) → IsOfFile f → IsFaultOf known old name f
-file_fault known old name (fault.Input path) h = tt
-file_fault known old name (fault.Schema e) h = h
-file_fault known old name (fault.Data table column e) h = absurd h
-file_fault known old name fault.OutOfMemory h = tt
 
 -- there is a table at each place below their number
 pub no_place : (es : List (Name × Contents)) (i : ℕ) → i < length es → ◌≡◌ {A = Option Name} None (option_map (λ e. e.0) (slice_get es i)) → ⊥

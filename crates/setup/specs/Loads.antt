@@ -1,5 +1,5 @@
 -- The tables of a store, loaded from the files of a folder.
-use Rattle.std.specs.Prelude.{◌≡◌, ℕ, List, [], ◌∷◌, ◌++◌, map, Option, None, Some, Ok, Err, slice_get, ⊤}
+use Rattle.std.specs.Prelude.{◌≡◌, ◌⊎◌, ℕ, List, [], ◌∷◌, ◌++◌, map, Option, None, Some, Ok, Err, slice_get, ⊤}
 use Rattle.tables.specs.Loading.{Col, Contents}
 use Rattle.tables.specs.declared.LoadError.{LoadError}
 use Rattle.tables.specs.declared.LoadError.TheVariants as load
@@ -36,30 +36,34 @@ abbrev pub Knows : Option (List ℕ) → Option (List ℕ) → Type 0
 Knows None left = ⊤
 Knows (Some bytes) left = left ≡ Some bytes
 
--- an error of opening a file: it cannot be read, or memory ran out
-abbrev pub IsOfFile : {A : Type 0} → Fault A → Type 0
-IsOfFile (fault.Input path) = ⊤
-IsOfFile (fault.Schema e) = ⊥
-IsOfFile (fault.Data table column e) = ⊥
-IsOfFile fault.OutOfMemory = ⊤
+-- an error of opening the file of a path: it cannot be read, or memory ran out
+abbrev pub IsOfFile : {A : Type 0} → List ℕ → Fault A → Type 0
+IsOfFile path (fault.Input p) = p ≡ path
+IsOfFile path (fault.Schema e) = ⊥
+IsOfFile path (fault.Data table column e) = ⊥
+IsOfFile path fault.OutOfMemory = ⊤
 
--- why the rows of a table were not loaded: its file cannot be read, the first fault of its rows, or memory ran out
-abbrev pub IsFaultOf : {A : Type 0} → Option (List ℕ) → List (Name × Contents) → Name → Fault A → Type 0
-IsFaultOf bytes contents name (fault.Input path) = ⊤
-IsFaultOf bytes contents name (fault.Schema e) = ⊥
-IsFaultOf bytes contents name (fault.Data table column e) =
+-- why rows that are read were not loaded: their first fault, or memory ran out
+abbrev pub IsRowFault : {A : Type 0} → Option (List ℕ) → List (Name × Contents) → Name → Fault A → Type 0
+IsRowFault bytes contents name (fault.Input path) = ⊥
+IsRowFault bytes contents name (fault.Schema e) = ⊥
+IsRowFault bytes contents name (fault.Data table column e) =
     (table ≡ name) × (column ≡ column_of (columns_in contents name) e) × IsLoadFrom bytes contents contents name (Err (Data e))
-IsFaultOf bytes contents name fault.OutOfMemory = ⊤
+IsRowFault bytes contents name fault.OutOfMemory = ⊤
+
+-- why the rows of a table were not loaded: its file cannot be read, or a fault of its rows
+abbrev pub IsFaultOf : {A : Type 0} → List ℕ → Option (List ℕ) → List (Name × Contents) → Name → Fault A → Type 0
+IsFaultOf path bytes contents name f = IsOfFile path f ⊎ IsRowFault bytes contents name f
 
 -- the table at a place, in order of creation, has the rows of its file
 abbrev pub IsLoadedAt : (Name → Option (List ℕ)) → List (Name × Contents) → List (Name × Contents) → ℕ → Type 0
 IsLoadedAt bytes old new place = (name : Name) × (slice_get (names_of old) place ≡ Some name) × IsLoadFrom (bytes name) old new name (Ok tt)
 
 -- the fault is that of the table at a place
-abbrev pub IsFaultAt : {A : Type 0} → (Name → Option (List ℕ)) → List (Name × Contents) → ℕ → Fault A → Type 0
-IsFaultAt bytes old place f = (name : Name) × (slice_get (names_of old) place ≡ Some name) × IsFaultOf (bytes name) old name f
+abbrev pub IsFaultAt : {A : Type 0} → (Name → List ℕ) → (Name → Option (List ℕ)) → List (Name × Contents) → ℕ → Fault A → Type 0
+IsFaultAt paths bytes old place f = (name : Name) × (slice_get (names_of old) place ≡ Some name) × IsFaultOf (paths name) (bytes name) old name f
 
 -- the tables before one were loaded, and this is the fault of that one
-abbrev pub StopsAtTable : {A : Type 0} → (Name → Option (List ℕ)) → List (Name × Contents) → List (Name × Contents) → Fault A → Type 0
-StopsAtTable bytes old new f =
-    (front : List Name) × (name : Name) × (rest : List Name) × (names_of old ≡ front ++ name ∷ rest) × AreLoaded bytes front old new × IsFaultOf (bytes name) new name f
+abbrev pub StopsAtTable : {A : Type 0} → (Name → List ℕ) → (Name → Option (List ℕ)) → List (Name × Contents) → List (Name × Contents) → Fault A → Type 0
+StopsAtTable paths bytes old new f =
+    (front : List Name) × (name : Name) × (rest : List Name) × (names_of old ≡ front ++ name ∷ rest) × AreLoaded bytes front old new × IsFaultOf (paths name) (bytes name) new name f

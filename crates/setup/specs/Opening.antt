@@ -21,12 +21,12 @@ schema_fault errors.OutOfMemory = fault.OutOfMemory
 schema_fault e = fault.Schema e
 
 -- the schema text makes tables, and this is the fault of the first whose rows are not loaded
-abbrev pub IsOfTable : {A : Type 0} → List ℕ → (Name → Option (List ℕ)) → Fault A → Type 0
-IsOfTable schema bytes f = (empty : World) × (loaded : List (Name × Contents)) × (schema_applied at_start schema ≡ Ok empty) × StopsAtTable bytes empty.contents loaded f
+abbrev pub IsOfTable : {A : Type 0} → List ℕ → (Name → List ℕ) → (Name → Option (List ℕ)) → Fault A → Type 0
+IsOfTable schema paths bytes f = (empty : World) × (loaded : List (Name × Contents)) × (schema_applied at_start schema ≡ Ok empty) × StopsAtTable paths bytes empty.contents loaded f
 
 -- the fault is that of the schema text, or else that of a table; or memory ran out
-abbrev pub IsNotOpened : {A : Type 0} → List ℕ → (Name → Option (List ℕ)) → Fault A → Type 0
-IsNotOpened schema bytes (fault.Schema e) = schema_applied at_start schema ≡ Err e
-IsNotOpened {A = A} schema bytes (fault.Input path) = IsOfTable {A = A} schema bytes (fault.Input path)
-IsNotOpened {A = A} schema bytes (fault.Data table column e) = IsOfTable {A = A} schema bytes (fault.Data table column e)
-IsNotOpened schema bytes fault.OutOfMemory = ⊤
+abbrev pub IsNotOpened : {A : Type 0} → List ℕ → (Name → List ℕ) → (Name → Option (List ℕ)) → Fault A → Type 0
+IsNotOpened schema paths bytes (fault.Schema e) = schema_applied at_start schema ≡ Err e
+IsNotOpened {A = A} schema paths bytes (fault.Input path) = IsOfTable {A = A} schema paths bytes (fault.Input path)
+IsNotOpened {A = A} schema paths bytes (fault.Data table column e) = IsOfTable {A = A} schema paths bytes (fault.Data table column e)
+IsNotOpened schema paths bytes fault.OutOfMemory = ⊤

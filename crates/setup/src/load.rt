@@ -4,7 +4,7 @@ ghost use Rattle.std.specs.Prelude.{◌≡◌, ◌<◌, ℕ, List, length, map, 
 ghost use Rattle.std.specs.List.{find};
 ghost use Rattle.tables.specs.Loading.{col_of};
 ghost use Rattle.engine.specs.Stored.{IsLoadFrom, is_named, columns_in};
-ghost use Rattle.setup.specs.Loads.{AreLoaded, IsFaultAt, IsFaultOf, IsLoadedAt, IsOfFile, Knows, StopsAtTable, column_of, name_at, names_of};
+ghost use Rattle.setup.specs.Loads.{AreLoaded, IsFaultAt, IsFaultOf, IsLoadedAt, IsOfFile, IsRowFault, Knows, StopsAtTable, column_of, name_at, names_of};
 
 use crate::fault::Fault;
 use engine::{Store, StoreError};
@@ -19,13 +19,16 @@ pub trait Folder<A: Heap> {
     // What a file is read from.
     type File: Read + Drop;
 
+    // The path of a table's file.
+    ghost path: { Self → List ℕ → List ℕ };
+
     // The bytes of a table's file, where they are known.
     ghost bytes: { Self → List ℕ → Option (List ℕ) } = { λ _ _. None };
 
-    /// Opens the file of a table. The error is `Input` or `OutOfMemory`.
+    /// Opens the file of a table. The error is `Input`, with its path, or `OutOfMemory`.
     fn open(&self, alloc: A, table: &str) -> Result<Self::File, Fault<A>>
         ensures bytes { IfOk result (λ file. Knows (bytes self.now table.now) (Self.File.remaining file)) }
-        ensures fault { IfErr result (λ f. IsOfFile f) };
+        ensures fault { IfErr result (λ f. IsOfFile (path self.now table.now) f) };
 }
 
 fn name_at<A: Heap>(columns: &[Column<A>], place: u64) -> &str
@@ -80,7 +83,7 @@ pub fn load_table<A: Heap, R: Read + Drop>(
     ensures catalogue { store.new.catalogue ≡ store.old.catalogue }
     ensures loaded { OnOk result (IsLoadFrom (R.remaining file) store.old.contents store.new.contents table.now (Ok tt)) }
     ensures unchanged { OnErr result (store.new ≡ store.old) }
-    ensures fault { IfErr result (λ f. IsFaultOf (R.remaining file) store.old.contents table.now f) }
+    ensures fault { IfErr result (λ f. IsRowFault (R.remaining file) store.old.contents table.now f) }
 {
     match store.load(table, file) {
         Ok(()) => Ok(()),
@@ -100,7 +103,7 @@ fn load_named<A: Heap, F: Folder<A>>(
     ensures catalogue { store.new.catalogue ≡ store.old.catalogue }
     ensures loaded { OnOk result (IsLoadFrom (F.bytes folder.now table.now) store.old.contents store.new.contents table.now (Ok tt)) }
     ensures unchanged { OnErr result (store.new ≡ store.old) }
-    ensures fault { IfErr result (λ f. IsFaultOf (F.bytes folder.now table.now) store.old.contents table.now f) }
+    ensures fault { IfErr result (λ f. IsFaultOf (F.path folder.now table.now) (F.bytes folder.now table.now) store.old.contents table.now f) }
 {
     match folder.open(alloc, table) {
         Ok(file) => load_table(alloc, store, table, file),
@@ -119,7 +122,7 @@ fn load_at<A: Heap, F: Folder<A>>(
     ensures catalogue { store.new.catalogue ≡ store.old.catalogue }
     ensures loaded { OnOk result (IsLoadedAt (F.bytes folder.now) store.old.contents store.new.contents place) }
     ensures unchanged { OnErr result (store.new ≡ store.old) }
-    ensures fault { IfErr result (λ f. IsFaultAt (F.bytes folder.now) store.old.contents place f) }
+    ensures fault { IfErr result (λ f. IsFaultAt (F.path folder.now) (F.bytes folder.now) store.old.contents place f) }
 {
     let Some(name) = store.table_name(place) else {
         unreachable!();
@@ -141,7 +144,7 @@ pub fn load_tables<A: Heap, F: Folder<A>>(
 ) -> Result<(), Fault<A>>
     ensures catalogue { store.new.catalogue ≡ store.old.catalogue }
     ensures loaded { OnOk result (AreLoaded (F.bytes folder.now) (names_of store.old.contents) store.old.contents store.new.contents) }
-    ensures stops { IfErr result (λ f. StopsAtTable (F.bytes folder.now) store.old.contents store.new.contents f) }
+    ensures stops { IfErr result (λ f. StopsAtTable (F.path folder.now) (F.bytes folder.now) store.old.contents store.new.contents f) }
 {
     for i in 0..store.table_count() {
         match load_at(alloc, store, folder, i) {

@@ -27,7 +27,7 @@ pub fn open_store<A: Heap, F: Folder<A>>(
     folder: &F,
 ) -> Result<Store<A>, Fault<A>>
     ensures opened { IfOk result (λ store. IsOpened schema.now (F.bytes folder.now) store) }
-    ensures fault { IfErr result (λ f. IsNotOpened schema.now (F.bytes folder.now) f) }
+    ensures fault { IfErr result (λ f. IsNotOpened schema.now (F.path folder.now) (F.bytes folder.now) f) }
 {
     let mut store = Store::new(alloc)?;
     match apply_schema(alloc, &mut store, schema) {

@@ -16,6 +16,8 @@ struct Files<'a> {
 impl<'a, A: Heap> Folder<A> for Files<'a> {
     type File = &'a [u8];
 
+    ghost path = { λ _ table. table };
+
     fn open(&self, alloc: A, table: &str) -> Result<&'a [u8], Fault<A>> {
         for (name, text) in self.files {
             if *name == table {

@@ -1,4 +1,4 @@
-use Rattle.std.proofs.Common.{◌≡◌, ◌∙◌, Some, ap, sym}
+use Rattle.std.proofs.Common.{◌≡◌, ◌∙◌, Some, ap, inl, sym}
 use Rattle.std.specs.List.{slice_get}
 use Rattle.std.proofs.lemmas.Option.{slice_get-map}
 use Rattle.setup.specs.Loads.{names_of}
@@ -6,7 +6,7 @@ use Rattle.setup.proofs.Tables.{if_err, named, on_ok}
 use Rattle.setup.proofs.load.load_at.Goals as goal
 
 pub returns-in_default-new-clause-fault : goal.returns-in_default-new-clause-fault
-returns-in_default-new-clause-fault g c = (c.in-Some.name.now, slice_get-map (λ e. e.0) c.args.store.now.contents c.args.place ∙ sym c.in-Some.ensures, tt)
+returns-in_default-new-clause-fault g c = (c.in-Some.name.now, slice_get-map (λ e. e.0) c.args.store.now.contents c.args.place ∙ sym c.in-Some.ensures, inl tt)
 
 pub load_named-loaded-requires : goal.load_named-loaded-requires
 load_named-loaded-requires g c =
