@@ -37,7 +37,7 @@ last_behind u v t ts last =
     let step : length (u ∷ v ∷ ts) - 1 ≡ suc (length (v ∷ ts) - 1) = omega arith in
     last ∙ ap (λ k. slice_get (u ∷ v ∷ ts) k) step
 
--- a word with others behind it says nothing
+-- a word with others after it says nothing
 first_bad_behind : (v w : Word) (ws : List Word) → AllPairs IsGoodBefore (v ∷ w ∷ ws) → first_bad (v ∷ w ∷ ws) ≡ first_bad (w ∷ ws)
 first_bad_behind v w ws good =
     cond-false (is_bad v.kind) _ _ (is_bad_only v.kind (good 0 1 w (omega arith) (omega arith)))

@@ -18,7 +18,7 @@ EndsBefore v w = (v.at < w.at) × (v.at + length v.bytes ≤ w.at)
 abbrev pub HasQuotes : Word → Type 0
 HasQuotes w = w.kind ≡ Quoted → in_quotes w.bytes ≡ true
 
--- a token with another behind it is no bad one
+-- a token with another after it is no bad one
 abbrev pub IsGoodBefore : Word → Word → Type 0
 IsGoodBefore v w = v.kind ≢ Bad
 

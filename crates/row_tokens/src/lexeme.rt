@@ -25,7 +25,7 @@ const MOST_NAME_BYTES: usize = 63;
 // What a bigint has below 0 and no more above it.
 const GREATEST: u64 = 1 << 63;
 
-// What stands for null among values, and the quote behind it.
+// What null is written as among values, and the closing quote after it.
 const NULL: [u8; 3] = *b"\\N'";
 
 const BAD: Lexeme = Lexeme {

@@ -48,7 +48,7 @@ schema_bytes = 1048576
 abbrev pub IsSmall : Question → Type 0
 IsSmall q = is_small q ≡ true
 
--- why a text is no query: the byte from which on it goes wrong, or a limit
+-- why a text is no query: the byte of the first token that cannot continue one, or a limit
 abbrev pub RefusesQuery : List ℕ → ParseError → Type 0
 RefusesQuery text errors.Memory = Unit {0}
 RefusesQuery text (errors.Syntax at) = StopsAt query text at × (length text ≤ query_bytes) × ((q : Question) → Spells query text q → ⊥)

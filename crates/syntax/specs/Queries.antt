@@ -79,7 +79,7 @@ next_chain = after (is k.Comma) chain
 unfoldable pub from : Rule (List Chain)
 from = listed chain next_chain
 
--- ---- the clauses behind it
+-- ---- the clauses after it
 
 unfoldable pub filter : Rule (Option Condition)
 filter = maybe (after (is k.Where) condition)

@@ -11,7 +11,7 @@ ghost use Rattle.syntax.specs.View.{act_of, column_entry, placed};
 use crate::expressions::inner_expression;
 use crate::names::{name, names, type_name};
 use crate::parts::Placed;
-use crate::reader::{Parsed, Reader, expect, open, sees};
+use crate::reader::{Parsed, Reader, before, expect, open, sees};
 use crate::tree::{ColumnDef, PolicyDef, Statement};
 use memory::Heap;
 use row_tokens::{Kind, Token};
@@ -222,7 +222,7 @@ fn using<'t, A: Heap>(reader: Reader<A>, tokens: &'t [Token<'t>]) -> Parsed<'t, 
     let (_, rest) = expect(Kind::Using, tokens)?;
     let (_, rest) = open(Kind::Open, reader.depth, rest)?;
     let (condition, rest) = inner_expression(reader, rest)?;
-    let (_, rest) = expect(Kind::Close, rest)?;
+    let ((condition, _), rest) = before(condition, expect(Kind::Close, rest))?;
     Ok((condition, rest))
 }
 

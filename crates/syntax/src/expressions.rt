@@ -17,7 +17,7 @@ use crate::parts::{
     counted, or_members, ranged,
 };
 use crate::reader::{
-    Class, Parsed, ReadError, Reader, expect, expect_any, next_offset, open, sees, sees_any,
+    Class, Parsed, ReadError, Reader, before, expect, expect_any, next_offset, open, sees, sees_any,
 };
 use crate::tree::{Arithmetic, Arm, Expr};
 use memory::Heap;
@@ -64,7 +64,7 @@ fn parenthesized<'t, A: Heap>(reader: Reader<A>, tokens: &'t [Token<'t>]) -> Par
 {
     let (sign, rest) = open(Kind::Open, reader.depth, tokens)?;
     let ((_, inner), rest) = inner_expression(reader, rest)?;
-    let (_, rest) = expect(Kind::Close, rest)?;
+    let ((inner, _), rest) = before(inner, expect(Kind::Close, rest))?;
     Ok(((sign.offset, inner), rest))
 }
 
@@ -77,10 +77,10 @@ fn cast<'t, A: Heap>(reader: Reader<A>, tokens: &'t [Token<'t>]) -> Parsed<'t, P
     let (word, rest) = expect(Kind::Cast, tokens)?;
     let (_, rest) = open(Kind::Open, reader.depth, rest)?;
     let ((_, value), rest) = inner_expression(reader, rest)?;
+    let value = Box::new(reader.alloc, value)?;
     let (_, rest) = expect(Kind::As, rest)?;
     let (to, rest) = type_name(reader, rest)?;
     let (_, rest) = expect(Kind::Close, rest)?;
-    let value = Box::new(reader.alloc, value)?;
     Ok(((word.offset, Expr::Cast(word.offset, to, value)), rest))
 }
 
@@ -93,8 +93,8 @@ fn arm<'t, A: Heap>(reader: Reader<A>, tokens: &'t [Token<'t>]) -> Parsed<'t, Ar
 {
     let (_, rest) = expect(Kind::When, tokens)?;
     let ((_, when), rest) = inner_expression(reader, rest)?;
-    let (_, rest) = expect(Kind::Then, rest)?;
-    let ((_, gives), rest) = inner_expression(reader, rest)?;
+    let ((when, _), rest) = before(when, expect(Kind::Then, rest))?;
+    let ((when, (_, gives)), rest) = before(when, inner_expression(reader, rest))?;
     Ok((Arm { when, gives }, rest))
 }
 
@@ -174,7 +174,7 @@ fn count_tail<'t, A: Heap>(reader: Reader<A>, tokens: &'t [Token<'t>]) -> Parsed
     if sees(Kind::Open, tokens) {
         let (_, rest) = open(Kind::Open, reader.depth, tokens)?;
         let (tail, rest) = counted_rows(reader, rest)?;
-        let (_, rest) = expect(Kind::Close, rest)?;
+        let ((tail, _), rest) = before(tail, expect(Kind::Close, rest))?;
         Ok((tail, rest))
     } else {
         let (name, rest) = dot_name(reader, tokens)?;
@@ -203,7 +203,7 @@ fn aggregate_tail<'t, A: Heap>(reader: Reader<A>, tokens: &'t [Token<'t>]) -> Pa
     if sees(Kind::Open, tokens) {
         let (_, rest) = open(Kind::Open, reader.depth, tokens)?;
         let ((_, argument), rest) = inner_expression(reader, rest)?;
-        let (_, rest) = expect(Kind::Close, rest)?;
+        let ((argument, _), rest) = before(argument, expect(Kind::Close, rest))?;
         Ok((Tail::Argument(argument), rest))
     } else {
         let (name, rest) = dot_name(reader, tokens)?;
@@ -316,6 +316,7 @@ fn product<'t, A: Heap>(reader: Reader<A>, tokens: &'t [Token<'t>]) -> Parsed<'t
         rest = after;
     }
     if sees_any(Class::Multiplication, rest) {
+        drop(left);
         return Err(ReadError::Limit(rest.len()));
     }
     Ok((left, rest))
@@ -350,6 +351,7 @@ fn sum<'t, A: Heap>(reader: Reader<A>, tokens: &'t [Token<'t>]) -> Parsed<'t, Pl
         rest = after;
     }
     if sees_any(Class::Addition, rest) {
+        drop(left);
         return Err(ReadError::Limit(rest.len()));
     }
     Ok((left, rest))
@@ -363,8 +365,8 @@ fn between<'t, A: Heap>(reader: Reader<A>, tokens: &'t [Token<'t>]) -> Parsed<'t
 {
     let (word, rest) = expect(Kind::Between, tokens)?;
     let ((_, low), rest) = sum(reader, rest)?;
-    let (_, rest) = expect(Kind::And, rest)?;
-    let ((_, high), rest) = sum(reader, rest)?;
+    let ((low, _), rest) = before(low, expect(Kind::And, rest))?;
+    let ((low, (_, high)), rest) = before(low, sum(reader, rest))?;
     Ok((Range::Bounds(word.offset, low, high), rest))
 }
 
@@ -429,7 +431,7 @@ fn ranged_sum<'t, A: Heap>(reader: Reader<A>, tokens: &'t [Token<'t>]) -> Parsed
     ensures { Reads (λ x. (placed x.0, words_of x.1.now)) result (reads grammar reader.width reader.depth rules.ranged_sum (words_of tokens.now)) }
 {
     let (operand, rest) = sum(reader, tokens)?;
-    let (range, rest) = range_tail(reader, rest)?;
+    let ((operand, range), rest) = before(operand, range_tail(reader, rest))?;
     Ok((ranged(reader.alloc, operand, range)?, rest))
 }
 
@@ -443,8 +445,8 @@ fn comparison<'t, A: Heap>(reader: Reader<A>, tokens: &'t [Token<'t>]) -> Parsed
     if !sees_any(Class::Comparison, rest) {
         return Ok((left, rest));
     }
-    let (sign, rest) = comparison_sign(reader, rest)?;
-    let (right, rest) = ranged_sum(reader, rest)?;
+    let ((left, sign), rest) = before(left, comparison_sign(reader, rest))?;
+    let ((left, right), rest) = before(left, ranged_sum(reader, rest))?;
     Ok((compared(reader.alloc, left, sign, right)?, rest))
 }
 
@@ -474,7 +476,7 @@ fn null_test<'t, A: Heap>(reader: Reader<A>, tokens: &'t [Token<'t>]) -> Parsed<
     if !sees(Kind::Is, rest) {
         return Ok(((start, left), rest));
     }
-    let ((offset, negated), rest) = is_null(reader, rest)?;
+    let ((left, (offset, negated)), rest) = before(left, is_null(reader, rest))?;
     let left = Box::new(reader.alloc, left)?;
     Ok(((start, Expr::IsNull(negated, offset, left)), rest))
 }

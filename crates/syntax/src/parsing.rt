@@ -83,7 +83,10 @@ fn whole_query<A: Heap>(alloc: A, tokens: &[Token<'_>]) -> Result<Query<A>, Read
     let (tree, rest) = query(reader(alloc), tokens)?;
     match rest {
         [] => Ok(tree),
-        [_, ..] => Err(ReadError::Syntax(rest.len())),
+        [_, ..] => {
+            drop(tree);
+            Err(ReadError::Syntax(rest.len()))
+        }
     }
 }
 
@@ -110,6 +113,7 @@ fn small_query<A: Heap>(alloc: A, text: &str) -> Result<Query<A>, ParseError>
     if is_small(&query) {
         Ok(query)
     } else {
+        drop(query);
         Err(ParseError::Limit)
     }
 }
@@ -182,7 +186,10 @@ fn whole_statement<A: Heap>(alloc: A, tokens: &[Token<'_>]) -> Result<Statement<
     let (tree, rest) = statement(reader(alloc), tokens)?;
     match rest {
         [] => Ok(tree),
-        [_, ..] => Err(ReadError::Syntax(rest.len())),
+        [_, ..] => {
+            drop(tree);
+            Err(ReadError::Syntax(rest.len()))
+        }
     }
 }
 

@@ -3,6 +3,7 @@
 ghost use Rattle.std.specs.Prelude.{◌≡◌, ◌∷◌, [], Some, map, option_map, IfOk};
 ghost use Rattle.row_tokens.specs.View.{word_of};
 ghost use Rattle.syntax.specs.Expressions as rules;
+ghost use Rattle.syntax.specs.Reading.{kept};
 ghost use Rattle.syntax.specs.Tree as tree;
 ghost use Rattle.syntax.specs.Tree.{arms_of};
 ghost use Rattle.syntax.specs.View.{ex, placed, arm_pair, signed_of, tail_of, otherwise_of};
@@ -47,6 +48,16 @@ pub enum Otherwise<A: Heap> {
     Value(Expr<A>),
 }
 
+// A value and what is made beside it. Where memory is refused, the value is dropped here.
+fn keep<T: Drop, U: Drop, E: Drop>(value: T, next: Result<U, E>) -> Result<(T, U), E>
+    ensures { result ≡ kept value next }
+{
+    match next {
+        Ok(further) => Ok((value, further)),
+        Err(error) => Err(error),
+    }
+}
+
 /// An operation on two numbers.
 pub fn combined<A: Heap>(
     alloc: A,
@@ -58,7 +69,7 @@ pub fn combined<A: Heap>(
 {
     let (start, left) = left;
     let (_, right) = right;
-    let left = Box::new(alloc, left)?;
+    let (right, left) = keep(right, Box::new(alloc, left))?;
     let right = Box::new(alloc, right)?;
     let (offset, operator) = sign;
     Ok((start, Expr::Arithmetic(operator, offset, left, right)))
@@ -75,7 +86,7 @@ pub fn compared<A: Heap>(
 {
     let (start, left) = left;
     let (_, right) = right;
-    let left = Box::new(alloc, left)?;
+    let (right, left) = keep(right, Box::new(alloc, left))?;
     let right = Box::new(alloc, right)?;
     let (offset, operator) = sign;
     Ok((start, Expr::Comparison(operator, offset, left, right)))
@@ -91,8 +102,8 @@ fn between<A: Heap>(
     ensures { IfOk result (λ e. ex e ≡ tree.between negated offset (ex operand) (ex bounds.0) (ex bounds.1)) }
 {
     let (low, high) = bounds;
-    let operand = Box::new(alloc, operand)?;
-    let low = Box::new(alloc, low)?;
+    let ((low, high), operand) = keep((low, high), Box::new(alloc, operand))?;
+    let (high, low) = keep(high, Box::new(alloc, low))?;
     let high = Box::new(alloc, high)?;
     Ok(Expr::Between(negated, offset, operand, low, high))
 }
@@ -124,7 +135,7 @@ fn in_range<A: Heap>(
     }
 }
 
-/// An operand and the range behind it, if there is one, with where a NOT before it stands.
+/// An operand and the range after it, if there is one, with where a NOT before it stands.
 pub fn ranged<A: Heap>(
     alloc: A,
     operand: Placed<A>,

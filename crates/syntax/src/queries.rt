@@ -13,7 +13,7 @@ ghost use Rattle.syntax.specs.View.{column_word, condition_of, item_of, selectio
 
 use crate::expressions::expression;
 use crate::names::{columns, name};
-use crate::reader::{Class, Parsed, Reader, expect, expect_any, sees, sees_any};
+use crate::reader::{Class, Parsed, Reader, before, expect, expect_any, sees, sees_any};
 use crate::tree::{Chain, ColumnRef, Condition, Entry, Item, Join, Key, Query, Selection, Target};
 use memory::Heap;
 use row_tokens::{Kind, Token, folded};
@@ -60,7 +60,7 @@ fn item<'t, A: Heap>(reader: Reader<A>, tokens: &'t [Token<'t>]) -> Parsed<'t, I
     ensures { Reads (λ x. (item_of x.0, words_of x.1.now)) result (reads grammar reader.width reader.depth rules.item (words_of tokens.now)) }
 {
     let ((_, value), rest) = expression(reader, tokens)?;
-    let (alias, rest) = item_alias(reader, rest)?;
+    let ((value, alias), rest) = before(value, item_alias(reader, rest))?;
     Ok((Item { value, alias }, rest))
 }
 
@@ -155,8 +155,8 @@ fn plain_join<'t, A: Heap>(reader: Reader<A>, tokens: &'t [Token<'t>]) -> Parsed
 {
     let (_, rest) = expect(Kind::Join, tokens)?;
     let (entry, rest) = entry(reader, rest)?;
-    let (_, rest) = expect(Kind::On, rest)?;
-    let (condition, rest) = condition(reader, rest)?;
+    let ((entry, _), rest) = before(entry, expect(Kind::On, rest))?;
+    let ((entry, condition), rest) = before(entry, condition(reader, rest))?;
     Ok((Join::Inner(entry, condition), rest))
 }
 
@@ -397,16 +397,55 @@ fn limit<'t, A: Heap>(reader: Reader<A>, tokens: &'t [Token<'t>]) -> Parsed<'t, 
     Ok((Some(word.number), rest))
 }
 
+// `[ORDER BY keys] [LIMIT number]`.
+fn ordered<'t, A: Heap>(
+    reader: Reader<A>,
+    tokens: &'t [Token<'t>],
+) -> Parsed<'t, (Items<Key<A>, A>, Option<u64>)>
+    ensures { Reads (λ x. ((map (λ k. key_of k) x.0.0, x.0.1), words_of x.1.now)) result (reads grammar reader.width reader.depth (both rules.order rules.limit) (words_of tokens.now)) }
+{
+    let (order, rest) = order(reader, tokens)?;
+    let (limit, rest) = limit(reader, rest)?;
+    Ok(((order, limit), rest))
+}
+
+// `[HAVING expression]` and what may follow.
+fn from_having<'t, A: Heap>(
+    reader: Reader<A>,
+    tokens: &'t [Token<'t>],
+) -> Parsed<'t, (Option<Condition<A>>, (Items<Key<A>, A>, Option<u64>))>
+    ensures { Reads (λ x. ((option_map (λ c. condition_of c) x.0.0, (map (λ k. key_of k) x.0.1.0, x.0.1.1)), words_of x.1.now)) result (reads grammar reader.width reader.depth (both rules.having (both rules.order rules.limit)) (words_of tokens.now)) }
+{
+    let (having, rest) = having(reader, tokens)?;
+    let ((order, limit), rest) = ordered(reader, rest)?;
+    Ok(((having, (order, limit)), rest))
+}
+
+// `[GROUP BY columns]` and what may follow.
+fn from_groups<'t, A: Heap>(
+    reader: Reader<A>,
+    tokens: &'t [Token<'t>],
+) -> Parsed<
+    't,
+    (
+        Items<ColumnRef<A>, A>,
+        (Option<Condition<A>>, (Items<Key<A>, A>, Option<u64>)),
+    ),
+>
+    ensures { Reads (λ x. ((map (λ c. column_word c) x.0.0, (option_map (λ c. condition_of c) x.0.1.0, (map (λ k. key_of k) x.0.1.1.0, x.0.1.1.1))), words_of x.1.now)) result (reads grammar reader.width reader.depth (both rules.groups (both rules.having (both rules.order rules.limit))) (words_of tokens.now)) }
+{
+    let (groups, rest) = groups(reader, tokens)?;
+    let ((having, (order, limit)), rest) = from_having(reader, rest)?;
+    Ok(((groups, (having, (order, limit))), rest))
+}
+
 // What may follow FROM.
 #[tactic(auto, unfolding(crate::specs::Queries::clauses))]
 fn clauses<'t, A: Heap>(reader: Reader<A>, tokens: &'t [Token<'t>]) -> Parsed<'t, Following<A>>
     ensures { Reads (λ x. (clauses_of x.0, words_of x.1.now)) result (reads grammar reader.width reader.depth rules.clauses (words_of tokens.now)) }
 {
     let (filter, rest) = filter(reader, tokens)?;
-    let (groups, rest) = groups(reader, rest)?;
-    let (having, rest) = having(reader, rest)?;
-    let (order, rest) = order(reader, rest)?;
-    let (limit, rest) = limit(reader, rest)?;
+    let ((groups, (having, (order, limit))), rest) = from_groups(reader, rest)?;
     let following = Following {
         filter,
         groups,

@@ -4,7 +4,7 @@ ghost use Rattle.std.specs.Prelude.{◌≡◌, ◌<◌, ◌-◌, IfOk};
 ghost use Rattle.row_grammar.specs.Decoder.{head_in, word_at, opened_at};
 ghost use Rattle.row_grammar.specs.Limits.{can_open};
 ghost use Rattle.row_tokens.specs.View.{word_of, words_of};
-ghost use Rattle.syntax.specs.Reading.{Reads};
+ghost use Rattle.syntax.specs.Reading.{Reads, paired};
 ghost use Rattle.syntax.specs.Language.{next_at, is, of, is_plain, is_aggregate, is_name, is_sign, is_comparison, is_addition, is_multiplication, kind_of};
 ghost use Rattle.syntax.specs.declared.reader.ReadError.TheVariants.{Memory};
 
@@ -67,6 +67,17 @@ impl<A: Heap> Reader<A> {
 
 /// A value and the tokens after it.
 pub type Parsed<'t, T> = Result<(T, &'t [Token<'t>]), ReadError>;
+
+/// A value and what is read after it. Where reading fails, the value is dropped here and not in the
+/// caller, whose proof would contain the whole drop of a tree for each `?` at which it is alive.
+pub fn before<'t, T: Drop, U: Drop>(value: T, next: Parsed<'t, U>) -> Parsed<'t, (T, U)>
+    ensures { result ≡ paired value next.entry }
+{
+    match next {
+        Ok((further, rest)) => Ok(((value, further), rest)),
+        Err(error) => Err(error),
+    }
+}
 
 #[tactic(auto, unfolding(crate::specs::Language::is))]
 fn same(a: Kind, b: Kind) -> bool

@@ -12,7 +12,7 @@ ghost use Rattle.syntax.specs.View.{act_of};
 
 use crate::creating::create;
 use crate::names::{name, names};
-use crate::reader::{Parsed, Reader, expect, sees};
+use crate::reader::{Parsed, Reader, before, expect, sees};
 use crate::tree::{Grant, RowSecurity, Statement};
 use memory::Heap;
 use row_tokens::{Kind, Token};
@@ -204,7 +204,7 @@ fn ended_statement<'t, A: Heap>(
     ensures { Reads (λ x. (act_of x.0, words_of x.1.now)) result (reads grammar reader.width reader.depth rules.ended_statement (words_of tokens.now)) }
 {
     let (statement, rest) = statement(reader, tokens)?;
-    let (_, rest) = expect(Kind::Semicolon, rest)?;
+    let ((statement, _), rest) = before(statement, expect(Kind::Semicolon, rest))?;
     Ok((statement, rest))
 }
 
