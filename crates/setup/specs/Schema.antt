@@ -1,5 +1,5 @@
 -- The database that a schema text makes.
-use Rattle.std.specs.Prelude.{◌≡◌, ◌≢◌, ℕ, ◌+◌, List, [], ◌∷◌, take, codes, Result, Ok, Err}
+use Rattle.std.specs.Prelude.{◌≡◌, ◌≢◌, ◌⊎◌, ℕ, ◌+◌, List, [], ◌∷◌, take, codes, Result, Ok, Err}
 use Rattle.value.specs.declared.refusal.Refusal.{Refusal}
 use Rattle.value.specs.declared.refusal.Refusal.TheVariants as code
 use Rattle.syntax.specs.Tree.{Name, Act}
@@ -46,6 +46,11 @@ applied_text db (Ok acts) = applied db acts
 -- the database after a schema text, or why the text is refused
 abbrev pub schema_applied : World → List ℕ → Result World SchemaError
 schema_applied db text = applied_text db (parsed_schema text)
+
+-- one statement made the database that is due, or changed nothing and was refused, or memory ran out
+abbrev pub IsStep : ℕ → World → World → Act → Result (Unit {0}) SchemaError → Type 0
+IsStep n old new act (Ok u) = changed_world old root act ≡ Ok new
+IsStep n old new act (Err e) = (new ≡ old) × (why : Refusal) × (e ≡ refused_by n why) × ((why ≡ code.OutOfMemory) ⊎ (changed_world old root act ≡ Err why))
 
 -- a call made the database that is due, or reported the error that is due, or memory ran out
 abbrev pub Applies : World → Result World SchemaError → Result (Unit {0}) SchemaError → Type 0

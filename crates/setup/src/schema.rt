@@ -3,7 +3,7 @@
 ghost use Rattle.std.specs.Prelude.{◌≡◌, ◌+◌, IfErr, map};
 ghost use Rattle.syntax.specs.Parsing.{parsed_schema};
 ghost use Rattle.syntax.specs.View.{act_of};
-ghost use Rattle.setup.specs.Schema.{Applies, StopsAfter, StopsAfterFront, applied, refused_by, schema_applied};
+ghost use Rattle.setup.specs.Schema.{Applies, IsStep, StopsAfter, StopsAfterFront, applied, refused_by, schema_applied};
 
 use crate::fault::SchemaError;
 use engine::Store;
@@ -21,6 +21,20 @@ fn refused_by(number: usize, code: Refusal) -> SchemaError
     }
 }
 
+// Applies the statement of a number, by root.
+fn apply_statement<A: Heap>(
+    store: &mut Store<A>,
+    number: usize,
+    statement: &Statement<A>,
+) -> Result<(), SchemaError>
+    ensures { IsStep number store.old store.new (act_of statement.now) result }
+{
+    match store.change("root", statement) {
+        Ok(()) => Ok(()),
+        Err(code) => Err(refused_by(number, code)),
+    }
+}
+
 // Applies statements in turn, by root.
 fn apply_statements<A: Heap>(
     store: &mut Store<A>,
@@ -30,9 +44,9 @@ fn apply_statements<A: Heap>(
     ensures stops { IfErr result (λ e. StopsAfter store.old store.new (map (λ s. act_of s) statements.now) e) }
 {
     for (i, statement) in statements.iter().enumerate() {
-        match store.change("root", statement) {
+        match apply_statement(store, i + 1, statement) {
             Ok(()) => {}
-            Err(code) => return Err(refused_by(i + 1, code)),
+            Err(error) => return Err(error),
         }
     }
     Ok(())

@@ -5,15 +5,17 @@ use Rattle.setup.proofs.Fold.{done, next, stops_after, stops_at}
 use Rattle.setup.proofs.schema.apply_statements.Goals as goal
 
 pub returns-in-Err : goal.returns-in-Err
-returns-in-Err g c = rw (c.refused_by.ensures, c.in-Err.ensures.0) record {
-  applied = stops_at (λ s. act_of s) c.args.statements.now c.index-statements-i.result c.loop-i.i c.loop-i-test.true c.index-statements-i.is (c.loop-i.i + 1) c.args.store.now c.loop-i.store c.in-Err.code c.in-Err.ensures.1 c.loop-i.invariant.0;
-  stops = stops_after (λ s. act_of s) c.args.statements.now c.index-statements-i.result c.loop-i.i c.loop-i-test.true c.index-statements-i.is c.args.store.now c.loop-i.store c.in-Err.code c.loop-i.invariant.1;
-}
+returns-in-Err g c =
+    let h = c.in-Err.ensures in
+    rw (h.2, h.0) record {
+      applied = stops_at (λ s. act_of s) c.args.statements.now c.index-statements-i.result c.loop-i.i c.loop-i-test.true c.index-statements-i.is (c.loop-i.i + 1) c.args.store.now c.loop-i.store h.1 h.3 c.loop-i.invariant.0;
+      stops = stops_after (λ s. act_of s) c.args.statements.now c.index-statements-i.result c.loop-i.i c.loop-i-test.true c.index-statements-i.is c.args.store.now c.loop-i.store h.1 c.loop-i.invariant.1;
+    }
 
 pub loop-i-preserved : goal.loop-i-preserved
 loop-i-preserved g c = (
-  sym (next (λ s. act_of s) c.args.statements.now c.index-statements-i.result c.loop-i.i c.loop-i-test.true c.index-statements-i.is (c.loop-i.i + 1) c.loop-i.store c.change.new.self c.in-Ok.ensures) ∙ c.loop-i.invariant.0,
-  done (λ s. act_of s) c.args.statements.now c.index-statements-i.result c.loop-i.i c.loop-i-test.true c.index-statements-i.is 1 c.args.store.now c.loop-i.store c.change.new.self c.loop-i.invariant.1 c.in-Ok.ensures,
+  sym (next (λ s. act_of s) c.args.statements.now c.index-statements-i.result c.loop-i.i c.loop-i-test.true c.index-statements-i.is (c.loop-i.i + 1) c.loop-i.store c.apply_statement.new.store c.in-Ok.ensures) ∙ c.loop-i.invariant.0,
+  done (λ s. act_of s) c.args.statements.now c.index-statements-i.result c.loop-i.i c.loop-i-test.true c.index-statements-i.is 1 c.args.store.now c.loop-i.store c.apply_statement.new.store c.loop-i.invariant.1 c.in-Ok.ensures,
 )
 
 pub returns-clause-applied : goal.returns-clause-applied
