@@ -332,7 +332,7 @@ static TABLES: [Row; 27] = [
     ("SELECT 1", Err(Syntax(8))),
 ];
 
-// The clauses behind FROM, each once and in order.
+// The clauses after FROM, each once and in order.
 static CLAUSES: [Row; 23] = [
     (
         "SELECT a FROM t WHERE b GROUP BY a, t.c HAVING count(*) > 1 ORDER BY a DESC, 2, d ASC LIMIT 10",
@@ -440,8 +440,27 @@ static ENDS: [Row; 9] = [
     ("SELECT a FROM t SELECT", Err(Syntax(16))),
 ];
 
+// The first token that cannot continue a query.
+static LONGEST_FRONTS: [Row; 15] = [
+    ("", Err(Syntax(0))),
+    ("SELECT", Err(Syntax(6))),
+    ("SELECT FROM t", Err(Syntax(7))),
+    ("SELECT a b FROM t", Err(Syntax(9))),
+    ("SELECT a, FROM t", Err(Syntax(10))),
+    ("SELECT a.b.c FROM t", Err(Syntax(10))),
+    ("SELECT a FROM t, 1", Err(Syntax(17))),
+    ("SELECT a FROM t WHERE a = 1 = 2", Err(Syntax(28))),
+    ("SELECT *, a FROM t", Err(Syntax(8))),
+    ("SELECT a FROM t;", Err(Syntax(15))),
+    ("SELECT a -- x", Err(Syntax(9))),
+    ("SELECT a /* x", Err(Syntax(9))),
+    ("SELECT 'a FROM t", Err(Syntax(7))),
+    ("SELECT a\u{e9} FROM t", Err(Syntax(8))),
+    ("DELETE FROM t", Err(Syntax(0))),
+];
+
 // The same with offsets: of names, of operations and of the first token of a condition.
-static PLACED: [Row; 14] = [
+static PLACED: [Row; 15] = [
     (
         "SELECT a + b * c FROM t",
         Ok("SELECT (a@7 +@9 (b@11 *@13 c@15)) FROM t@22"),
@@ -498,10 +517,15 @@ static PLACED: [Row; 14] = [
     ),
     ("\t SELECT\r\n a FROM t", Ok("SELECT a@11 FROM t@18")),
     ("SELECT 'é€', a FROM t", Ok("SELECT 'é€', a@16 FROM t@23")),
+    // words_are_folded
+    (
+        "sElEcT Deal . ID, Role FROM Table",
+        Ok("SELECT deal.id@7, role@18 FROM table@28"),
+    ),
 ];
 
 // What a text is read as, as `shown` writes it.
-fn told(alloc: Global, placed: bool, text: &str) -> Result<String, ParseError> {
+fn shown_as(alloc: Global, placed: bool, text: &str) -> Result<String, ParseError> {
     let query = parse_query(alloc, text)?;
     let mut out = Printer {
         text: String::new(alloc),
@@ -511,11 +535,11 @@ fn told(alloc: Global, placed: bool, text: &str) -> Result<String, ParseError> {
     Ok(out.text)
 }
 
-fn read_as(rt: &(impl Abort + AllocGlobal), placed: bool, rows: &[Row]) {
+fn read_as(rt: &(impl Abort + AllocGlobal), name: &str, placed: bool, rows: &[Row]) {
     for (text, want) in rows {
-        match told(rt.alloc(), placed, text) {
-            Ok(found) => assert_eq!(rt; Ok(found.as_str()), *want, "{text}"),
-            Err(error) => assert_eq!(rt; Err(error), *want, "{text}"),
+        match shown_as(rt.alloc(), placed, text) {
+            Ok(found) => assert_eq!(rt; Ok(found.as_str()), *want, "{name}: {text}"),
+            Err(error) => assert_eq!(rt; Err(error), *want, "{name}: {text}"),
         }
     }
 }
@@ -556,24 +580,34 @@ fn ends() -> &'static [Row] {
     &ENDS
 }
 
+fn longest_fronts() -> &'static [Row] {
+    &LONGEST_FRONTS
+}
+
 fn placed() -> &'static [Row] {
     &PLACED
 }
 
 #[test]
-fn texts_by_the_grammar(rt: HostRuntime) {
-    read_as(&rt, false, levels());
-    read_as(&rt, false, connectives());
-    read_as(&rt, false, conditions());
-    read_as(&rt, false, calls());
-    read_as(&rt, false, names());
-    read_as(&rt, false, tables());
-    read_as(&rt, false, clauses());
-    read_as(&rt, false, tokens());
-    read_as(&rt, false, ends());
+fn queries_by_the_grammar(rt: HostRuntime) {
+    read_as(&rt, "levels", false, levels());
+    read_as(&rt, "connectives", false, connectives());
+    read_as(&rt, "conditions", false, conditions());
+    read_as(&rt, "calls", false, calls());
+    read_as(&rt, "names", false, names());
+    read_as(&rt, "tables", false, tables());
+    read_as(&rt, "clauses", false, clauses());
+    read_as(&rt, "tokens", false, tokens());
+    read_as(&rt, "ends", false, ends());
+    read_as(
+        &rt,
+        "refused_at_the_token_after_the_longest_front",
+        false,
+        longest_fronts(),
+    );
 }
 
 #[test]
 fn offsets_of_operations_and_names(rt: HostRuntime) {
-    read_as(&rt, true, placed());
+    read_as(&rt, "offsets_of_operations_and_names", true, placed());
 }

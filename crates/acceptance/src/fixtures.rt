@@ -1,8 +1,9 @@
-//! The store of the worked rows.
+//! The store of the worked rows, and what several modules make.
 
 use engine::{Store, StoreError};
 use memory::Heap;
-use std::alloc::{AllocError, AllocFailed};
+use std::alloc::{AllocError, AllocFailed, Global};
+use std::process::Abort;
 use syntax::{ParseError, parse_schema};
 use value::Refusal;
 
@@ -77,4 +78,21 @@ pub fn deals<A: Heap>(alloc: A) -> Result<Store<A>, Stop> {
     let mut store = store_of(alloc, SCHEMA)?;
     load(&mut store, "deal", DEALS)?;
     Ok(store)
+}
+
+/// The store, which has to be made.
+pub fn made<A: Heap>(rt: &impl Abort, store: Result<Store<A>, Stop>) -> Store<A> {
+    match store {
+        Ok(store) => store,
+        Err(stop) => panic!(rt; "{stop:?}"),
+    }
+}
+
+/// A text of so many spaces.
+pub fn spaces(alloc: Global, many: usize) -> Result<String, AllocError> {
+    let mut text = String::new(alloc);
+    for _ in 0..many {
+        text.push(' ')?;
+    }
+    Ok(text)
 }

@@ -223,14 +223,14 @@ fn empty(alloc: Global) -> Printer {
     }
 }
 
-fn told(alloc: Global, text: &str) -> Result<String, ParseError> {
+fn shown_statement(alloc: Global, text: &str) -> Result<String, ParseError> {
     let statement = parse_statement(alloc, text)?;
     let mut out = empty(alloc);
     show_statement(&statement, &mut out)?;
     Ok(out.text)
 }
 
-fn told_schema(alloc: Global, text: &str) -> Result<String, ParseError> {
+fn shown_schema(alloc: Global, text: &str) -> Result<String, ParseError> {
     let statements = parse_schema(alloc, text)?;
     let mut out = empty(alloc);
     for statement in statements.as_slice() {
@@ -240,21 +240,28 @@ fn told_schema(alloc: Global, text: &str) -> Result<String, ParseError> {
     Ok(out.text)
 }
 
-fn is_told(
+fn is_shown(
     rt: &impl Abort,
     found: Result<String, ParseError>,
     want: Result<&str, ParseError>,
-    text: &str,
+    row: (&str, &str),
 ) {
+    let (name, text) = row;
     match found {
-        Ok(found) => assert_eq!(rt; Ok(found.as_str()), want, "{text}"),
-        Err(error) => assert_eq!(rt; Err(error), want, "{text}"),
+        Ok(found) => assert_eq!(rt; Ok(found.as_str()), want, "{name}: {text}"),
+        Err(error) => assert_eq!(rt; Err(error), want, "{name}: {text}"),
     }
 }
 
-fn are_told(rt: &(impl Abort + AllocGlobal), rows: &[Row]) {
+fn statements_are(rt: &(impl Abort + AllocGlobal), name: &str, rows: &[Row]) {
     for (text, want) in rows {
-        is_told(rt, told(rt.alloc(), text), *want, text);
+        is_shown(rt, shown_statement(rt.alloc(), text), *want, (name, text));
+    }
+}
+
+fn schemas_are(rt: &(impl Abort + AllocGlobal), name: &str, rows: &[Row]) {
+    for (text, want) in rows {
+        is_shown(rt, shown_schema(rt.alloc(), text), *want, (name, text));
     }
 }
 
@@ -287,15 +294,12 @@ fn schemas() -> &'static [Row] {
 }
 
 #[test]
-fn statements_by_the_grammar(rt: HostRuntime) {
-    for rows in [roles(), tables(), altered(), grants(), policies(), ends()] {
-        are_told(&rt, rows);
-    }
-}
-
-#[test]
-fn schemas_by_the_grammar(rt: HostRuntime) {
-    for (text, want) in schemas() {
-        is_told(&rt, told_schema(rt.alloc(), text), *want, text);
-    }
+fn statements_and_schemas_by_the_grammar(rt: HostRuntime) {
+    statements_are(&rt, "roles", roles());
+    statements_are(&rt, "tables", tables());
+    statements_are(&rt, "altered", altered());
+    statements_are(&rt, "grants", grants());
+    statements_are(&rt, "policies", policies());
+    statements_are(&rt, "ends", ends());
+    schemas_are(&rt, "schemas_by_the_grammar", schemas());
 }

@@ -1,19 +1,22 @@
 //! Each request for memory refused in turn.
 
-use crate::deals::{DEALS, SCHEMA, Stop, deals, load, store_of};
+use crate::fixtures::{DEALS, SCHEMA, Stop, deals, load, store_of};
+use crate::opening::open_or_out_of_memory;
+use crate::table_texts::{append_or_refusal_of_memory, load_or_refusal_of_memory};
 use engine::{StoreError, serve};
 use memory::Heap;
 use metered::Metered;
 use output::Output;
 use std::alloc::AllocError;
+use std::process::Abort;
+use std::test::Fail;
 use syntax::ParseError;
 use tables::LoadError;
 use value::Refusal;
 
 const TEXT: &str = "SELECT id FROM deal";
 
-#[test]
-fn reply_or_refusal_of_memory(rt: HostRuntime) {
+fn reply_or_refusal_of_memory(rt: &(impl Abort + AllocGlobal)) {
     let counting = Metered::counting(rt.alloc());
     assert!(rt; deals(&counting).is_ok());
     let built = counting.requests(0);
@@ -54,8 +57,7 @@ fn is_memory(stop: Stop) -> bool {
     )
 }
 
-#[test]
-fn store_or_refusal_of_memory(rt: HostRuntime) {
+fn store_or_refusal_of_memory(rt: &(impl Abort + AllocGlobal)) {
     let mut refused = 0u64;
     for nth in 1..1000u64 {
         let heap = Metered::refusing(rt.alloc(), nth);
@@ -86,8 +88,7 @@ fn answered_after_load<A: Heap>(alloc: A) -> Result<usize, AllocError> {
     Ok(out.inner.len())
 }
 
-#[test]
-fn refused_load_adds_nothing(rt: HostRuntime) {
+fn refused_load_adds_nothing(rt: &(impl Abort + AllocGlobal)) {
     let counting = Metered::counting(rt.alloc());
     assert!(rt; store_of(&counting, SCHEMA).is_ok());
     let built = counting.requests(0);
@@ -100,4 +101,19 @@ fn refused_load_adds_nothing(rt: HostRuntime) {
         // The heading alone: three bytes.
         assert_eq!(rt; answered_after_load(&heap), Ok(3), "at {nth}");
     }
+}
+
+#[test]
+fn refused_memory_of_stores_and_answers_is_reported(rt: HostRuntime) {
+    reply_or_refusal_of_memory(&rt);
+    store_or_refusal_of_memory(&rt);
+    refused_load_adds_nothing(&rt);
+    open_or_out_of_memory(&rt);
+}
+
+#[test]
+fn refused_memory_of_tables_is_reported(rt: HostRuntime) -> Result<(), Fail> {
+    load_or_refusal_of_memory(&rt)?;
+    append_or_refusal_of_memory(&rt)?;
+    Ok(())
 }

@@ -35,7 +35,7 @@ impl Printer {
         self.at(offset)
     }
 
-    // What stands between two members of a list.
+    // What is between two members of a list.
     fn comma(&mut self, i: usize) -> Result<(), AllocError> {
         if i > 0 { self.word(", ") } else { Ok(()) }
     }

@@ -1,0 +1,250 @@
+//! Stores from a schema text and the files of their tables, the lines for what stops them, and the reply to arguments.
+
+use memory::Heap;
+use metered::Metered;
+use output::Output;
+use setup::{Arguments, Fault, Folder, open_store, reply, report};
+use std::process::Abort;
+use text::Text;
+
+/// The files of tables, by the tables' names.
+#[derive(Clone, Copy)]
+struct Files<'a> {
+    files: &'a [(&'a str, &'a str)],
+}
+
+impl<'a, A: Heap> Folder<A> for Files<'a> {
+    type File = &'a [u8];
+
+    ghost path = { λ _ table. table };
+
+    fn open(&self, alloc: A, table: &str) -> Result<&'a [u8], Fault<A>> {
+        for (name, text) in self.files {
+            if *name == table {
+                return Ok(text.as_bytes());
+            }
+        }
+        Err(Fault::Input(Text::new(alloc, table)?))
+    }
+}
+
+const SCHEMA: &str =
+    "CREATE ROLE alice; CREATE TABLE deal (id bigint NOT NULL, owner text, open boolean);
+CREATE TABLE region (id bigint); GRANT SELECT ON deal TO alice;";
+
+// The files of the tables, and the line and the status of a store that is not opened; an empty line for one that is.
+type Opening = (&'static [(&'static str, &'static str)], &'static str, u8);
+
+static SCHEMAS: [(&str, &str); 5] = [
+    ("CREATE ROLE a", "schema refused 42601 at 13\n"),
+    ("CREATE ROLE a; ?", "schema refused 42601 at 15\n"),
+    (
+        "CREATE ROLE a; CREATE ROLE a;",
+        "schema statement 2 refused 42710\n",
+    ),
+    (
+        "ALTER TABLE t OWNER TO root;",
+        "schema statement 1 refused 42P01\n",
+    ),
+    (
+        "CREATE ROLE a; CREATE INDEX i ON t (c);",
+        "schema statement 2 refused 0A000\n",
+    ),
+];
+
+static ROWS: [Opening; 6] = [
+    (
+        &[("region", "no header"), ("deal", "")],
+        "data deal header\n",
+        6,
+    ),
+    (
+        &[("region", "no header"), ("deal", "id,owner\n")],
+        "data deal header\n",
+        6,
+    ),
+    (
+        &[
+            ("region", "no header"),
+            ("deal", "id,owner,open\n1,alice\n"),
+        ],
+        "data deal row 1\n",
+        6,
+    ),
+    (
+        &[
+            ("region", "no header"),
+            ("deal", "id,owner,open\n1,alice,t\nx,alice,t\n"),
+        ],
+        "data deal row 2 column id\n",
+        6,
+    ),
+    (
+        &[
+            ("region", "no header"),
+            ("deal", "id,owner,open\n1,alice,T\n"),
+        ],
+        "data deal row 1 column open\n",
+        6,
+    ),
+    (
+        &[
+            ("region", "no header"),
+            ("deal", "id,owner,open\n1,alice,t\n2,bob,f\n\\N,alice,t\n"),
+        ],
+        "data deal row 3 column id null\n",
+        6,
+    ),
+];
+
+static ORDER: [Opening; 4] = [
+    (
+        &[
+            ("deal", "id,owner,open\n1,alice,t\n"),
+            ("region", "id\n7\n"),
+        ],
+        "",
+        0,
+    ),
+    (
+        &[
+            ("region", "id\nx\n"),
+            ("deal", "id,owner,open\n1,alice,t\n"),
+        ],
+        "data region row 1 column id\n",
+        6,
+    ),
+    (&[("region", "id\nx\n")], "input deal\n", 8),
+    (
+        &[("deal", "id,owner,open\n1,alice,t\n")],
+        "input region\n",
+        8,
+    ),
+];
+
+fn schemas() -> &'static [(&'static str, &'static str)] {
+    &SCHEMAS
+}
+
+fn rows() -> &'static [Opening] {
+    &ROWS
+}
+
+fn order() -> &'static [Opening] {
+    &ORDER
+}
+
+fn stopped(
+    rt: &(impl Abort + AllocGlobal),
+    name: &str,
+    schema: &str,
+    files: &[(&str, &str)],
+    want: (&str, u8),
+) {
+    let (line, status) = want;
+    let mut out = Output {
+        inner: Vec::new(rt.alloc()),
+        failed: 0,
+    };
+    let got = match open_store(rt.alloc(), schema, &Files { files }) {
+        Ok(_) => 0,
+        Err(fault) => report(rt.alloc(), &fault, &mut out),
+    };
+    assert_eq!(rt; out.inner.as_slice(), line.as_bytes(), "{name}: {line}");
+    assert_eq!(rt; got, status, "{name}: {line}");
+}
+
+fn by_schema(rt: &(impl Abort + AllocGlobal), name: &str) {
+    for (schema, line) in schemas() {
+        stopped(rt, name, schema, &[], (line, 6));
+    }
+}
+
+fn by_files(rt: &(impl Abort + AllocGlobal), name: &str, openings: &[Opening]) {
+    for (files, line, status) in openings {
+        stopped(rt, name, SCHEMA, files, (line, *status));
+    }
+}
+
+#[test]
+fn refused_openings_are_reported_by_a_line(rt: HostRuntime) {
+    by_schema(&rt, "lines_of_refused_schemas");
+    by_files(&rt, "lines_of_refused_rows", rows());
+    by_files(&rt, "tables_are_loaded_in_order_of_creation", order());
+}
+
+// A role, what its query is answered, and the status.
+static ANSWERS: [(&str, &str, u8); 3] = [
+    ("alice", "a\n4\n", 0),
+    ("bob", "denied 42501 column a of table t\n", 4),
+    ("carol", "refused 42704\n", 6),
+];
+
+fn answers() -> &'static [(&'static str, &'static str, u8)] {
+    &ANSWERS
+}
+
+fn asked(rt: &(impl Abort + AllocGlobal), role: &str, answer: &str, status: u8) {
+    let schema =
+        "CREATE ROLE alice; CREATE ROLE bob; CREATE TABLE t (a bigint); GRANT SELECT ON t TO alice;";
+    let arguments = Arguments {
+        schema: "schema.sql",
+        dir: "tables",
+        role,
+        text: "SELECT a FROM t",
+    };
+    let files = [("t", "a\n4\n")];
+    let mut out = Output {
+        inner: Vec::new(rt.alloc()),
+        failed: 0,
+    };
+    match open_store(rt.alloc(), schema, &Files { files: &files }) {
+        Ok(store) => {
+            let got = reply(rt.alloc(), &store, &arguments, &mut out);
+            assert_eq!(rt; got, status, "{role}");
+            assert_eq!(rt; out.inner.as_slice(), answer.as_bytes(), "{role}");
+        }
+        Err(_) => panic!(rt; "{role}"),
+    }
+}
+
+#[test]
+fn arguments_ask_as_their_role(rt: HostRuntime) {
+    for (role, answer, status) in answers() {
+        asked(&rt, role, answer, *status);
+    }
+}
+
+// The status and the line for a store that is not opened; no status for one that is.
+fn status_of<A: Heap>(alloc: A, out: &mut Output<Vec<u8>>) -> Option<u8> {
+    let files = [
+        ("deal", "id,owner,open\n1,alice,t\n"),
+        ("region", "id\n7\n"),
+    ];
+    match open_store(alloc, SCHEMA, &Files { files: &files }) {
+        Ok(_) => None,
+        Err(fault) => Some(report(alloc, &fault, out)),
+    }
+}
+
+/// An opening, with each request for memory refused in turn.
+pub fn open_or_out_of_memory(rt: &(impl Abort + AllocGlobal)) {
+    let mut refused = 0u64;
+    for nth in 1..1000u64 {
+        let heap = Metered::refusing(rt.alloc(), nth);
+        let mut out = Output {
+            inner: Vec::new(rt.alloc()),
+            failed: 0,
+        };
+        let status = status_of(&heap, &mut out);
+        if heap.requests(nth) < nth {
+            assert_eq!(rt; status, None, "at {nth}");
+            break;
+        }
+        assert_eq!(rt; status, Some(7), "at {nth}");
+        assert_eq!(rt; out.inner.as_slice(), b"memory\n".as_slice(), "at {nth}");
+        refused = nth;
+    }
+    assert!(rt; refused > 20, "{refused}");
+    assert!(rt; refused < 900, "{refused}");
+}

@@ -1,0 +1,403 @@
+//! Statements by roles, and what a store says of them.
+
+use crate::fixtures::{Stop, apply, deals, made};
+use engine::Store;
+use std::alloc::{AllocError, Global};
+use std::process::Abort;
+use std::test::Fail;
+use syntax::ParseError;
+use value::Refusal;
+
+// An actor, a schema text, and why it is refused.
+type Row = (&'static str, &'static str, Stop);
+
+// A name, what root applies to the store of the deals before each row, and the rows.
+type Group = (&'static str, &'static str, &'static [Row]);
+
+static REFUSED: [Group; 4] = [
+    (
+        "refused_by_root",
+        "",
+        &[
+            (
+                "root",
+                "CREATE ROLE alice;",
+                Stop::Statement(Refusal::DuplicateObject),
+            ),
+            (
+                "root",
+                "CREATE ROLE root;",
+                Stop::Statement(Refusal::DuplicateObject),
+            ),
+            (
+                "root",
+                "CREATE ROLE Public;",
+                Stop::Statement(Refusal::DuplicateObject),
+            ),
+            (
+                "root",
+                "CREATE TABLE deal (a bigint);",
+                Stop::Statement(Refusal::DuplicateTable),
+            ),
+            (
+                "root",
+                "CREATE TABLE t (a bigint, b text, A text);",
+                Stop::Statement(Refusal::DuplicateColumn),
+            ),
+            (
+                "root",
+                "ALTER TABLE nosuch OWNER TO nosuch;",
+                Stop::Statement(Refusal::UndefinedTable),
+            ),
+            (
+                "root",
+                "ALTER TABLE deal OWNER TO nosuch;",
+                Stop::Statement(Refusal::UndefinedObject),
+            ),
+            (
+                "root",
+                "ALTER TABLE deal OWNER TO public;",
+                Stop::Statement(Refusal::UndefinedObject),
+            ),
+            (
+                "root",
+                "ALTER TABLE nosuch ENABLE ROW LEVEL SECURITY;",
+                Stop::Statement(Refusal::UndefinedTable),
+            ),
+            (
+                "root",
+                "GRANT SELECT ON nosuch TO nosuch;",
+                Stop::Statement(Refusal::UndefinedTable),
+            ),
+            (
+                "root",
+                "GRANT SELECT ON deal TO alice, nosuch;",
+                Stop::Statement(Refusal::UndefinedObject),
+            ),
+            (
+                "root",
+                "CREATE POLICY p ON nosuch USING (a = 1);",
+                Stop::Statement(Refusal::UndefinedTable),
+            ),
+            (
+                "root",
+                "CREATE POLICY p ON deal USING (id = 1);",
+                Stop::Statement(Refusal::FeatureNotSupported),
+            ),
+        ],
+    ),
+    (
+        "refused_policies",
+        "CREATE TABLE t (a bigint, b text, d boolean);",
+        &[
+            (
+                "root",
+                "CREATE POLICY p ON t TO nosuch USING (c = 1);",
+                Stop::Statement(Refusal::UndefinedObject),
+            ),
+            (
+                "root",
+                "CREATE POLICY p ON t USING (deal.a = 1);",
+                Stop::Statement(Refusal::UndefinedTable),
+            ),
+            (
+                "root",
+                "CREATE POLICY p ON t USING (c = 1);",
+                Stop::Statement(Refusal::UndefinedColumn),
+            ),
+            (
+                "root",
+                "CREATE POLICY p ON t USING (a = 'x');",
+                Stop::Statement(Refusal::DatatypeMismatch),
+            ),
+            (
+                "root",
+                "CREATE POLICY p ON t USING (b = 1);",
+                Stop::Statement(Refusal::DatatypeMismatch),
+            ),
+            (
+                "root",
+                "CREATE POLICY p ON t USING (b = TRUE);",
+                Stop::Statement(Refusal::DatatypeMismatch),
+            ),
+            (
+                "root",
+                "CREATE POLICY p ON t USING (a = CURRENT_USER);",
+                Stop::Statement(Refusal::DatatypeMismatch),
+            ),
+            (
+                "root",
+                "CREATE POLICY p ON t USING (d = 't');",
+                Stop::Statement(Refusal::DatatypeMismatch),
+            ),
+            (
+                "root",
+                "CREATE POLICY p ON t USING (d = CURRENT_USER);",
+                Stop::Statement(Refusal::DatatypeMismatch),
+            ),
+        ],
+    ),
+    (
+        "refused_by_others",
+        "",
+        &[
+            (
+                "zed",
+                "CREATE TABLE t (a bigint);",
+                Stop::Statement(Refusal::UndefinedObject),
+            ),
+            (
+                "boss",
+                "CREATE ROLE new;",
+                Stop::Statement(Refusal::InsufficientPrivilege),
+            ),
+            (
+                "alice",
+                "ALTER TABLE deal ENABLE ROW LEVEL SECURITY;",
+                Stop::Statement(Refusal::InsufficientPrivilege),
+            ),
+            (
+                "alice",
+                "GRANT SELECT ON deal TO nosuch;",
+                Stop::Statement(Refusal::InsufficientPrivilege),
+            ),
+            (
+                "boss",
+                "ALTER TABLE deal OWNER TO alice;",
+                Stop::Statement(Refusal::InsufficientPrivilege),
+            ),
+            (
+                "alice",
+                "ALTER TABLE deal OWNER TO alice;",
+                Stop::Statement(Refusal::InsufficientPrivilege),
+            ),
+        ],
+    ),
+    (
+        "refused_schema_texts",
+        "",
+        &[
+            ("root", "CREATE", Stop::Parse(ParseError::Syntax(6))),
+            ("root", "CREATE ROLE a", Stop::Parse(ParseError::Syntax(13))),
+            (
+                "root",
+                "CREATE ROLE select;",
+                Stop::Parse(ParseError::Syntax(12)),
+            ),
+            (
+                "root",
+                "CREATE TABLE t ();",
+                Stop::Parse(ParseError::Syntax(16)),
+            ),
+            (
+                "root",
+                "CREATE POLICY p ON t USING (a = 9223372036854775808);",
+                Stop::Parse(ParseError::Syntax(32)),
+            ),
+            (
+                "root",
+                "CREATE POLICY p ON t USING (a = '\\N');",
+                Stop::Parse(ParseError::Syntax(32)),
+            ),
+            (
+                "root",
+                "; CREATE ROLE a;",
+                Stop::Parse(ParseError::Syntax(0)),
+            ),
+            (
+                "root",
+                "CREATE ROLE a; -- more",
+                Stop::Parse(ParseError::Syntax(15)),
+            ),
+        ],
+    ),
+];
+
+// What is not supported yet is refused before all else: names that nothing has, and an actor that may not.
+static NOT_SERVED: [&str; 23] = [
+    "CREATE ROLE alice SUPERUSER;",
+    "CREATE ROLE new BYPASSRLS;",
+    "GRANT alice TO boss;",
+    "GRANT nosuch TO nosuch;",
+    "REVOKE alice FROM boss;",
+    "CREATE INDEX i ON nosuch (id);",
+    "ALTER TABLE nosuch DISABLE ROW LEVEL SECURITY;",
+    "ALTER TABLE deal FORCE ROW LEVEL SECURITY;",
+    "ALTER TABLE deal NO FORCE ROW LEVEL SECURITY;",
+    "GRANT SELECT (id) ON nosuch TO nosuch;",
+    "GRANT SELECT (id, owner) ON deal TO lone;",
+    "REVOKE SELECT ON nosuch FROM nosuch;",
+    "REVOKE SELECT (id) ON deal FROM PUBLIC;",
+    "DROP POLICY own ON deal;",
+    "CREATE POLICY p ON nosuch USING (id > 1);",
+    "CREATE POLICY p ON nosuch AS RESTRICTIVE USING (id = 1);",
+    "CREATE POLICY p ON nosuch TO nosuch USING (1 = id);",
+    "CREATE POLICY p ON deal USING (id = 1 AND owner = 'x');",
+    "CREATE POLICY p ON deal USING (TRUE);",
+    "CREATE POLICY p ON deal USING (id = id);",
+    "CREATE POLICY p ON deal USING (id = 1 IS NULL);",
+    "CREATE POLICY p ON deal USING (id + 1 = 2);",
+    "CREATE POLICY p ON deal USING (NOT id = 1);",
+];
+
+fn refused() -> &'static [Group] {
+    &REFUSED
+}
+
+fn not_served() -> &'static [&'static str] {
+    &NOT_SERVED
+}
+
+// The store of the deals, after what root applies.
+fn store_after(rt: &(impl Abort + AllocGlobal), before: &str) -> Store<Global> {
+    let mut store = made(rt, deals(rt.alloc()));
+    if !before.is_empty() {
+        assert_eq!(rt;
+            apply(rt.alloc(), &mut store, "root", before),
+            Ok(()),
+            "{before}"
+        );
+    }
+    store
+}
+
+// A refused text, and that the store has its roles and tables as before.
+fn is_refused(rt: &(impl Abort + AllocGlobal), name: &str, before: &str, row: &Row) {
+    let (actor, text, why) = row;
+    let mut store = store_after(rt, before);
+    let roles = store.catalog().roles();
+    let tables = store.catalog().tables();
+    let done = apply(rt.alloc(), &mut store, actor, text);
+    assert_eq!(rt; done, Err(*why), "{name}: {actor}: {text}");
+    assert_eq!(rt; store.catalog().roles(), roles, "{name}: {actor}: {text}");
+    assert_eq!(rt; store.catalog().tables(), tables, "{name}: {actor}: {text}");
+}
+
+fn are_refused(rt: &(impl Abort + AllocGlobal), group: &Group) {
+    let (name, before, rows) = group;
+    for row in *rows {
+        is_refused(rt, name, before, row);
+    }
+}
+
+#[test]
+fn refused_statements_and_schemas(rt: HostRuntime) {
+    for group in refused() {
+        are_refused(&rt, group);
+    }
+}
+
+fn served_to_nobody(rt: &(impl Abort + AllocGlobal), text: &str) {
+    for actor in ["root", "lone", "zed"] {
+        let mut store = made(rt, deals(rt.alloc()));
+        let done = apply(rt.alloc(), &mut store, actor, text);
+        let want = Err(Stop::Statement(Refusal::FeatureNotSupported));
+        assert_eq!(rt; done, want, "{actor}: {text}");
+        assert_eq!(rt; store.catalog().roles(), 4, "{actor}: {text}");
+        assert_eq!(rt; store.catalog().tables(), 1, "{actor}: {text}");
+    }
+}
+
+#[test]
+fn statements_not_supported_yet_are_refused_before_all_else(rt: HostRuntime) {
+    for text in not_served() {
+        served_to_nobody(&rt, text);
+    }
+}
+
+// A name, the texts that actors apply in turn, and the number of tables after them.
+type Accepted = (&'static str, &'static [(&'static str, &'static str)], usize);
+
+static ACCEPTED: [Accepted; 3] = [
+    (
+        "served_with_all_words",
+        &[
+            (
+                "alice",
+                "CREATE TABLE t (a bigint NOT NULL, b boolean);
+        CREATE POLICY p ON t AS PERMISSIVE FOR SELECT TO lone, PUBLIC USING ((b = TRUE));",
+            ),
+            (
+                "alice",
+                "CREATE TABLE u (a text); CREATE POLICY p ON u FOR ALL USING (u.a = CURRENT_USER);",
+            ),
+        ],
+        3,
+    ),
+    (
+        "owners_may",
+        &[
+            (
+                "boss",
+                "GRANT SELECT ON deal TO lone; ALTER TABLE deal OWNER TO boss;",
+            ),
+            (
+                "alice",
+                "CREATE TABLE mine (a text); ALTER TABLE mine ENABLE ROW LEVEL SECURITY;
+        CREATE POLICY p ON mine TO lone, PUBLIC USING (a = 'x');",
+            ),
+        ],
+        2,
+    ),
+    ("empty_schema_is_accepted", &[("root", " \n")], 1),
+];
+
+fn accepted() -> &'static [Accepted] {
+    &ACCEPTED
+}
+
+fn is_accepted(rt: &(impl Abort + AllocGlobal), row: &Accepted) {
+    let (name, texts, tables) = row;
+    let mut store = made(rt, deals(rt.alloc()));
+    for (actor, text) in *texts {
+        assert_eq!(rt;
+            apply(rt.alloc(), &mut store, actor, text),
+            Ok(()),
+            "{name}: {text}"
+        );
+    }
+    assert_eq!(rt; store.catalog().tables(), *tables, "{name}");
+}
+
+#[test]
+fn owners_create_and_grant(rt: HostRuntime) {
+    for row in accepted() {
+        is_accepted(&rt, row);
+    }
+}
+
+// Root applies a text with a number in it, so many times.
+fn applied_times(
+    rt: &(impl Abort + AllocGlobal),
+    store: &mut Store<Global>,
+    parts: (&str, &str),
+    many: u32,
+) -> Result<(), AllocError> {
+    let (before, after) = parts;
+    for i in 0..many {
+        let text = format!(in rt.alloc(); "{before}{i}{after}")?;
+        assert_eq!(rt;
+            apply(rt.alloc(), store, "root", text.as_str()),
+            Ok(()),
+            "{text}"
+        );
+    }
+    Ok(())
+}
+
+fn past_limit(rt: &(impl Abort + AllocGlobal), store: &mut Store<Global>, text: &str) {
+    let want = Err(Stop::Statement(Refusal::ProgramLimitExceeded));
+    assert_eq!(rt; apply(rt.alloc(), store, "root", text), want, "{text}");
+}
+
+#[test]
+fn limits_of_roles_and_tables(rt: HostRuntime) -> Result<(), Fail> {
+    let mut store = Store::new(rt.alloc())?;
+    applied_times(&rt, &mut store, ("CREATE ROLE r", ";"), 255)?;
+    past_limit(&rt, &mut store, "CREATE ROLE more;");
+    applied_times(&rt, &mut store, ("CREATE TABLE t", " (a text);"), 64)?;
+    past_limit(&rt, &mut store, "CREATE TABLE more (a text);");
+    assert_eq!(rt; store.catalog().roles(), 256);
+    assert_eq!(rt; store.catalog().tables(), 64);
+    Ok(())
+}

@@ -1,0 +1,516 @@
+//! Tables that are read from comma-separated text, and how they are refused.
+
+ghost use Rattle.std.specs.Prelude.{◌<◌, length};
+
+use memory::Heap;
+use metered::Metered;
+use std::alloc::{AllocError, Global};
+use std::io;
+use std::io::{ErrorKind, Read};
+use std::process::Abort;
+use std::test::Fail;
+use tables::{Column, LoadError, Table};
+use text::{Items, Text};
+use value::{ColType, Val};
+
+/// Five deals: numbers, texts, truth values and nulls.
+const DEAL: &str =
+    "id,owner,region,parts,open\n1,alice,1,4,t\n2,alice,2,0,f\n3,bob,1,7,t\n4,bob,2,\\N,\\N\n5,alice,\\N,5,f\n";
+
+/// The same deals, as `shown` writes them.
+const DEAL_ROWS: &str =
+    "1;'alice';1;4;t;/2;'alice';2;0;f;/3;'bob';1;7;t;/4;'bob';2;null;null;/5;'alice';null;5;f;/";
+
+fn deal_columns<A: Heap>(alloc: A) -> Result<Items<Column<A>, A>, AllocError> {
+    let mut columns = Items::new(alloc);
+    let rows = [
+        ("id", ColType::Bigint, true),
+        ("owner", ColType::Text, true),
+        ("region", ColType::Bigint, false),
+        ("parts", ColType::Bigint, false),
+        ("open", ColType::Boolean, false),
+    ];
+    for (name, kind, required) in rows {
+        let name = Text::new(alloc, name)?;
+        columns.push(Column {
+            name,
+            kind,
+            required,
+        })?;
+    }
+    Ok(columns)
+}
+
+fn load<A: Heap, R: Read + Drop>(alloc: A, rdr: R) -> Result<Table<A>, LoadError> {
+    Table::load(alloc, rdr, deal_columns(alloc)?)
+}
+
+fn loaded(rt: &(impl Abort + AllocGlobal), text: &str) -> Table<Global> {
+    match load(rt.alloc(), text.as_bytes()) {
+        Ok(table) => table,
+        Err(error) => panic!(rt; "{text}: {error:?}"),
+    }
+}
+
+fn shown_value<A: Heap>(alloc: Global, value: &Val<'_, A>) -> Result<String, AllocError> {
+    match value {
+        Val::Null => format!(in alloc; "null;"),
+        Val::Int(n) => format!(in alloc; "{n};"),
+        Val::Text(text) => format!(in alloc; "'{}';", text.as_str()),
+        Val::Bool(true) => format!(in alloc; "t;"),
+        Val::Bool(false) => format!(in alloc; "f;"),
+    }
+}
+
+fn show_row<A: Heap>(
+    alloc: Global,
+    text: &mut String,
+    table: &Table<A>,
+    row: u64,
+) -> Result<(), AllocError>
+    requires { row < length table.now.rows }
+{
+    for column in 0..table.columns().len() {
+        text.push_str(shown_value(alloc, &table.cell(row, column as u64))?.as_str())?;
+    }
+    text.push('/')?;
+    Ok(())
+}
+
+// The rows of a table in one text.
+fn shown<A: Heap>(alloc: Global, table: &Table<A>) -> Result<String, AllocError> {
+    let mut text = String::new(alloc);
+    for row in 0..table.rows() {
+        show_row(alloc, &mut text, table, row)?;
+    }
+    Ok(text)
+}
+
+// A name, a text before each row and one after it, and the rows with the fault of the whole.
+type Group = (
+    &'static str,
+    &'static str,
+    &'static str,
+    &'static [(&'static str, LoadError)],
+);
+
+static REFUSED: [Group; 4] = [
+    (
+        "header_is_the_names_in_order",
+        "",
+        "",
+        &[
+            ("", LoadError::Header),
+            ("\n\n", LoadError::Header),
+            ("\u{feff}", LoadError::Header),
+            ("id", LoadError::Header),
+            ("id,owner,region,parts\n", LoadError::Header),
+            ("id,owner,region,parts,open,\n", LoadError::Header),
+            ("id,owner,region,parts,Open\n", LoadError::Header),
+            ("id,owner,region,parts, open\n", LoadError::Header),
+            ("owner,id,region,parts,open\n", LoadError::Header),
+            ("1,alice,1,4,t\n", LoadError::Header),
+            (
+                "\u{feff}\u{feff}id,owner,region,parts,open\n",
+                LoadError::Header,
+            ),
+        ],
+    ),
+    (
+        "cells_of_no_value_are_reported",
+        "id,owner,region,parts,open\n1,a,1,1,t\n",
+        "\n2,b\n",
+        &[
+            ("-0,a,1,1,t", LoadError::Cell { row: 2, column: 0 }),
+            ("007,a,1,1,t", LoadError::Cell { row: 2, column: 0 }),
+            ("+1,a,1,1,t", LoadError::Cell { row: 2, column: 0 }),
+            (" 1,a,1,1,t", LoadError::Cell { row: 2, column: 0 }),
+            (
+                "9223372036854775808,a,1,1,t",
+                LoadError::Cell { row: 2, column: 0 },
+            ),
+            (
+                "-9223372036854775809,a,1,1,t",
+                LoadError::Cell { row: 2, column: 0 },
+            ),
+            ("\\n,a,1,1,t", LoadError::Cell { row: 2, column: 0 }),
+            ("1,a,,1,t", LoadError::Cell { row: 2, column: 2 }),
+            ("1,a,1,x,t", LoadError::Cell { row: 2, column: 3 }),
+            ("1,a,1,1,T", LoadError::Cell { row: 2, column: 4 }),
+            ("1,a,1,1,true", LoadError::Cell { row: 2, column: 4 }),
+            ("1,a,1,1,", LoadError::Cell { row: 2, column: 4 }),
+            // The first column decides.
+            ("1,a,x,y,T", LoadError::Cell { row: 2, column: 2 }),
+            ("x,\\N,1,1,t", LoadError::Cell { row: 2, column: 0 }),
+        ],
+    ),
+    (
+        "null_is_refused_where_one_is_not_taken",
+        "id,owner,region,parts,open\n",
+        "\n",
+        &[
+            ("\\N,a,1,1,t", LoadError::NotNull { row: 1, column: 0 }),
+            ("1,\\N,1,1,t", LoadError::NotNull { row: 1, column: 1 }),
+            ("1,\"\\N\",1,1,t", LoadError::NotNull { row: 1, column: 1 }),
+            ("\\N,\\N,x,x,x", LoadError::NotNull { row: 1, column: 0 }),
+        ],
+    ),
+    (
+        "uneven_records_and_cut_texts",
+        "",
+        "",
+        &[
+            (
+                "id,owner,region,parts,open\n1,alice,1,4\n",
+                LoadError::Reader { row: 1 },
+            ),
+            (
+                "id,owner,region,parts,open\n1,alice,1,4,t,t\n",
+                LoadError::Reader { row: 1 },
+            ),
+            (
+                "id,owner,region,parts,open\n1,alice,1,4,t\n2\n3,bob\n",
+                LoadError::Reader { row: 2 },
+            ),
+            // The number of fields is reported before the cells, and an earlier row before both.
+            (
+                "id,owner,region,parts,open\nx,\\N,1,4\n",
+                LoadError::Reader { row: 1 },
+            ),
+            (
+                "id,owner,region,parts,open\n1,alice,1,4,t\n2,alice,2,0,f\n3,bob,1",
+                LoadError::Reader { row: 3 },
+            ),
+            (
+                "id,owner,region,parts,open\n1,alice,1,4,t\n2,alice,2,0,f\n3,bob,1,",
+                LoadError::Reader { row: 3 },
+            ),
+            (
+                "id,owner,region,parts,open\n1,alice,1,4,t\n2,alice,2,0,f\n3,bob,1,7,",
+                LoadError::Cell { row: 3, column: 4 },
+            ),
+        ],
+    ),
+];
+
+// Bytes of no text.
+static NO_TEXTS: [(&[u8], LoadError); 3] = [
+    (
+        b"id,owner,region,parts,open\n1,a,1,1,t\n2,b\xff,1,1,t\n",
+        LoadError::Cell { row: 2, column: 1 },
+    ),
+    (
+        b"id,owner,region,parts,open\n1,a,1,\xc3,t\n",
+        LoadError::Cell { row: 1, column: 3 },
+    ),
+    (b"id,owner,region,parts,op\xffn\n", LoadError::Header),
+];
+
+// Texts, and the rows that they give.
+static GOOD: [(&str, &str); 12] = [
+    (DEAL, DEAL_ROWS),
+    ("id,owner,region,parts,open\n", ""),
+    ("id,owner,region,parts,open", ""),
+    (
+        "id,owner,region,parts,open\r\n1,a,1,1,t\r\n\r\n2,b,1,1,f",
+        "1;'a';1;1;t;/2;'b';1;1;f;/",
+    ),
+    (
+        "\"id\",owner,\"region\",parts,open\n\"1\",\"x,y\",\"2\",3,\"t\"\n",
+        "1;'x,y';2;3;t;/",
+    ),
+    (
+        "id,owner,region,parts,open\n1,\"say \"\"hi\"\"\",1,1,t\n",
+        "1;'say \"hi\"';1;1;t;/",
+    ),
+    (
+        "id,owner,region,parts,open\n1,\"two\r\nlines\n\",1,1,t\n",
+        "1;'two\r\nlines\n';1;1;t;/",
+    ),
+    (
+        "id,owner,region,parts,open\n1,,\"\\N\",\\N,\"\\N\"\n2,\"\",1,1,f\n",
+        "1;'';null;null;null;/2;'';1;1;f;/",
+    ),
+    (
+        "id,owner,region,parts,open\n-9223372036854775808, \\N,9223372036854775807,0,f\n",
+        "-9223372036854775808;' \\N';9223372036854775807;0;f;/",
+    ),
+    (
+        "\u{feff}id,owner,region,parts,open\n1,\u{feff}a,1,1,t\n",
+        "1;'\u{feff}a';1;1;t;/",
+    ),
+    (
+        "\u{feff}\"id\",owner,region,parts,open\n1,\u{e4}\u{1f600},1,-1,t\n",
+        "1;'\u{e4}\u{1f600}';1;-1;t;/",
+    ),
+    // A cut at a line's end is a shorter table.
+    (
+        "id,owner,region,parts,open\n1,alice,1,4,t\n2,alice,2,0,f\n",
+        "1;'alice';1;4;t;/2;'alice';2;0;f;/",
+    ),
+];
+
+fn refused() -> &'static [Group] {
+    &REFUSED
+}
+
+fn no_texts() -> &'static [(&'static [u8], LoadError)] {
+    &NO_TEXTS
+}
+
+fn good() -> &'static [(&'static str, &'static str)] {
+    &GOOD
+}
+
+fn is_refused(
+    rt: &(impl Abort + AllocGlobal),
+    name: &str,
+    parts: (&str, &str, &str),
+    want: LoadError,
+) -> Result<(), AllocError> {
+    let (before, row, after) = parts;
+    let text = format!(in rt.alloc(); "{before}{row}{after}")?;
+    let found = load(rt.alloc(), text.as_str().as_bytes()).err();
+    assert_eq!(rt; found, Some(want), "{name}: {text}");
+    Ok(())
+}
+
+fn are_refused(rt: &(impl Abort + AllocGlobal), group: &Group) -> Result<(), AllocError> {
+    let (name, before, after, rows) = group;
+    for (row, want) in *rows {
+        is_refused(rt, name, (before, row, after), *want)?;
+    }
+    Ok(())
+}
+
+fn bytes_of_no_text_are_reported(rt: &(impl Abort + AllocGlobal)) {
+    for (bytes, want) in no_texts() {
+        let found = load(rt.alloc(), *bytes).err();
+        assert_eq!(rt; found, Some(*want), "bytes_of_no_text_are_reported");
+    }
+}
+
+#[test]
+fn refused_texts_of_tables(rt: HostRuntime) -> Result<(), Fail> {
+    for group in refused() {
+        are_refused(&rt, group)?;
+    }
+    bytes_of_no_text_are_reported(&rt);
+    Ok(())
+}
+
+/// Gives at most `step` bytes a call, and fails once `left` calls are over.
+#[derive(Drop)]
+struct Pieces<'a> {
+    bytes: &'a [u8],
+    step: usize,
+    left: u64,
+}
+
+impl Read for Pieces<'_> {
+    fn read(&mut self, buf: &mut [u8]) -> io::Result<usize> {
+        if self.left == 0 {
+            return Err(io::Error::from(ErrorKind::Other));
+        }
+        self.left -= 1;
+        let n = self.bytes.len().min(buf.len()).min(self.step);
+        buf[..n].copy_from_slice(&self.bytes[..n]);
+        self.bytes = &self.bytes[n..];
+        Ok(n)
+    }
+}
+
+fn in_pieces(text: &str, step: usize, left: u64) -> Pieces<'_> {
+    Pieces {
+        bytes: text.as_bytes(),
+        step,
+        left,
+    }
+}
+
+// A reader gives a text, of which the rows are shown.
+fn gives<R: Read + Drop>(
+    rt: &(impl Abort + AllocGlobal),
+    name: &str,
+    reader: R,
+    want: &str,
+) -> Result<(), AllocError> {
+    match load(rt.alloc(), reader) {
+        Ok(table) => {
+            assert_eq!(rt; shown(rt.alloc(), &table)?.as_str(), want, "{name}");
+            Ok(())
+        }
+        Err(error) => panic!(rt; "{name}: {want}: {error:?}"),
+    }
+}
+
+fn rows_do_not_depend_on_pieces(
+    rt: &(impl Abort + AllocGlobal),
+    text: &str,
+    want: &str,
+) -> Result<(), AllocError> {
+    for step in [1usize, 2, 3, 5] {
+        gives(
+            rt,
+            "rows_do_not_depend_on_pieces",
+            in_pieces(text, step, 1000),
+            want,
+        )?;
+    }
+    Ok(())
+}
+
+fn cells_by_their_place(rt: &(impl Abort + AllocGlobal)) {
+    let table = loaded(rt, DEAL);
+    assert_eq!(rt; table.rows(), 5);
+    assert_eq!(rt; table.columns().len(), 5);
+    let mut found = 0u64;
+    for row in 0..table.rows() {
+        if table.columns().len() > 1 && matches!(table.cell(row, 0), value::Val::Int(4)) {
+            found = row;
+        }
+    }
+    assert_eq!(rt; found, 3);
+}
+
+#[test]
+fn rows_of_texts_whole_and_in_pieces(rt: HostRuntime) -> Result<(), Fail> {
+    for (text, want) in good() {
+        gives(&rt, "rows_of_texts", text.as_bytes(), want)?;
+        rows_do_not_depend_on_pieces(&rt, text, want)?;
+    }
+    cells_by_their_place(&rt);
+    Ok(())
+}
+
+// How many lines end among the first bytes of a text.
+fn lines_in(text: &str, bytes: u64) -> u64 {
+    let mut lines = 0u64;
+    for (i, byte) in text.as_bytes().iter().enumerate() {
+        if (i as u64) < bytes && *byte == b'\n' {
+            lines = lines.saturating_add(1);
+        }
+    }
+    lines
+}
+
+fn failed_read_gives_no_table(rt: &(impl Abort + AllocGlobal)) {
+    let mut refused = 0u64;
+    for left in 0..1000u64 {
+        match load(rt.alloc(), in_pieces(DEAL, 1, left)) {
+            Ok(_) => break,
+            Err(error) => {
+                let row = lines_in(DEAL, left);
+                assert_eq!(rt; error, LoadError::Reader { row }, "at {left}");
+            }
+        }
+        refused = left;
+    }
+    assert_eq!(rt; refused, DEAL.len() as u64);
+}
+
+fn failed_read_adds_no_rows(rt: &(impl Abort + AllocGlobal)) -> Result<(), AllocError> {
+    let mut table = loaded(rt, DEAL);
+    for left in 0..80u64 {
+        let found = table.append(in_pieces(DEAL, 1, left)).err();
+        let row = lines_in(DEAL, left);
+        assert_eq!(rt; found, Some(LoadError::Reader { row }), "at {left}");
+        assert_eq!(rt; shown(rt.alloc(), &table)?.as_str(), DEAL_ROWS);
+    }
+    Ok(())
+}
+
+#[test]
+fn failed_reads_add_nothing(rt: HostRuntime) -> Result<(), Fail> {
+    failed_read_gives_no_table(&rt);
+    failed_read_adds_no_rows(&rt)?;
+    Ok(())
+}
+
+// Texts that are refused for a table of deals.
+static MORE_REFUSED: [&str; 3] = [
+    "id,owner\n",
+    "id,owner,region,parts,open\n7,dan,1,1,t\n8\n",
+    "id,owner,region,parts,open\n7,dan,1,1,t\n\\N,dan,1,1,t\n",
+];
+
+fn more_refused() -> &'static [&'static str] {
+    &MORE_REFUSED
+}
+
+// A table that refuses texts shows its rows as before.
+fn adds_nothing(
+    rt: &(impl Abort + AllocGlobal),
+    table: &mut Table<Global>,
+    want: &str,
+) -> Result<(), AllocError> {
+    for text in more_refused() {
+        assert!(rt; table.append(text.as_bytes()).is_err(), "{text}");
+        assert_eq!(rt; shown(rt.alloc(), table)?.as_str(), want, "{text}");
+    }
+    Ok(())
+}
+
+// rows_come_to_those_before
+#[test]
+fn appended_rows_come_after_those_before(rt: HostRuntime) -> Result<(), Fail> {
+    let alloc = rt.alloc();
+    let mut table = loaded(&rt, DEAL);
+    let more = "id,owner,region,parts,open\n6,carol,1,1,t\n";
+    assert_eq!(rt; table.append(more.as_bytes()), Ok(()));
+    let want = format!(in alloc; "{DEAL_ROWS}6;'carol';1;1;t;/")?;
+    assert_eq!(rt; shown(alloc, &table)?.as_str(), want.as_str());
+    adds_nothing(&rt, &mut table, want.as_str())?;
+    let found = table.append("id,owner,region,parts,open\n7\n".as_bytes());
+    assert_eq!(rt; found, Err(LoadError::Reader { row: 1 }));
+    assert_eq!(rt; table.rows(), 6);
+    Ok(())
+}
+
+/// A load, with each request for memory refused in turn.
+pub fn load_or_refusal_of_memory(rt: &(impl Abort + AllocGlobal)) -> Result<(), AllocError> {
+    let mut refused = 0u64;
+    for nth in 1..1000u64 {
+        let heap = Metered::refusing(rt.alloc(), nth);
+        match load(&heap, DEAL.as_bytes()) {
+            Ok(table) => {
+                assert_eq!(rt; shown(rt.alloc(), &table)?.as_str(), DEAL_ROWS, "at {nth}");
+                assert!(rt; heap.requests(nth) < nth, "at {nth}");
+                break;
+            }
+            Err(error) => assert_eq!(rt; error, LoadError::OutOfMemory, "at {nth}"),
+        }
+        refused = nth;
+    }
+    assert!(rt; refused > 10, "{refused}");
+    assert!(rt; refused < 900, "{refused}");
+    Ok(())
+}
+
+/// An append, with each request for memory refused in turn.
+pub fn append_or_refusal_of_memory(rt: &(impl Abort + AllocGlobal)) -> Result<(), AllocError> {
+    let twice = format!(in rt.alloc(); "{DEAL_ROWS}{DEAL_ROWS}")?;
+    let counting = Metered::counting(rt.alloc());
+    assert!(rt; load(&counting, DEAL.as_bytes()).is_ok());
+    let built = counting.requests(0);
+    let mut refused = 0u64;
+    for n in 1..1000u64 {
+        let nth = built.saturating_add(n);
+        let heap = Metered::refusing(rt.alloc(), nth);
+        let Ok(mut table) = load(&heap, DEAL.as_bytes()) else {
+            panic!(rt; "loaded with fewer requests before");
+        };
+        let done = table.append(DEAL.as_bytes());
+        let rows = shown(rt.alloc(), &table)?;
+        if heap.requests(nth) < nth {
+            assert_eq!(rt; done, Ok(()), "at {n}");
+            assert_eq!(rt; rows.as_str(), twice.as_str(), "at {n}");
+            break;
+        }
+        assert_eq!(rt; done, Err(LoadError::OutOfMemory), "at {n}");
+        assert_eq!(rt; rows.as_str(), DEAL_ROWS, "at {n}");
+        refused = n;
+    }
+    assert!(rt; refused > 10, "{refused}");
+    Ok(())
+}

@@ -1,0 +1,376 @@
+//! Values: arithmetic, logic of three values, comparison, and texts.
+
+use std::alloc::{AllocError, Global};
+use std::process::Abort;
+use std::test::Fail;
+use value::{
+    CastError, ColType, Kind, ReadError, Truth, Val, Value, add, and3, as_condition, cast, div,
+    eq3, lt3, mul, neg, not3, of_truth, or3, read_bigint, read_value, rem, sub, text_of,
+};
+
+// A value of a row.
+#[derive(Clone, Copy)]
+enum Sample {
+    Null,
+    Int(i64),
+    Bool(bool),
+}
+
+use Sample::{Bool, Int, Null};
+
+fn value_of<'r>(sample: Sample) -> Val<'r, Global> {
+    match sample {
+        Null => Val::Null,
+        Int(n) => Val::Int(n),
+        Bool(b) => Val::Bool(b),
+    }
+}
+
+// ---- arithmetic
+
+#[derive(Clone, Copy)]
+enum Operation {
+    Add,
+    Sub,
+    Mul,
+    Div,
+    Rem,
+    Neg,
+}
+
+use Operation::{Add, Div, Mul, Neg, Rem, Sub};
+
+// An operation, its operands, and its result; a Neg has one operand.
+type Computed = (Operation, Sample, Sample, Result<Option<i64>, Kind>);
+
+const MOST: Sample = Int(i64::MAX);
+
+const LEAST: Sample = Int(i64::MIN);
+
+static ARITHMETIC: [(&str, &[Computed]); 4] = [
+    (
+        "sums_differences_and_products",
+        &[
+            (Add, Int(2), Int(-5), Ok(Some(-3))),
+            (Add, MOST, Int(1), Err(Kind::Range)),
+            (Add, LEAST, Int(-1), Err(Kind::Range)),
+            (Sub, Int(2), Int(5), Ok(Some(-3))),
+            (Sub, Int(-1), LEAST, Ok(Some(i64::MAX))),
+            (Sub, Int(0), LEAST, Err(Kind::Range)),
+            (Mul, Int(-7), Int(6), Ok(Some(-42))),
+            (Mul, LEAST, Int(-1), Err(Kind::Range)),
+            (Neg, MOST, Null, Ok(Some(-9_223_372_036_854_775_807))),
+            (Neg, LEAST, Null, Err(Kind::Range)),
+        ],
+    ),
+    // The quotient and the remainder of each pair.
+    (
+        "division_toward_zero",
+        &[
+            (Div, Int(7), Int(2), Ok(Some(3))),
+            (Rem, Int(7), Int(2), Ok(Some(1))),
+            (Div, Int(-7), Int(2), Ok(Some(-3))),
+            (Rem, Int(-7), Int(2), Ok(Some(-1))),
+            (Div, Int(7), Int(-2), Ok(Some(-3))),
+            (Rem, Int(7), Int(-2), Ok(Some(1))),
+            (Div, Int(-7), Int(-2), Ok(Some(3))),
+            (Rem, Int(-7), Int(-2), Ok(Some(-1))),
+            (Div, Int(0), Int(-3), Ok(Some(0))),
+            (Rem, Int(0), Int(-3), Ok(Some(0))),
+            (Div, LEAST, Int(1), Ok(Some(i64::MIN))),
+            (Rem, LEAST, Int(1), Ok(Some(0))),
+            (Div, LEAST, Int(2), Ok(Some(-4_611_686_018_427_387_904))),
+            (Rem, LEAST, Int(2), Ok(Some(0))),
+        ],
+    ),
+    (
+        "least_by_minus_one_and_division_by_zero",
+        &[
+            (Div, LEAST, Int(-1), Err(Kind::Range)),
+            (Rem, LEAST, Int(-1), Ok(Some(0))),
+            (Div, Int(1), Int(0), Err(Kind::Div0)),
+            (Rem, Int(1), Int(0), Err(Kind::Div0)),
+            (Div, Int(0), Int(0), Err(Kind::Div0)),
+        ],
+    ),
+    (
+        "null_operands_give_null",
+        &[
+            (Add, Null, Int(0), Ok(None)),
+            (Sub, Int(0), Null, Ok(None)),
+            (Mul, Null, Null, Ok(None)),
+            (Div, Null, Int(0), Ok(None)),
+            (Div, Int(0), Null, Ok(None)),
+            (Rem, Null, Int(0), Ok(None)),
+            (Neg, Null, Null, Ok(None)),
+        ],
+    ),
+];
+
+fn arithmetic() -> &'static [(&'static str, &'static [Computed])] {
+    &ARITHMETIC
+}
+
+fn computed<'r>(
+    operation: Operation,
+    a: &Val<'_, Global>,
+    b: &Val<'_, Global>,
+) -> Result<Val<'r, Global>, Kind> {
+    match operation {
+        Add => add(a, b),
+        Sub => sub(a, b),
+        Mul => mul(a, b),
+        Div => div(a, b),
+        Rem => rem(a, b),
+        Neg => neg(a),
+    }
+}
+
+fn gives(rt: &impl Abort, name: &str, row: usize, computation: &Computed) {
+    let (operation, a, b, want) = *computation;
+    match computed(operation, &value_of(a), &value_of(b)) {
+        Ok(Val::Int(found)) => assert_eq!(rt; Ok(Some(found)), want, "{name}: row {row}"),
+        Ok(Val::Null) => assert_eq!(rt; Ok(None), want, "{name}: row {row}"),
+        Ok(_) => panic!(rt; "{name}: row {row}: no number"),
+        Err(kind) => assert_eq!(rt; Err(kind), want, "{name}: row {row}"),
+    }
+}
+
+fn all_give(rt: &impl Abort, name: &str, rows: &[Computed]) {
+    for (row, computation) in rows.iter().enumerate() {
+        gives(rt, name, row, computation);
+    }
+}
+
+#[test]
+fn arithmetic_of_bigints_and_nulls(rt: HostRuntime) {
+    for (name, rows) in arithmetic() {
+        all_give(&rt, name, rows);
+    }
+}
+
+// ---- truth values
+
+// Two truth values, both, either.
+static TRUTHS: [(Truth, Truth, Truth, Truth); 9] = [
+    (Truth::False, Truth::False, Truth::False, Truth::False),
+    (Truth::False, Truth::Unknown, Truth::False, Truth::Unknown),
+    (Truth::False, Truth::True, Truth::False, Truth::True),
+    (Truth::Unknown, Truth::False, Truth::False, Truth::Unknown),
+    (
+        Truth::Unknown,
+        Truth::Unknown,
+        Truth::Unknown,
+        Truth::Unknown,
+    ),
+    (Truth::Unknown, Truth::True, Truth::Unknown, Truth::True),
+    (Truth::True, Truth::False, Truth::False, Truth::True),
+    (Truth::True, Truth::Unknown, Truth::Unknown, Truth::True),
+    (Truth::True, Truth::True, Truth::True, Truth::True),
+];
+
+fn truths() -> &'static [(Truth, Truth, Truth, Truth)] {
+    &TRUTHS
+}
+
+// A truth value and its negation.
+static NEGATIONS: [(Truth, Truth); 3] = [
+    (Truth::False, Truth::True),
+    (Truth::Unknown, Truth::Unknown),
+    (Truth::True, Truth::False),
+];
+
+fn negations() -> &'static [(Truth, Truth)] {
+    &NEGATIONS
+}
+
+fn truth_tables(rt: &impl Abort) {
+    for (a, b, both, either) in truths() {
+        assert_eq!(rt; and3(*a, *b), *both, "{a:?} AND {b:?}");
+        assert_eq!(rt; or3(*a, *b), *either, "{a:?} OR {b:?}");
+    }
+}
+
+fn conditions(rt: &impl Abort) {
+    for (truth, negated) in negations() {
+        assert_eq!(rt; not3(*truth), *negated, "NOT {truth:?}");
+        let value: Val<'_, Global> = of_truth(*truth);
+        assert_eq!(rt; as_condition(&value), *truth, "condition {truth:?}");
+    }
+    let number: Val<'_, Global> = Val::Int(1);
+    assert_eq!(rt; as_condition(&number), Truth::Unknown, "condition 1");
+}
+
+// Two values, and whether the first is less.
+static LESS: [(Sample, Sample, Truth); 5] = [
+    (Int(-3), Int(2), Truth::True),
+    (Int(2), Int(2), Truth::False),
+    (Int(2), Null, Truth::Unknown),
+    (Null, Int(2), Truth::Unknown),
+    (Bool(false), Bool(true), Truth::True),
+];
+
+fn less() -> &'static [(Sample, Sample, Truth)] {
+    &LESS
+}
+
+fn comparisons(rt: &impl Abort) {
+    for (row, (a, b, want)) in less().iter().enumerate() {
+        assert_eq!(rt;
+            lt3(&value_of(*a), &value_of(*b)),
+            *want,
+            "comparisons: row {row}"
+        );
+    }
+    assert_eq!(rt;
+        eq3(&value_of(Null), &value_of(Null)),
+        Truth::Unknown,
+        "null = null"
+    );
+}
+
+#[test]
+fn truth_tables_conditions_and_comparisons(rt: HostRuntime) {
+    truth_tables(&rt);
+    conditions(&rt);
+    comparisons(&rt);
+}
+
+// ---- texts
+
+static BIGINTS: [(&str, Result<i64, Kind>); 12] = [
+    ("-0", Err(Kind::BadText)),
+    ("007", Err(Kind::BadText)),
+    ("+1", Err(Kind::BadText)),
+    ("", Err(Kind::BadText)),
+    ("-", Err(Kind::BadText)),
+    (" 1", Err(Kind::BadText)),
+    ("0", Ok(0)),
+    ("-1", Ok(-1)),
+    ("9223372036854775807", Ok(i64::MAX)),
+    ("9223372036854775808", Err(Kind::Range)),
+    ("-9223372036854775808", Ok(i64::MIN)),
+    ("-9223372036854775809", Err(Kind::Range)),
+];
+
+fn bigints() -> &'static [(&'static str, Result<i64, Kind>)] {
+    &BIGINTS
+}
+
+static BOOLEANS: [(&str, Result<bool, Kind>); 7] = [
+    ("t", Ok(true)),
+    ("f", Ok(false)),
+    ("T", Err(Kind::BadText)),
+    ("F", Err(Kind::BadText)),
+    ("true", Err(Kind::BadText)),
+    ("", Err(Kind::BadText)),
+    ("0", Err(Kind::BadText)),
+];
+
+fn booleans() -> &'static [(&'static str, Result<bool, Kind>)] {
+    &BOOLEANS
+}
+
+fn is_boolean(rt: &(impl Abort + AllocGlobal), text: &str, want: Result<bool, Kind>) {
+    match read_value(rt.alloc(), ColType::Boolean, text) {
+        Ok(Value::Bool(found)) => assert_eq!(rt; Ok(found), want, "texts_of_booleans: {text}"),
+        Ok(_) => panic!(rt; "texts_of_booleans: {text}: no boolean"),
+        Err(ReadError::Kind(kind)) => {
+            assert_eq!(rt; Err(kind), want, "texts_of_booleans: {text}");
+        }
+        Err(ReadError::Memory) => panic!(rt; "texts_of_booleans: {text}: out of memory"),
+    }
+}
+
+fn texts_of_booleans(rt: &(impl Abort + AllocGlobal)) {
+    for (text, want) in booleans() {
+        is_boolean(rt, text, *want);
+    }
+}
+
+fn texts_of_bigints(rt: &impl Abort) {
+    for (text, want) in bigints() {
+        assert_eq!(rt; read_bigint(text), *want, "texts_of_bigints: {text}");
+    }
+}
+
+// A value, and its text.
+static WRITTEN: [(Sample, Option<&str>); 6] = [
+    (Int(0), Some("0")),
+    (Int(-7), Some("-7")),
+    (LEAST, Some("-9223372036854775808")),
+    (Bool(true), Some("t")),
+    (Bool(false), Some("f")),
+    (Null, None),
+];
+
+fn samples() -> &'static [(Sample, Option<&'static str>)] {
+    &WRITTEN
+}
+
+fn written(
+    rt: &(impl Abort + AllocGlobal),
+    value: &Val<'_, Global>,
+    want: Option<&str>,
+) -> Result<(), AllocError> {
+    match text_of(rt.alloc(), value)? {
+        Some(text) => assert_eq!(rt; Some(text.as_str()), want, "texts_of_values"),
+        None => assert_eq!(rt; None, want, "texts_of_values"),
+    }
+    Ok(())
+}
+
+fn text_value(rt: &(impl Abort + AllocGlobal), text: &str) -> Value<Global> {
+    match read_value(rt.alloc(), ColType::Text, text) {
+        Ok(value) => value,
+        Err(error) => panic!(rt; "{text}: {error:?}"),
+    }
+}
+
+fn texts_of_values(rt: &(impl Abort + AllocGlobal)) -> Result<(), AllocError> {
+    for (sample, want) in samples() {
+        written(rt, &value_of(*sample), *want)?;
+    }
+    let text = text_value(rt, "a,\u{e9}");
+    written(rt, &text.as_val(), Some("a,\u{e9}"))
+}
+
+fn casts(rt: &(impl Abort + AllocGlobal)) -> Result<(), AllocError> {
+    let alloc = rt.alloc();
+    match cast(alloc, ColType::Text, Val::Int(-12)) {
+        Ok(text) => {
+            written(rt, &text, Some("-12"))?;
+            let back = cast(alloc, ColType::Bigint, text);
+            assert!(rt; matches!(back, Ok(Val::Int(-12))), "casts: -12");
+        }
+        Err(error) => panic!(rt; "casts: {error:?}"),
+    }
+    let wrong = text_value(rt, "012");
+    let found = cast(alloc, ColType::Bigint, wrong.as_val());
+    assert_eq!(rt;
+        found.err(),
+        Some(CastError::Kind(Kind::BadText)),
+        "casts: 012"
+    );
+    assert!(rt;
+        matches!(cast(alloc, ColType::Text, Val::Null), Ok(Val::Null)),
+        "casts: null"
+    );
+    Ok(())
+}
+
+fn faults_are_reported_by_code(rt: &impl Abort) {
+    assert_eq!(rt; Kind::Div0.code(), "22012");
+    assert_eq!(rt; Kind::Range.code(), "22003");
+    assert_eq!(rt; Kind::BadText.code(), "22P02");
+}
+
+#[test]
+fn values_are_read_written_and_cast(rt: HostRuntime) -> Result<(), Fail> {
+    texts_of_bigints(&rt);
+    texts_of_booleans(&rt);
+    texts_of_values(&rt)?;
+    casts(&rt)?;
+    faults_are_reported_by_code(&rt);
+    Ok(())
+}
