@@ -47,10 +47,7 @@ fn command<'a>(alloc: Global) -> Result<Command<'a>, Failure> {
 }
 
 /// Reads the words of a command line, of which the first is the program's name.
-pub fn read_arguments<'a>(
-    alloc: Global,
-    words: &'a [&'a str],
-) -> Result<Arguments<'a>, Failure> {
+pub fn read_arguments<'a>(alloc: Global, words: &'a [&'a str]) -> Result<Arguments<'a>, Failure> {
     let matches = command(alloc)?.try_get_matches_from(words)?;
     // What is required is there, or memory ran out.
     let Some(found) = matches.subcommand_matches("query") else {
