@@ -10,7 +10,7 @@ use Rattle.std.proofs.lemmas.List.{length-take-le}
 use Rattle.std.proofs.lemmas.List.Sums.{prefix_len-le-length, prefix_len_passes, take_while-cons}
 use Rattle.std.proofs.lemmas.Str.{IsCharBoundary-start, IsCharBoundary-after_ascii}
 use Rattle.row_tokens.specs.declared.lexeme.Lexeme.{Lexeme}
-use Rattle.row_tokens.specs.declared.token.Kind.{Kind}
+use Rattle.row_tokens.specs.declared.token.TokenKind.{TokenKind}
 use Rattle.row_tokens.specs.Words.{is_letter, is_space, goes_on, begins, bad, plain, number_of, first_number, word_lexeme, one_more, closing, quoted_lexeme, minus_lexeme, sign_lexeme, lexeme}
 
 -- so many bytes are there, and the last of them is ASCII
@@ -112,7 +112,7 @@ module _ (b : ℕ) (bs : List ℕ) where
   two_bytes p [] ascii h = cc
   two_bytes p (c ∷ cs) ascii h = (omega arith, λ _. ascii c h)
 
-  single : (n : ℕ) (kind : Kind) (other : Lexeme) → n < 128 → Ends other → Ends (if b == n then plain kind 1 else other)
+  single : (n : ℕ) (kind : TokenKind) (other : Lexeme) → n < 128 → Ends other → Ends (if b == n then plain kind 1 else other)
   single n kind other small h =
       cond_both (b == n) (plain kind 1) other Ends (λ e. one_byte (omega (arith, eqb-true b n e))) (λ _. h)
 

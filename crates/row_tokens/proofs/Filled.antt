@@ -6,8 +6,8 @@ use Rattle.std.specs.Str.{bytes_eq}
 use Rattle.std.specs.Str.Parse.{digits_value}
 use Rattle.std.proofs.lemmas.Bool.{cond_both}
 use Rattle.row_tokens.specs.declared.lexeme.Lexeme.{Lexeme}
-use Rattle.row_tokens.specs.declared.token.Kind.{Kind}
-use Rattle.row_tokens.specs.declared.token.Kind.TheVariants.{Bad, Quoted, Number, Greatest}
+use Rattle.row_tokens.specs.declared.token.TokenKind.{TokenKind}
+use Rattle.row_tokens.specs.declared.token.TokenKind.TheVariants.{Bad, Quoted, Number, MinMagnitude}
 use Rattle.row_tokens.specs.Words.{bad, begins, closing, first_number, goes_on, is_letter, kind_of_word, lexeme, minus_kind, minus_lexeme, most_name_bytes, number_of, plain, quoted_lexeme, sign_lexeme, word_lexeme}
 use Rattle.row_tokens.proofs.Ends.{length_run}
 
@@ -38,7 +38,7 @@ letter_goes_on b e = rw e refl
 number_filled : (value size : ℕ) → 0 < size → Filled (number_of value size)
 number_filled value size some =
     either_filled (nat_lt value (2 ^ 63)) (record { kind = Number; size = size; number = value }) _ (some_filled (record { kind = Number; size = size; number = value }) some)
-    (either_filled (value == (2 ^ 63)) (record { kind = Greatest; size = size; number = value }) bad (some_filled (record { kind = Greatest; size = size; number = value }) some) bad_filled)
+    (either_filled (value == (2 ^ 63)) (record { kind = MinMagnitude; size = size; number = value }) bad (some_filled (record { kind = MinMagnitude; size = size; number = value }) some) bad_filled)
 
 first_number_filled : (b : ℕ) (bs : List ℕ) → is_ascii_digit b ≡ true → Filled (first_number (b ∷ bs))
 first_number_filled b bs e =
@@ -49,10 +49,10 @@ quoted_filled : (bs : List ℕ) (o : Option ℕ) → Filled (quoted_lexeme bs o)
 quoted_filled bs None = bad_filled
 quoted_filled bs (Some n) = either_filled (bytes_eq (take n bs) (92 ∷ 78 ∷ 39 ∷ [])) bad (plain Quoted (n + 1)) bad_filled (some_filled (plain Quoted (n + 1)) (omega arith))
 
-one_filled : (kind : Kind) → Filled (plain kind 1)
+one_filled : (kind : TokenKind) → Filled (plain kind 1)
 one_filled kind = some_filled (plain kind 1) (omega arith)
 
-two_filled : (kind : Kind) → Filled (plain kind 2)
+two_filled : (kind : TokenKind) → Filled (plain kind 2)
 two_filled kind = some_filled (plain kind 2) (omega arith)
 
 minus_filled : (bs : List ℕ) → Filled (minus_lexeme bs)

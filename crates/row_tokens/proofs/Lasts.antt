@@ -3,8 +3,8 @@ use Rattle.std.proofs.Common.{◌≡◌, ◌≢◌, ℕ, zero, suc, ◌+◌, ◌
 use Rattle.std.specs.List.{AllPairs}
 use Rattle.std.proofs.lemmas.Bool.{cond_both, cond-true, cond-false, eqb-false}
 use Rattle.std.proofs.lemmas.List.Elements.{All-nil}
-use Rattle.row_tokens.specs.declared.token.Kind.{Kind}
-use Rattle.row_tokens.specs.declared.token.Kind.TheVariants.{Bad}
+use Rattle.row_tokens.specs.declared.token.TokenKind.{TokenKind}
+use Rattle.row_tokens.specs.declared.token.TokenKind.TheVariants.{Bad}
 use Rattle.row_tokens.specs.declared.token.Token.{Token}
 use Rattle.row_tokens.specs.View.{word_of, words_of}
 use Rattle.row_tokens.specs.Words.{Word, first_bad, good_or_bad, is_bad, is_space, lexeme, tokens_at, word_at, words, words_from}
@@ -27,7 +27,7 @@ good_from zero at (b ∷ bs) =
 pub are_good_but_last : AreGoodButLast
 are_good_but_last text = good_from 0 0 text
 
-is_bad_only : (kind : Kind) → kind ≢ Bad → is_bad kind ≡ false
+is_bad_only : (kind : TokenKind) → kind ≢ Bad → is_bad kind ≡ false
 is_bad_only Bad h = absurd (h refl)
 is_bad_only _ h = refl
 

@@ -9,7 +9,7 @@ use Rattle.std.proofs.lemmas.Bool.{cond_both}
 use Rattle.std.proofs.lemmas.List.{length-take, length-take-le}
 use Rattle.std.proofs.lemmas.List.Elements.{All-nil, All-cons}
 use Rattle.row_tokens.specs.declared.lexeme.Lexeme.{Lexeme}
-use Rattle.row_tokens.specs.declared.token.Kind.TheVariants.{Bad, Number, Greatest, Quoted}
+use Rattle.row_tokens.specs.declared.token.TokenKind.TheVariants.{Bad, Number, MinMagnitude, Quoted}
 use Rattle.row_tokens.specs.Words.{Word, bad, begins, closing, first_number, goes_on, is_letter, is_space, kind_of_word, lexeme, minus_kind, minus_lexeme, most_name_bytes, number_of, one_more, plain, quoted_lexeme, word_at, word_lexeme, words, words_from}
 use Rattle.row_tokens.specs.Slices.{AreLongest, IsLongest, IsOneToken}
 use Rattle.row_tokens.proofs.Ends.{ClosesAt, closes, length_run, lexeme_ends}
@@ -38,7 +38,7 @@ word_takes w = either_takes (nat_lt most_name_bytes (length w)) bad (plain (kind
 number_takes : (value size : ℕ) → Takes (number_of value size) size
 number_takes value size =
     either_takes (nat_lt value (2 ^ 63)) (record { kind = Number; size = size; number = value }) _ size (exact_takes (record { kind = Number; size = size; number = value }))
-    (either_takes (value == (2 ^ 63)) (record { kind = Greatest; size = size; number = value }) bad size (exact_takes (record { kind = Greatest; size = size; number = value })) (bad_takes size))
+    (either_takes (value == (2 ^ 63)) (record { kind = MinMagnitude; size = size; number = value }) bad size (exact_takes (record { kind = MinMagnitude; size = size; number = value })) (bad_takes size))
 
 first_number_takes : (bs : List ℕ) → Takes (first_number bs) (length (take_while is_ascii_digit bs))
 first_number_takes bs =

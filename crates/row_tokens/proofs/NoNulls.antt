@@ -3,7 +3,7 @@ use Rattle.std.proofs.Common.{◌≡◌, ◌≢◌, ℕ, zero, suc, ◌+◌, ◌
 use Rattle.std.specs.Prelude.{All}
 use Rattle.std.proofs.lemmas.Bool.{cond_both}
 use Rattle.std.proofs.lemmas.List.Elements.{All-nil, All-cons}
-use Rattle.row_tokens.specs.declared.token.Kind.TheVariants.{Quoted}
+use Rattle.row_tokens.specs.declared.token.TokenKind.TheVariants.{Quoted}
 use Rattle.row_tokens.specs.Words.{Word, is_space, lexeme, quoted_value, words, words_from}
 use Rattle.row_tokens.proofs.Shapes.{no_null_lexeme}
 

@@ -9,8 +9,8 @@ use Rattle.std.proofs.lemmas.Bool.{and_parts, and_from, cond_both, eq-eqb, eqb-t
 use Rattle.std.proofs.lemmas.List.{get_or-take, length-take-le}
 use Rattle.std.proofs.lemmas.List.Elements.{All-nil, All-cons}
 use Rattle.row_tokens.specs.declared.lexeme.Lexeme.{Lexeme}
-use Rattle.row_tokens.specs.declared.token.Kind.{Kind}
-use Rattle.row_tokens.specs.declared.token.Kind.TheVariants.{Quoted, Name, Number, Greatest, Negative, Minus, Bad}
+use Rattle.row_tokens.specs.declared.token.TokenKind.{TokenKind}
+use Rattle.row_tokens.specs.declared.token.TokenKind.TheVariants.{Quoted, Name, Number, MinMagnitude, SignedMinus, Minus, Bad}
 use Rattle.row_tokens.specs.Words.{bad, begins, begins_number, behind_space, by_place, closing, first_number, goes_on, in_quotes, is_bad, is_letter, is_space, keyword_in, kind_of_word, lexeme, minus_lexeme, number_of, plain, quoted_lexeme, quoted_value, reserved, sign_lexeme, undoubled, word_lexeme, words_from}
 use Rattle.row_tokens.specs.Slices.{AreInQuotes, HasQuotes}
 use Rattle.row_tokens.proofs.Ends.{ClosesAt, closes}
@@ -18,19 +18,19 @@ use Rattle.row_tokens.proofs.Nulls.{undoubled_mark}
 use Rattle.row_tokens.proofs.Quotes.{between_is, ends_with}
 
 -- no text in quotes, no number and no minus
-abbrev pub is_other : Kind → Bool
+abbrev pub is_other : TokenKind → Bool
 is_other Quoted = false
 is_other Number = false
-is_other Greatest = false
-is_other Negative = false
+is_other MinMagnitude = false
+is_other SignedMinus = false
 is_other Minus = false
 is_other _ = true
 
 -- so the kinds of words are
-abbrev is_word : Kind → Bool
+abbrev is_word : TokenKind → Bool
 is_word kind = is_other kind && not (is_bad kind)
 
-word_in : (es : List (List ℕ × Kind)) (other : Kind) (w : List ℕ) → list_all (λ (e : List ℕ × Kind). is_word e.1) es ≡ true → is_word other ≡ true → is_word (keyword_in es other w) ≡ true
+word_in : (es : List (List ℕ × TokenKind)) (other : TokenKind) (w : List ℕ) → list_all (λ (e : List ℕ × TokenKind). is_word e.1) es ≡ true → is_word other ≡ true → is_word (keyword_in es other w) ≡ true
 word_in [] other w h o = o
 word_in (e ∷ es) other w h o =
     let both = and_parts (is_word e.1) _ h in
@@ -56,7 +56,7 @@ other_either t l m o p = cond_both t l m IsOther (λ _. o) (λ _. p)
 sized_either : (t : Bool) (l m : Lexeme) → IsSized l → IsSized m → IsSized (if t then l else m)
 sized_either t l m o p = cond_both t l m IsSized (λ _. o) (λ _. p)
 
-word_plain : (kind : Kind) (n : ℕ) → is_word kind ≡ true → IsOther (plain kind n)
+word_plain : (kind : TokenKind) (n : ℕ) → is_word kind ≡ true → IsOther (plain kind n)
 word_plain kind n h =
     let both = and_parts (is_other kind) (not (is_bad kind)) h in
     and_from _ _ both.0 (rw both.1 refl)
@@ -76,7 +76,7 @@ sign_other b bs =
 abbrev Quotes : List ℕ → Lexeme → Type 0
 Quotes bs l = l.kind ≡ Quoted → in_quotes (take l.size bs) ≡ true
 
-abbrev is_quoted : Kind → Bool
+abbrev is_quoted : TokenKind → Bool
 is_quoted Quoted = true
 is_quoted _ = false
 
@@ -99,7 +99,7 @@ other_shape bs l o =
 number_of_shape : (cs : List ℕ) (value size : ℕ) → Shape cs (number_of value size)
 number_of_shape cs value size =
     cond_both (nat_lt value (2 ^ 63)) _ _ (Shape cs) (λ _. unquoted_shape cs (record { kind = Number; size = size; number = value }) refl refl)
-    (λ _. cond_both (value == (2 ^ 63)) _ bad (Shape cs) (λ _. unquoted_shape cs (record { kind = Greatest; size = size; number = value }) refl refl) (λ _. unquoted_shape cs bad refl refl))
+    (λ _. cond_both (value == (2 ^ 63)) _ bad (Shape cs) (λ _. unquoted_shape cs (record { kind = MinMagnitude; size = size; number = value }) refl refl) (λ _. unquoted_shape cs bad refl refl))
 
 number_shape : (bs : List ℕ) → Shape bs (first_number bs)
 number_shape bs =
@@ -109,7 +109,7 @@ number_shape bs =
 minus_shape : (cs bs : List ℕ) → Shape cs (minus_lexeme bs)
 minus_shape cs bs =
     cond_both (begins (λ c. c == 45) bs) bad _ (Shape cs) (λ _. unquoted_shape cs bad refl refl)
-    (λ _. cond_both (begins_number (behind_space bs)) Negative Minus (λ kind. Shape cs (plain kind 1)) (λ _. unquoted_shape cs (plain Negative 1) refl refl) (λ _. unquoted_shape cs (plain Minus 1) refl refl))
+    (λ _. cond_both (begins_number (behind_space bs)) SignedMinus Minus (λ kind. Shape cs (plain kind 1)) (λ _. unquoted_shape cs (plain SignedMinus 1) refl refl) (λ _. unquoted_shape cs (plain Minus 1) refl refl))
 
 -- a text in quotes of which the bytes behind the first quote are not those of what stands for null
 quoted_no_null : (b : ℕ) (bs : List ℕ) (n : ℕ) → b ≡ 39 → ClosesAt bs (Some n) → bytes_eq (take n bs) (92 ∷ 78 ∷ 39 ∷ []) ≡ false → quoted_value (take (n + 1) (b ∷ bs)) ≢ 92 ∷ 78 ∷ []

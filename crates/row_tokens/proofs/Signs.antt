@@ -7,8 +7,8 @@ use Rattle.std.specs.Str.Parse.{digits_value}
 use Rattle.std.proofs.lemmas.Bool.{and_parts, cond_both}
 use Rattle.std.proofs.lemmas.Bool.Decides.{nat_tests}
 use Rattle.row_tokens.specs.declared.lexeme.Lexeme.{Lexeme}
-use Rattle.row_tokens.specs.declared.token.Kind.{Kind}
-use Rattle.row_tokens.specs.declared.token.Kind.TheVariants.{Quoted, Number, Greatest, Negative, Minus}
+use Rattle.row_tokens.specs.declared.token.TokenKind.{TokenKind}
+use Rattle.row_tokens.specs.declared.token.TokenKind.TheVariants.{Quoted, Number, MinMagnitude, SignedMinus, Minus}
 use Rattle.row_tokens.specs.Words.{Word, bad, begins, begins_number, behind_space, closing, first_number, goes_on, is_letter, is_number, is_space, lexeme, minus_lexeme, number_of, plain, quoted_lexeme, sign_lexeme, word_at, word_lexeme, words_from}
 use Rattle.row_tokens.specs.Slices.{HasItsSign, HaveTheirSigns, begins_with_number}
 use Rattle.row_tokens.proofs.Shapes.{IsOther, is_other, word_other, sign_other}
@@ -18,9 +18,9 @@ use Rattle.row_tokens.proofs.Shapes.{IsOther, is_other, word_other, sign_other}
 abbrev NoNumber : Lexeme → Type 0
 NoNumber l = is_number l.kind ≡ false
 
-other_no_number : (kind : Kind) → is_other kind ≡ true → is_number kind ≡ false
+other_no_number : (kind : TokenKind) → is_other kind ≡ true → is_number kind ≡ false
 other_no_number Number h = cc
-other_no_number Greatest h = cc
+other_no_number MinMagnitude h = cc
 other_no_number _ h = refl
 
 other_is_no_number : (l : Lexeme) → IsOther l → NoNumber l
@@ -33,7 +33,7 @@ quoted_no_number bs (Some n) = cond_both (bytes_eq (take n bs) (92 ∷ 78 ∷ 39
 minus_no_number : (bs : List ℕ) → NoNumber (minus_lexeme bs)
 minus_no_number bs =
     cond_both (begins (λ c. c == 45) bs) bad _ NoNumber (λ _. refl)
-    (λ _. cond_both (begins_number (behind_space bs)) Negative Minus (λ kind. is_number kind ≡ false) (λ _. refl) (λ _. refl))
+    (λ _. cond_both (begins_number (behind_space bs)) SignedMinus Minus (λ kind. is_number kind ≡ false) (λ _. refl) (λ _. refl))
 
 letter_no_digit : (b : ℕ) → is_letter b ≡ true → is_ascii_digit b ≡ false
 letter_no_digit b h = grind (arith, nat_tests)
@@ -68,15 +68,15 @@ next_is_number at (b ∷ bs) =
 
 -- ---- which lexeme is a minus
 
-abbrev is_minus : Kind → Bool
-is_minus Negative = true
+abbrev is_minus : TokenKind → Bool
+is_minus SignedMinus = true
 is_minus Minus = true
 is_minus _ = false
 
 -- a lexeme that is a minus takes one byte, and its kind tells what follows it
 abbrev IsSigned : List ℕ → Lexeme → Type 0
 IsSigned bs l =
-    (l.kind ≡ Negative → (l.size ≡ 1) × (begins_number (behind_space bs) ≡ true))
+    (l.kind ≡ SignedMinus → (l.size ≡ 1) × (begins_number (behind_space bs) ≡ true))
     × (l.kind ≡ Minus → (l.size ≡ 1) × (begins_number (behind_space bs) ≡ false))
 
 no_minus : (bs : List ℕ) (l : Lexeme) → is_minus l.kind ≡ false → IsSigned bs l
@@ -90,7 +90,7 @@ other_signed bs l o =
 number_of_signed : (cs : List ℕ) (value size : ℕ) → IsSigned cs (number_of value size)
 number_of_signed cs value size =
     cond_both (nat_lt value (2 ^ 63)) _ _ (IsSigned cs) (λ _. no_minus cs (record { kind = Number; size = size; number = value }) refl)
-    (λ _. cond_both (value == (2 ^ 63)) _ bad (IsSigned cs) (λ _. no_minus cs (record { kind = Greatest; size = size; number = value }) refl) (λ _. no_minus cs bad refl))
+    (λ _. cond_both (value == (2 ^ 63)) _ bad (IsSigned cs) (λ _. no_minus cs (record { kind = MinMagnitude; size = size; number = value }) refl) (λ _. no_minus cs bad refl))
 
 number_signed : (cs bs : List ℕ) → IsSigned cs (first_number bs)
 number_signed cs bs =
@@ -105,7 +105,7 @@ quoted_signed bs (Some n) =
 minus_signed : (bs : List ℕ) → IsSigned bs (minus_lexeme bs)
 minus_signed bs =
     cond_both (begins (λ c. c == 45) bs) bad _ (IsSigned bs) (λ _. no_minus bs bad refl)
-    (λ _. cond_both (begins_number (behind_space bs)) Negative Minus (λ kind. IsSigned bs (plain kind 1)) (λ e. (λ _. (refl, e), λ m. cc)) (λ e. (λ m. cc, λ _. (refl, e))))
+    (λ _. cond_both (begins_number (behind_space bs)) SignedMinus Minus (λ kind. IsSigned bs (plain kind 1)) (λ e. (λ _. (refl, e), λ m. cc)) (λ e. (λ m. cc, λ _. (refl, e))))
 
 lexeme_signed : (b : ℕ) (bs : List ℕ) → IsSigned bs (lexeme (b ∷ bs))
 unfolding lexeme

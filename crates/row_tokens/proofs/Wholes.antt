@@ -9,8 +9,8 @@ use Rattle.std.proofs.lemmas.Bool.{and_parts, cond_both}
 use Rattle.std.proofs.lemmas.List.{drop-drop, length-take-le}
 use Rattle.std.proofs.lemmas.List.Elements.{All-nil, All-cons}
 use Rattle.row_tokens.specs.declared.lexeme.Lexeme.{Lexeme}
-use Rattle.row_tokens.specs.declared.token.Kind.{Kind}
-use Rattle.row_tokens.specs.declared.token.Kind.TheVariants as k
+use Rattle.row_tokens.specs.declared.token.TokenKind.{TokenKind}
+use Rattle.row_tokens.specs.declared.token.TokenKind.TheVariants as k
 use Rattle.row_tokens.specs.Words.{bad, begins, begins_number, behind_space, by_place, closing, first_number, goes_on, is_letter, is_space, keyword_in, kind_of_word, lexeme, minus_lexeme, most_name_bytes, number_of, one_more, plain, quoted_lexeme, reserved, sign_lexeme, word_at, word_lexeme, words_from}
 use Rattle.row_tokens.specs.Slices.{AreWhole, IsWhole, goes_with}
 use Rattle.row_tokens.proofs.Ends.{length_run, lexeme_ends}
@@ -53,15 +53,15 @@ either_whole : (bs : List ℕ) (t : Bool) (l m : Lexeme) → Whole bs l → Whol
 either_whole bs t l m h n = cond_both t l m (Whole bs) (λ _. h) (λ _. n)
 
 -- the kinds of words go on with the bytes of words
-abbrev is_worded : Kind → Bool
+abbrev is_worded : TokenKind → Bool
 is_worded kind = goes_with kind 97
 
-worded : (kind : Kind) (b : ℕ) → is_worded kind ≡ true → goes_with kind b ≡ goes_on b
+worded : (kind : TokenKind) (b : ℕ) → is_worded kind ≡ true → goes_with kind b ≡ goes_on b
 worded k.Quoted b h = cc
 worded k.Less b h = cc
 worded k.Greater b h = cc
 worded k.Minus b h = cc
-worded k.Negative b h = cc
+worded k.SignedMinus b h = cc
 worded k.Slash b h = cc
 worded k.Comma b h = cc
 worded k.Dot b h = cc
@@ -77,7 +77,7 @@ worded k.LessEqual b h = cc
 worded k.GreaterEqual b h = cc
 worded kind b h = refl
 
-worded_in : (es : List (List ℕ × Kind)) (other : Kind) (w : List ℕ) → list_all (λ (e : List ℕ × Kind). is_worded e.1) es ≡ true → is_worded other ≡ true → is_worded (keyword_in es other w) ≡ true
+worded_in : (es : List (List ℕ × TokenKind)) (other : TokenKind) (w : List ℕ) → list_all (λ (e : List ℕ × TokenKind). is_worded e.1) es ≡ true → is_worded other ≡ true → is_worded (keyword_in es other w) ≡ true
 worded_in [] other w h o = o
 worded_in (e ∷ es) other w h o =
     let both = and_parts (is_worded e.1) _ h in
@@ -98,7 +98,7 @@ word_whole bs =
 number_of_whole : (bs : List ℕ) (value size : ℕ) → begins goes_on (drop size bs) ≡ false → Whole bs (number_of value size)
 number_of_whole bs value size h =
     either_whole bs (nat_lt value (2 ^ 63)) (record { kind = k.Number; size = size; number = value }) _ (λ _. h)
-    (either_whole bs (value == (2 ^ 63)) (record { kind = k.Greatest; size = size; number = value }) bad (λ _. h) (bad_whole bs))
+    (either_whole bs (value == (2 ^ 63)) (record { kind = k.MinMagnitude; size = size; number = value }) bad (λ _. h) (bad_whole bs))
 
 first_number_whole : (bs : List ℕ) → Whole bs (first_number bs)
 first_number_whole bs =
@@ -140,7 +140,7 @@ quoted_whole b bs (Some n) h =
 minus_whole : (b : ℕ) (bs : List ℕ) → Whole (b ∷ bs) (minus_lexeme bs)
 minus_whole b bs =
     cond_both (begins (λ c. c == 45) bs) bad _ (Whole (b ∷ bs)) (λ _. bad_whole (b ∷ bs))
-    (λ e. cond_both (begins_number (behind_space bs)) k.Negative k.Minus (λ kind. Whole (b ∷ bs) (plain kind 1)) (λ _ _. e) (λ _ _. e))
+    (λ e. cond_both (begins_number (behind_space bs)) k.SignedMinus k.Minus (λ kind. Whole (b ∷ bs) (plain kind 1)) (λ _ _. e) (λ _ _. e))
 
 sign_whole : (b : ℕ) (bs : List ℕ) → Whole (b ∷ bs) (sign_lexeme b bs)
 sign_whole b bs =

@@ -1,9 +1,9 @@
 -- Where the tokens of a text stand in it, and what stands behind them.
 use Rattle.std.specs.Prelude.{◌≡◌, ◌≢◌, ℕ, ◌+◌, ◌<◌, ◌≤◌, ◌==◌, Bool, true, false, ◌||◌, List, [], ◌∷◌, ◌++◌, length, take, drop, All}
 use Rattle.std.specs.List.{AllPairs, AllPass}
-use Rattle.row_tokens.specs.declared.token.Kind.{Kind}
-use Rattle.row_tokens.specs.declared.token.Kind.TheVariants as k
-use Rattle.row_tokens.specs.declared.token.Kind.TheVariants.{Quoted, Negative, Minus, Bad}
+use Rattle.row_tokens.specs.declared.token.TokenKind.{TokenKind}
+use Rattle.row_tokens.specs.declared.token.TokenKind.TheVariants as k
+use Rattle.row_tokens.specs.declared.token.TokenKind.TheVariants.{Quoted, SignedMinus, Minus, Bad}
 use Rattle.row_tokens.specs.Words.{Word, begins, goes_on, in_quotes, is_number, is_space, words}
 
 -- the bytes of a word are those of the text at its place
@@ -28,7 +28,7 @@ begins_with_number (w ∷ ws) = is_number w.kind
 
 -- a minus is a sign of the number that is the next token, and an operator before any other
 abbrev pub HasItsSign : Word → List Word → Type 0
-HasItsSign w behind = (w.kind ≡ Negative → begins_with_number behind ≡ true) × (w.kind ≡ Minus → begins_with_number behind ≡ false)
+HasItsSign w behind = (w.kind ≡ SignedMinus → begins_with_number behind ≡ true) × (w.kind ≡ Minus → begins_with_number behind ≡ false)
 
 -- Only white space is before the first word, between two and after the last; after a bad word nothing is read.
 -- The text begins at the byte `from`.
@@ -47,12 +47,12 @@ abbrev pub IsLongest : List ℕ → Word → Type 0
 IsLongest text w = w.kind ≢ Bad → (n : ℕ) → length w.bytes < n → n ≤ length (drop w.at text) → IsOneToken (take n (drop w.at text)) → ⊥
 
 -- a byte that goes on with a token of this kind, or that makes a comment of it
-abbrev pub goes_with : Kind → ℕ → Bool
+abbrev pub goes_with : TokenKind → ℕ → Bool
 goes_with k.Quoted b = b == 39
 goes_with k.Less b = (b == 61) || (b == 62)
 goes_with k.Greater b = b == 61
 goes_with k.Minus b = b == 45
-goes_with k.Negative b = b == 45
+goes_with k.SignedMinus b = b == 45
 goes_with k.Slash b = b == 42
 goes_with k.Comma b = false
 goes_with k.Dot b = false

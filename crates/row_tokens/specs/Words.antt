@@ -4,13 +4,13 @@ use Rattle.std.specs.Char.{is_ascii_alphabetic, is_ascii_digit, to_ascii_lowerca
 use Rattle.std.specs.List.{prefix_len, take_while}
 use Rattle.std.specs.Str.{bytes_eq, str_eq_ignore_ascii_case}
 use Rattle.std.specs.Str.Parse.{digits_value}
-use Rattle.row_tokens.specs.declared.token.Kind.{Kind}
-use Rattle.row_tokens.specs.declared.token.Kind.TheVariants as k
+use Rattle.row_tokens.specs.declared.token.TokenKind.{TokenKind}
+use Rattle.row_tokens.specs.declared.token.TokenKind.TheVariants as k
 use Rattle.row_tokens.specs.declared.lexeme.Lexeme.{Lexeme}
 
 -- a token without its place in memory
 pub record Word : Type 0 where
-  pub kind : Kind
+  pub kind : TokenKind
   -- the bytes of the source that it takes
   pub bytes : List ℕ
   -- of a number its value, else 0
@@ -44,7 +44,7 @@ abbrev pub folded : List ℕ → List ℕ
 folded word = map to_ascii_lowercase word
 
 -- the words that are no names; of the last fifteen no rule has any
-abbrev pub reserved : List (List ℕ × Kind)
+abbrev pub reserved : List (List ℕ × TokenKind)
 reserved =
     (codes "all", k.All) ∷ (codes "and", k.And) ∷ (codes "asc", k.Asc) ∷ (codes "as", k.As) ∷ (codes "between", k.Between)
     ∷ (codes "by", k.By) ∷ (codes "case", k.Case) ∷ (codes "cast", k.Cast) ∷ (codes "cross", k.Cross)
@@ -60,7 +60,7 @@ reserved =
     ∷ (codes "union", k.Reserved) ∷ (codes "window", k.Reserved) ∷ (codes "with", k.Reserved) ∷ []
 
 -- the words that are names but where a rule expects them
-abbrev pub by_place : List (List ℕ × Kind)
+abbrev pub by_place : List (List ℕ × TokenKind)
 by_place =
     (codes "create", k.Create) ∷ (codes "role", k.Role) ∷ (codes "superuser", k.Superuser) ∷ (codes "bypassrls", k.Bypassrls)
     ∷ (codes "grant", k.Grant) ∷ (codes "revoke", k.Revoke) ∷ (codes "table", k.Table) ∷ (codes "alter", k.Alter)
@@ -71,12 +71,12 @@ by_place =
     ∷ (codes "count", k.Count) ∷ (codes "sum", k.Sum) ∷ (codes "min", k.Min) ∷ (codes "max", k.Max) ∷ []
 
 -- the kind beside a word in a list; words are compared without regard to case
-abbrev pub keyword_in : List (List ℕ × Kind) → Kind → List ℕ → Kind
+abbrev pub keyword_in : List (List ℕ × TokenKind) → TokenKind → List ℕ → TokenKind
 keyword_in [] other w = other
 keyword_in (e ∷ es) other w = if str_eq_ignore_ascii_case w e.0 then e.1 else keyword_in es other w
 
 -- the kind of a word
-unfoldable pub kind_of_word : List ℕ → Kind
+unfoldable pub kind_of_word : List ℕ → TokenKind
 kind_of_word w = keyword_in reserved (keyword_in by_place k.Name w) w
 
 -- ---- one token
@@ -85,7 +85,7 @@ kind_of_word w = keyword_in reserved (keyword_in by_place k.Name w) w
 abbrev pub bad : Lexeme
 bad = record { kind = k.Bad; size = 0; number = 0 }
 
-abbrev pub plain : Kind → ℕ → Lexeme
+abbrev pub plain : TokenKind → ℕ → Lexeme
 plain kind size = record { kind = kind; size = size; number = 0 }
 
 -- how many bytes a name may have
@@ -99,7 +99,7 @@ word_lexeme w = if nat_lt most_name_bytes (length w) then bad else plain (kind_o
 abbrev pub number_of : ℕ → ℕ → Lexeme
 number_of value size =
     if nat_lt value (2 ^ 63) then record { kind = k.Number; size = size; number = value }
-    else if value == (2 ^ 63) then record { kind = k.Greatest; size = size; number = value }
+    else if value == (2 ^ 63) then record { kind = k.MinMagnitude; size = size; number = value }
     else bad
 
 -- digits are a number unless a letter follows them
@@ -126,9 +126,9 @@ quoted_lexeme bs None = bad
 quoted_lexeme bs (Some n) = if bytes_eq (take n bs) (92 ∷ 78 ∷ 39 ∷ []) then bad else plain k.Quoted (n + 1)
 
 -- the kinds of numbers
-abbrev pub is_number : Kind → Bool
+abbrev pub is_number : TokenKind → Bool
 is_number k.Number = true
-is_number k.Greatest = true
+is_number k.MinMagnitude = true
 is_number _ = false
 
 -- a number stands at the front of a text
@@ -140,8 +140,8 @@ abbrev pub behind_space : List ℕ → List ℕ
 behind_space text = drop (prefix_len is_space text) text
 
 -- a minus is negative if the next token is a number, with white space between or not
-abbrev pub minus_kind : List ℕ → Kind
-minus_kind after = if begins_number (behind_space after) then k.Negative else k.Minus
+abbrev pub minus_kind : List ℕ → TokenKind
+minus_kind after = if begins_number (behind_space after) then k.SignedMinus else k.Minus
 
 -- a minus, by what follows it; -- would begin a comment
 abbrev pub minus_lexeme : List ℕ → Lexeme
@@ -194,7 +194,7 @@ words text = words_from 0 0 text
 -- ---- the tokens, or where the first bad one begins
 
 -- bytes that are no token
-abbrev pub is_bad : Kind → Bool
+abbrev pub is_bad : TokenKind → Bool
 is_bad k.Bad = true
 is_bad _ = false
 

@@ -5,92 +5,92 @@ ghost use Rattle.std.specs.Str.{str_eq_ignore_ascii_case};
 ghost use Rattle.row_tokens.specs.Words.{keyword_in, kind_of_word};
 ghost use Rattle.row_tokens.specs.Keywords.{entries};
 
-use crate::token::Kind;
+use crate::token::TokenKind;
 
 // The words that are no names.
-static RESERVED: [(&[u8], Kind); 50] = [
-    (b"all", Kind::All),
-    (b"and", Kind::And),
-    (b"asc", Kind::Asc),
-    (b"as", Kind::As),
-    (b"between", Kind::Between),
-    (b"by", Kind::By),
-    (b"case", Kind::Case),
-    (b"cast", Kind::Cast),
-    (b"cross", Kind::Cross),
-    (b"current_user", Kind::CurrentUser),
-    (b"desc", Kind::Desc),
-    (b"else", Kind::Else),
-    (b"end", Kind::End),
-    (b"false", Kind::False),
-    (b"for", Kind::For),
-    (b"from", Kind::From),
-    (b"group", Kind::Group),
-    (b"having", Kind::Having),
-    (b"in", Kind::In),
-    (b"inner", Kind::Inner),
-    (b"is", Kind::Is),
-    (b"join", Kind::Join),
-    (b"limit", Kind::Limit),
-    (b"not", Kind::Not),
-    (b"null", Kind::Null),
-    (b"on", Kind::On),
-    (b"or", Kind::Or),
-    (b"order", Kind::Order),
-    (b"select", Kind::Select),
-    (b"then", Kind::Then),
-    (b"to", Kind::To),
-    (b"true", Kind::True),
-    (b"using", Kind::Using),
-    (b"when", Kind::When),
-    (b"where", Kind::Where),
-    (b"distinct", Kind::Reserved),
-    (b"except", Kind::Reserved),
-    (b"exists", Kind::Reserved),
-    (b"fetch", Kind::Reserved),
-    (b"full", Kind::Reserved),
-    (b"intersect", Kind::Reserved),
-    (b"left", Kind::Reserved),
-    (b"like", Kind::Reserved),
-    (b"natural", Kind::Reserved),
-    (b"offset", Kind::Reserved),
-    (b"outer", Kind::Reserved),
-    (b"right", Kind::Reserved),
-    (b"union", Kind::Reserved),
-    (b"window", Kind::Reserved),
-    (b"with", Kind::Reserved),
+static RESERVED: [(&[u8], TokenKind); 50] = [
+    (b"all", TokenKind::All),
+    (b"and", TokenKind::And),
+    (b"asc", TokenKind::Asc),
+    (b"as", TokenKind::As),
+    (b"between", TokenKind::Between),
+    (b"by", TokenKind::By),
+    (b"case", TokenKind::Case),
+    (b"cast", TokenKind::Cast),
+    (b"cross", TokenKind::Cross),
+    (b"current_user", TokenKind::CurrentUser),
+    (b"desc", TokenKind::Desc),
+    (b"else", TokenKind::Else),
+    (b"end", TokenKind::End),
+    (b"false", TokenKind::False),
+    (b"for", TokenKind::For),
+    (b"from", TokenKind::From),
+    (b"group", TokenKind::Group),
+    (b"having", TokenKind::Having),
+    (b"in", TokenKind::In),
+    (b"inner", TokenKind::Inner),
+    (b"is", TokenKind::Is),
+    (b"join", TokenKind::Join),
+    (b"limit", TokenKind::Limit),
+    (b"not", TokenKind::Not),
+    (b"null", TokenKind::Null),
+    (b"on", TokenKind::On),
+    (b"or", TokenKind::Or),
+    (b"order", TokenKind::Order),
+    (b"select", TokenKind::Select),
+    (b"then", TokenKind::Then),
+    (b"to", TokenKind::To),
+    (b"true", TokenKind::True),
+    (b"using", TokenKind::Using),
+    (b"when", TokenKind::When),
+    (b"where", TokenKind::Where),
+    (b"distinct", TokenKind::Reserved),
+    (b"except", TokenKind::Reserved),
+    (b"exists", TokenKind::Reserved),
+    (b"fetch", TokenKind::Reserved),
+    (b"full", TokenKind::Reserved),
+    (b"intersect", TokenKind::Reserved),
+    (b"left", TokenKind::Reserved),
+    (b"like", TokenKind::Reserved),
+    (b"natural", TokenKind::Reserved),
+    (b"offset", TokenKind::Reserved),
+    (b"outer", TokenKind::Reserved),
+    (b"right", TokenKind::Reserved),
+    (b"union", TokenKind::Reserved),
+    (b"window", TokenKind::Reserved),
+    (b"with", TokenKind::Reserved),
 ];
 
 // The words that are names but where a rule expects them.
-static BY_PLACE: [(&[u8], Kind); 28] = [
-    (b"create", Kind::Create),
-    (b"role", Kind::Role),
-    (b"superuser", Kind::Superuser),
-    (b"bypassrls", Kind::Bypassrls),
-    (b"grant", Kind::Grant),
-    (b"revoke", Kind::Revoke),
-    (b"table", Kind::Table),
-    (b"alter", Kind::Alter),
-    (b"owner", Kind::Owner),
-    (b"enable", Kind::Enable),
-    (b"disable", Kind::Disable),
-    (b"force", Kind::Force),
-    (b"no", Kind::No),
-    (b"row", Kind::Row),
-    (b"level", Kind::Level),
-    (b"security", Kind::Security),
-    (b"index", Kind::Index),
-    (b"policy", Kind::Policy),
-    (b"permissive", Kind::Permissive),
-    (b"restrictive", Kind::Restrictive),
-    (b"drop", Kind::Drop),
-    (b"bigint", Kind::Bigint),
-    (b"text", Kind::Text),
-    (b"boolean", Kind::Boolean),
-    (b"count", Kind::Count),
-    (b"sum", Kind::Sum),
-    (b"min", Kind::Min),
-    (b"max", Kind::Max),
+static BY_PLACE: [(&[u8], TokenKind); 28] = [
+    (b"create", TokenKind::Create),
+    (b"role", TokenKind::Role),
+    (b"superuser", TokenKind::Superuser),
+    (b"bypassrls", TokenKind::Bypassrls),
+    (b"grant", TokenKind::Grant),
+    (b"revoke", TokenKind::Revoke),
+    (b"table", TokenKind::Table),
+    (b"alter", TokenKind::Alter),
+    (b"owner", TokenKind::Owner),
+    (b"enable", TokenKind::Enable),
+    (b"disable", TokenKind::Disable),
+    (b"force", TokenKind::Force),
+    (b"no", TokenKind::No),
+    (b"row", TokenKind::Row),
+    (b"level", TokenKind::Level),
+    (b"security", TokenKind::Security),
+    (b"index", TokenKind::Index),
+    (b"policy", TokenKind::Policy),
+    (b"permissive", TokenKind::Permissive),
+    (b"restrictive", TokenKind::Restrictive),
+    (b"drop", TokenKind::Drop),
+    (b"bigint", TokenKind::Bigint),
+    (b"text", TokenKind::Text),
+    (b"boolean", TokenKind::Boolean),
+    (b"count", TokenKind::Count),
+    (b"sum", TokenKind::Sum),
+    (b"min", TokenKind::Min),
+    (b"max", TokenKind::Max),
 ];
 
 // Whether two words are the same but for case.
@@ -101,7 +101,7 @@ fn is_same(word: &[u8], other: &[u8]) -> bool
 }
 
 // The kind beside a word in a list of words.
-fn keyword_in(keywords: &[(&[u8], Kind)], other: Kind, word: &[u8]) -> Kind
+fn keyword_in(keywords: &[(&[u8], TokenKind)], other: TokenKind, word: &[u8]) -> TokenKind
     ensures { result ≡ keyword_in (entries keywords.now) other word.now }
 {
     for (keyword, kind) in keywords {
@@ -113,9 +113,9 @@ fn keyword_in(keywords: &[(&[u8], Kind)], other: Kind, word: &[u8]) -> Kind
 }
 
 /// The kind of a word.
-pub fn kind_of_word(word: &[u8]) -> Kind
+pub fn kind_of_word(word: &[u8]) -> TokenKind
     ensures { result ≡ kind_of_word word.now }
 {
-    let other = keyword_in(&BY_PLACE, Kind::Name, word);
+    let other = keyword_in(&BY_PLACE, TokenKind::Name, word);
     keyword_in(&RESERVED, other, word)
 }

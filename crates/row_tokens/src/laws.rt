@@ -4,8 +4,8 @@ ghost use Rattle.row_tokens.specs.Slices.{AreGoodButLast, AreInOrder, AreInQuote
 
 /// The tokens of a text are slices of it, each ends before the next begins, only white space is
 /// between them, none could be longer, a text in quotes has them, only the last may be bad, and a
-/// minus is `Negative` exactly if the next token is a number.
-pub fn tokens_stand_in_text()
+/// minus is `SignedMinus` exactly if the next token is a number.
+pub fn law_tokens_stand_in_text()
     ensures slices { AreSlices }
     ensures order { AreInOrder }
     // Only white space stands between them.

@@ -7,12 +7,12 @@ ghost use Rattle.std.specs.Str.{all_ascii_digits};
 ghost use Rattle.row_tokens.specs.Words.{bad, begins, begins_number, closing, first_number, goes_on, is_letter, is_space, lexeme, minus_kind, minus_lexeme, number_lexeme, number_of, plain, quoted_lexeme, sign_lexeme, word_lexeme};
 
 use crate::keyword::kind_of_word;
-use crate::token::Kind;
+use crate::token::TokenKind;
 
 /// What stands at the front of a text.
 #[derive(Clone, Copy)]
 pub struct Lexeme {
-    pub kind: Kind,
+    pub kind: TokenKind,
     /// How many bytes it takes.
     pub size: usize,
     /// Of a number its value, else 0.
@@ -29,7 +29,7 @@ const GREATEST: u64 = 1 << 63;
 const NULL: [u8; 3] = *b"\\N'";
 
 const BAD: Lexeme = Lexeme {
-    kind: Kind::Bad,
+    kind: TokenKind::Bad,
     size: 0,
     number: 0,
 };
@@ -80,7 +80,7 @@ fn digits_size(text: &[u8]) -> usize
 }
 
 // A lexeme that is no number.
-fn plain(kind: Kind, size: usize) -> Lexeme
+fn plain(kind: TokenKind, size: usize) -> Lexeme
     ensures { result ≡ plain kind size }
 {
     Lexeme {
@@ -115,9 +115,9 @@ fn number_of(value: u64, size: usize) -> Lexeme
     ensures { result ≡ number_of value size }
 {
     let kind = if value < GREATEST {
-        Kind::Number
+        TokenKind::Number
     } else if value == GREATEST {
-        Kind::Greatest
+        TokenKind::MinMagnitude
     } else {
         return BAD;
     };
@@ -179,7 +179,7 @@ fn quoted_lexeme(text: &[u8]) -> Lexeme
     ensures { result ≡ quoted_lexeme text.now (closing text.now) }
 {
     match closing(text) {
-        Some(size) if &text[..size] != NULL.as_slice() => plain(Kind::Quoted, size + 1),
+        Some(size) if &text[..size] != NULL.as_slice() => plain(TokenKind::Quoted, size + 1),
         _ => BAD,
     }
 }
@@ -221,18 +221,21 @@ fn begins_number(text: &str) -> bool
     ensures { result ≡ begins_number text.now }
 {
     begins_digits(text.as_bytes())
-        && matches!(first_number(text).kind, Kind::Number | Kind::Greatest)
+        && matches!(
+            first_number(text).kind,
+            TokenKind::Number | TokenKind::MinMagnitude
+        )
 }
 
 // The kind of a minus, by what follows it.
-fn minus_kind(after: &str) -> Kind
+fn minus_kind(after: &str) -> TokenKind
     ensures { result ≡ minus_kind after.now }
 {
     let (_, behind) = after.split_at(space_size(after.as_bytes()));
     if begins_number(behind) {
-        Kind::Negative
+        TokenKind::SignedMinus
     } else {
-        Kind::Minus
+        TokenKind::Minus
     }
 }
 
@@ -251,22 +254,22 @@ fn sign_lexeme(byte: u8, after: &[u8]) -> Lexeme
     ensures { result ≡ sign_lexeme byte after.now }
 {
     match byte {
-        b'(' => plain(Kind::Open, 1),
-        b')' => plain(Kind::Close, 1),
-        b',' => plain(Kind::Comma, 1),
-        b'.' => plain(Kind::Dot, 1),
-        b';' => plain(Kind::Semicolon, 1),
-        b'*' => plain(Kind::Star, 1),
-        b'%' => plain(Kind::Percent, 1),
-        b'+' => plain(Kind::Plus, 1),
-        b'=' => plain(Kind::Equal, 1),
+        b'(' => plain(TokenKind::Open, 1),
+        b')' => plain(TokenKind::Close, 1),
+        b',' => plain(TokenKind::Comma, 1),
+        b'.' => plain(TokenKind::Dot, 1),
+        b';' => plain(TokenKind::Semicolon, 1),
+        b'*' => plain(TokenKind::Star, 1),
+        b'%' => plain(TokenKind::Percent, 1),
+        b'+' => plain(TokenKind::Plus, 1),
+        b'=' => plain(TokenKind::Equal, 1),
         b'/' if begins_with(after, b'*') => BAD,
-        b'/' => plain(Kind::Slash, 1),
-        b'<' if begins_with(after, b'=') => plain(Kind::LessEqual, 2),
-        b'<' if begins_with(after, b'>') => plain(Kind::NotEqual, 2),
-        b'<' => plain(Kind::Less, 1),
-        b'>' if begins_with(after, b'=') => plain(Kind::GreaterEqual, 2),
-        b'>' => plain(Kind::Greater, 1),
+        b'/' => plain(TokenKind::Slash, 1),
+        b'<' if begins_with(after, b'=') => plain(TokenKind::LessEqual, 2),
+        b'<' if begins_with(after, b'>') => plain(TokenKind::NotEqual, 2),
+        b'<' => plain(TokenKind::Less, 1),
+        b'>' if begins_with(after, b'=') => plain(TokenKind::GreaterEqual, 2),
+        b'>' => plain(TokenKind::Greater, 1),
         _ => BAD,
     }
 }

@@ -10,7 +10,7 @@ mod token;
 mod value;
 
 pub use fault::TokenError;
-pub use laws::tokens_stand_in_text;
-pub use scanner::{scan, tokens};
-pub use token::{Kind, Token};
+pub use laws::law_tokens_stand_in_text;
+pub use scanner::{scan, tokenize};
+pub use token::{Token, TokenKind};
 pub use value::{folded, unquoted};

@@ -7,7 +7,7 @@ ghost use Rattle.row_tokens.specs.Words.{is_bad, tokens_at, words};
 
 use crate::fault::TokenError;
 use crate::lexeme::{first_lexeme, is_space};
-use crate::token::{Kind, Token};
+use crate::token::{Token, TokenKind};
 use memory::Heap;
 use std::alloc::AllocError;
 
@@ -46,14 +46,14 @@ pub fn scan<'a, A: Heap>(alloc: A, text: &'a str) -> Result<Vec<Token<'a>, A>, A
 }
 
 // Whether a kind is that of bytes that are no token.
-fn is_bad(kind: Kind) -> bool
+fn is_bad(kind: TokenKind) -> bool
     ensures { result ≡ is_bad kind }
 {
-    matches!(kind, Kind::Bad)
+    matches!(kind, TokenKind::Bad)
 }
 
 /// The tokens of a text, in order, if none is bad; else the byte at which the first bad one begins.
-pub fn tokens<'a, A: Heap>(alloc: A, text: &'a str) -> Result<Vec<Token<'a>, A>, TokenError>
+pub fn tokenize<'a, A: Heap>(alloc: A, text: &'a str) -> Result<Vec<Token<'a>, A>, TokenError>
     ensures good { IfOk result (λ v. tokens_at text.now ≡ Ok (words_of v.items)) }
     ensures refused { IfErr result (λ e. Refuses text.now e) }
     ensures too_long { 2 ^ 32 ≤ length text.now → result ≡ Err TokenError.TooLong }

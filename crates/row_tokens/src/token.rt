@@ -2,7 +2,7 @@
 
 /// What a token is to the grammar (PostgreSQL: Lexical Structure). Words are compared folded to lower case.
 #[derive(Clone, Copy, Debug, PartialEq, Eq)]
-pub enum Kind {
+pub enum TokenKind {
     /// From here to `Where` reserved words, which are no names, each with a rule that uses it.
     All,
     And,
@@ -76,7 +76,7 @@ pub enum Kind {
     /// Digits of a number up to 9223372036854775807.
     Number,
     /// Digits of the number 9223372036854775808.
-    Greatest,
+    MinMagnitude,
     /// A text in quotes.
     Quoted,
     Comma,
@@ -90,10 +90,10 @@ pub enum Kind {
     Slash,
     Percent,
     Plus,
-    /// Any `-` that is not `Negative`.
+    /// Any `-` that is not `SignedMinus`.
     Minus,
     /// A `-` whose next token is a number, with white space between or not.
-    Negative,
+    SignedMinus,
     Equal,
     /// `<>`.
     NotEqual,
@@ -111,7 +111,7 @@ pub enum Kind {
 #[derive(Clone, Copy, Debug)]
 pub struct Token<'a> {
     /// What it is to the grammar.
-    pub kind: Kind,
+    pub kind: TokenKind,
     /// Its slice of the source; of a bad token nothing.
     pub text: &'a str,
     /// Of a number its value, else 0.

@@ -6,12 +6,13 @@ use Rattle.csv.specs.Records.{field_at}
 use Rattle.value.specs.Datum.{Datum}
 use Rattle.value.specs.Texts.{null_mark, value_at}
 use Rattle.tables.specs.declared.LoadError.{LoadError}
-use Rattle.tables.specs.declared.Column.{Column}
-use Rattle.tables.specs.Loading.{Col, Fields, both, cell_of, cells_of, col_of}
+use Rattle.value.specs.declared.column.Column as declared
+use Rattle.tables.specs.Loading.{Fields, both, cell_of, cells_of}
+use Rattle.value.specs.Columns.{Column, column_of}
 use Rattle.tables.proofs.Records.{after}
 
 -- the value that a cell's text spells
-pub cell_of-spelled : (c : Col) (row column : ℕ) (f : List ℕ) (d : Datum) → bytes_eq f null_mark ≡ false → is_utf8 f ≡ true → value_at c.kind f ≡ Ok d → cell_of c row column f ≡ Ok d
+pub cell_of-spelled : (c : Column) (row column : ℕ) (f : List ℕ) (d : Datum) → bytes_eq f null_mark ≡ false → is_utf8 f ≡ true → value_at c.data_type f ≡ Ok d → cell_of c row column f ≡ Ok d
 cell_of-spelled c row column f d other utf8 spelled = rw (other, utf8, spelled) refl
 
 -- a list from a place on
@@ -44,19 +45,19 @@ pub after-both : {X : Type 0} (xs : List X) (x : X) (r : Result (List X) LoadErr
 after-both xs x (Ok ys) = ap Ok (sym (append_assoc xs (x ∷ []) ys))
 after-both xs x (Err e) = refl
 
-cells_step : (cs : List Col) (fs : Fields) (row i : ℕ) (c : Col) (f : List ℕ) → drop i cs ≡ c ∷ drop (i + 1) cs → drop i fs ≡ f ∷ drop (i + 1) fs
+cells_step : (cs : List Column) (fs : Fields) (row i : ℕ) (c : Column) (f : List ℕ) → drop i cs ≡ c ∷ drop (i + 1) cs → drop i fs ≡ f ∷ drop (i + 1) fs
     → cells_of (drop i cs) row i (drop i fs) ≡ both (cell_of c row i f) (cells_of (drop (i + 1) cs) row (i + 1) (drop (i + 1) fs))
 unfolding cells_of
 cells_step cs fs row i c f h k = rw (h, k) refl
 
 -- the cells from this column on are this cell and those after it
-pub one_cell : {A : Type 0} (columns : List (Column A)) (fs : Fields) (row i : ℕ) (x : Column A) (f : List ℕ) (xs : List Datum) (whole : Result (List Datum) LoadError)
+pub one_cell : {A : Type 0} (columns : List (declared.Column A)) (fs : Fields) (row i : ℕ) (x : declared.Column A) (f : List ℕ) (xs : List Datum) (whole : Result (List Datum) LoadError)
     → i < length columns → x ≡ get_or columns i x → Some f ≡ field_at fs i
-    → whole ≡ after xs (cells_of (drop i (map col_of columns)) row i (drop i fs))
-    → whole ≡ after xs (both (cell_of (col_of x) row i f) (cells_of (drop (i + 1) (map col_of columns)) row (i + 1) (drop (i + 1) fs)))
-one_cell columns fs row i x f xs whole lt is at e = e ∙ ap (after xs) (cells_step _ _ row i _ _ (drop-map col_of columns i x lt is) (drop-field_at fs i f at))
+    → whole ≡ after xs (cells_of (drop i (map column_of columns)) row i (drop i fs))
+    → whole ≡ after xs (both (cell_of (column_of x) row i f) (cells_of (drop (i + 1) (map column_of columns)) row (i + 1) (drop (i + 1) fs)))
+one_cell columns fs row i x f xs whole lt is at e = e ∙ ap (after xs) (cells_step _ _ row i _ _ (drop-map column_of columns i x lt is) (drop-field_at fs i f at))
 
 -- no cell is left
-pub no_cells : (cs : List Col) (fs : Fields) (row i : ℕ) (xs : List Datum) → length cs ≤ i → after xs (cells_of (drop i cs) row i fs) ≡ Ok xs
+pub no_cells : (cs : List Column) (fs : Fields) (row i : ℕ) (xs : List Datum) → length cs ≤ i → after xs (cells_of (drop i cs) row i fs) ≡ Ok xs
 unfolding cells_of
 no_cells cs fs row i xs h = rw (drop_all i cs h) (ap Ok (append-nil xs))

@@ -9,12 +9,13 @@ use Rattle.value.specs.declared.types.Value.{Value}
 use Rattle.value.specs.Datum.{Row}
 use Rattle.tables.specs.declared.LoadError.{LoadError}
 use Rattle.tables.specs.declared.LoadError.TheVariants as error
-use Rattle.tables.specs.Loading.{Appends, Col, Fields, StopsAfterGood, cells_of, is_fault, load_of, names, reported, rows_data, rows_of}
+use Rattle.tables.specs.Loading.{Appends, Fields, StopsAfterGood, cells_of, is_fault, load_of, names, reported, rows_data, rows_of}
+use Rattle.value.specs.Columns.{Column}
 use Rattle.tables.specs.Reading.{AreKnown, HeaderIs, LoadFollows, Refuses, RowsFollow}
 use Rattle.tables.proofs.Records.{Leaves, cell_fault, leaves_all, leaves_none, leaves_one_less, leaves_other, leaves_some, one_more_row, rows_of-nil, take-seen, too_many, uneven_fault}
 
 -- so many records were seen, and they gave these rows; of the records that are known, the others are left
-abbrev pub SeenRows : List Col → ℕ → ℕ → List Row → Option (List Fields) → Option (List Fields) → Type 0
+abbrev pub SeenRows : List Column → ℕ → ℕ → List Row → Option (List Fields) → Option (List Fields) → Type 0
 SeenRows cols room done rows known left = (seen : List Fields) × (length seen ≡ done) × (rows_of cols room 1 seen ≡ Ok rows) × Leaves known seen left
 
 fits_length : (expected : Option ℕ) (n m : ℕ) → Fits_length expected n → expected ≡ Some m → n ≡ m
@@ -39,11 +40,11 @@ known_are None = tt
 known_are (Some recs) = refl
 
 -- at the start none were seen
-pub start_seen : (cols : List Col) (room : ℕ) (known : Option (List Fields)) → SeenRows cols room 0 [] known known
+pub start_seen : (cols : List Column) (room : ℕ) (known : Option (List Fields)) → SeenRows cols room 0 [] known known
 start_seen cols room known = ([], refl, rows_of-nil cols room 1, leaves_all known)
 
 -- one more row was read
-pub one_more_seen : (cols : List Col) (room done : ℕ) (rows : List Row) (values : Row) (known : Option (List Fields)) (old new : Left) (r : Fields) → done < room
+pub one_more_seen : (cols : List Column) (room done : ℕ) (rows : List Row) (values : Row) (known : Option (List Fields)) (old new : Left) (r : Fields) → done < room
     → SeenRows cols room done rows known old.records → Gives old new true r → old.expected ≡ Some (length cols) → cells_of cols (done + 1) 0 r ≡ Ok values
     → SeenRows cols room (done + 1) (rows ++ values ∷ []) known new.records
 one_more_seen cols room done rows values known old new r lt (seen, len, was, leaves) gives expected cells = (
@@ -54,13 +55,13 @@ one_more_seen cols room done rows values known old new r lt (seen, len, was, lea
 )
 
 -- there are no more records
-pub all_seen : {A : Type 0} (cols : List Col) (room done : ℕ) (rows : Vec (List (Value A)) A) (known : Option (List Fields)) (old new : Left) (r : Fields)
+pub all_seen : {A : Type 0} (cols : List Column) (room done : ℕ) (rows : Vec (List (Value A)) A) (known : Option (List Fields)) (old new : Left) (r : Fields)
     → SeenRows cols room done (rows_data rows.items) known old.records → Gives old new false r → new.given ≡ counted false old.given → old.given ≡ done + 1 → RowsFollow cols room known new (Ok rows)
 all_seen cols room done rows known old new r (seen, len, was, leaves) gives counts before =
     (seen, leaves_none known seen old.records new.records r leaves gives.0, was, omega (arith, len, counts, before), tt)
 
 -- a cell of the next record is refused
-pub cell_refused : (A : Type 0) (cols : List Col) (room done : ℕ) (rows : List Row) (known : Option (List Fields)) (old new : Left) (r : Fields) (e : LoadError) → done < room
+pub cell_refused : (A : Type 0) (cols : List Column) (room done : ℕ) (rows : List Row) (known : Option (List Fields)) (old new : Left) (r : Fields) (e : LoadError) → done < room
     → SeenRows cols room done rows known old.records → Gives old new true r → old.expected ≡ Some (length cols)
     → (is_fault None e ≡ true → cells_of cols (done + 1) 0 r ≡ Err e) → ((row : ℕ) → e ≢ error.Reader row) → RowsFollow {A = A} cols room known new (Err e)
 cell_refused A cols room done rows known old new r e lt (seen, len, was, leaves) gives expected cells other =
@@ -74,7 +75,7 @@ cell_refused A cols room done rows known old new r e lt (seen, len, was, leaves)
     )
 
 -- there is no room for the next record
-pub no_room_left : (A : Type 0) (cols : List Col) (room done : ℕ) (rows : List Row) (known : Option (List Fields)) (old new : Left) (r : Fields) → done ≡ room
+pub no_room_left : (A : Type 0) (cols : List Column) (room done : ℕ) (rows : List Row) (known : Option (List Fields)) (old new : Left) (r : Fields) → done ≡ room
     → SeenRows cols room done rows known old.records → Gives old new true r → old.expected ≡ Some (length cols) → RowsFollow {A = A} cols room known new (Err error.TooMany)
 no_room_left A cols room done rows known old new r same (seen, len, was, leaves) gives expected =
     let rest = leaves_some known (seen ++ r ∷ []) new.records (leaves_one_less known seen old.records new.records r leaves gives.0) in
@@ -88,12 +89,12 @@ seen_within : (seen rest : List Fields) (n : ℕ) → length seen ≡ n → n �
 seen_within seen rest n e = rw length-append (omega (arith, e))
 
 -- the records before it were read
-before_unread : (cols : List Col) (room done : ℕ) (seen rest : List Fields) (rows : List Row) → length seen ≡ done → rows_of cols room 1 seen ≡ Ok rows → (row : ℕ) → error.Reader (done + 1) ≡ error.Reader row
+before_unread : (cols : List Column) (room done : ℕ) (seen rest : List Fields) (rows : List Row) → length seen ≡ done → rows_of cols room 1 seen ≡ Ok rows → (row : ℕ) → error.Reader (done + 1) ≡ error.Reader row
     → (row - 1 ≤ length (seen ++ rest)) × (rows : List Row) × (rows_of cols room 1 (take (row - 1) (seen ++ rest)) ≡ Ok rows)
 before_unread cols room done seen rest rows len was row is = (rw (reader_row row done is) (seen_within seen rest done len), rows, rw (reader_row row done is, take-seen seen rest done len) was)
 
 -- the next record is uneven
-uneven_row : (A : Type 0) (cols : List Col) (room done : ℕ) (rows : List Row) (known : Option (List Fields)) (old new : Left) → done ≤ room
+uneven_row : (A : Type 0) (cols : List Column) (room done : ℕ) (rows : List Row) (known : Option (List Fields)) (old new : Left) → done ≤ room
     → SeenRows cols room done rows known old.records → old.expected ≡ Some (length cols) → NextIsUneven old → RowsFollow {A = A} cols room known new (Err (error.Reader (done + 1)))
 uneven_row A cols room done rows known old new le (seen, len, was, leaves) expected next =
     let n : next.0 ≡ length cols = cc (next.1, expected) in
@@ -106,11 +107,11 @@ uneven_row A cols room done rows known old new le (seen, len, was, leaves) expec
     )
 
 -- memory ran out
-pub out_of_memory : (A : Type 0) (cols : List Col) (room : ℕ) (known : Option (List Fields)) (new : Left) (e : LoadError) → e ≡ error.OutOfMemory → RowsFollow {A = A} cols room known new (Err e)
+pub out_of_memory : (A : Type 0) (cols : List Column) (room : ℕ) (known : Option (List Fields)) (new : Left) (e : LoadError) → e ≡ error.OutOfMemory → RowsFollow {A = A} cols room known new (Err e)
 out_of_memory A cols room known new e is = rw is (unwrap_or known [], known_are known, λ fault. cc fault, tt, λ row same. cc same)
 
 -- its read failed
-failed_row : (A : Type 0) (cols : List Col) (room done : ℕ) (rows : List Row) (known left : Option (List Fields)) (new : Left) (why : RecordError) → new.failure ≡ Some why
+failed_row : (A : Type 0) (cols : List Column) (room done : ℕ) (rows : List Row) (known left : Option (List Fields)) (new : Left) (why : RecordError) → new.failure ≡ Some why
     → SeenRows cols room done rows known left → (e : LoadError) → e ≡ reported why (done + 1) → RowsFollow {A = A} cols room known new (Err e)
 failed_row A cols room done rows known left new why.OutOfMemory failed seen e is = out_of_memory A cols room known new e is
 failed_row A cols room done rows known left new why.Failed failed (seen, len, was, leaves) e is =
@@ -121,7 +122,7 @@ failed_row A cols room done rows known left new why.Uneven failed (seen, len, wa
     rw (is, failed) (seen ++ rest.0, rest.1, λ fault. cc fault, tt, before_unread cols room done seen rest.0 rows len was)
 
 -- the next record was not read
-pub refused : (A : Type 0) (cols : List Col) (room done : ℕ) (rows : List Row) (known : Option (List Fields)) (old new : Left) (e : LoadError) → done ≤ room
+pub refused : (A : Type 0) (cols : List Column) (room done : ℕ) (rows : List Row) (known : Option (List Fields)) (old new : Left) (e : LoadError) → done ≤ room
     → SeenRows cols room done rows known old.records → old.expected ≡ Some (length cols) → Refuses (done + 1) old new e → RowsFollow {A = A} cols room known new (Err e)
 refused A cols room done rows known old new e le seen expected refuses = by_failure new.failure refl refuses where
   by_failure : (failure : Option RecordError) → new.failure ≡ failure → MatchOption failure ((e ≡ error.Reader (done + 1)) × NextIsUneven old) (λ why. e ≡ reported why (done + 1)) → RowsFollow {A = A} cols room known new (Err e)
@@ -130,12 +131,12 @@ refused A cols room done rows known old new e le seen expected refuses = by_fail
 
 -- ---- with the header
 
-pub no_header : (A : Type 0) (cols : List Col) (room : ℕ) (old new : Left) (e : LoadError) → HeaderIs cols old new (Err e) → LoadFollows {A = A} cols room old.records new (Err e)
+pub no_header : (A : Type 0) (cols : List Column) (room : ℕ) (old new : Left) (e : LoadError) → HeaderIs cols old new (Err e) → LoadFollows {A = A} cols room old.records new (Err e)
 no_header A cols room old new e (fault, at) = (unwrap_or old.records [], known_are old.records, λ is. fault is room, tt, λ row same pos. absurd (not_first row (at row same) pos)) where
   not_first : (row : ℕ) → row ≡ 0 → 0 < row → ⊥
   not_first row e lt = omega arith
 
-load-take : (cols : List Col) (room row : ℕ) (h : Fields) (recs : List Fields) → names cols h ≡ true → 0 < row → load_of cols room (take row (h ∷ recs)) ≡ rows_of cols room 1 (take (row - 1) recs)
+load-take : (cols : List Column) (room row : ℕ) (h : Fields) (recs : List Fields) → names cols h ≡ true → 0 < row → load_of cols room (take row (h ∷ recs)) ≡ rows_of cols room 1 (take (row - 1) recs)
 load-take cols room zero h recs named lt = absurd (omega (arith, lt))
 load-take cols room (suc row) h recs named lt =
     let one_less : suc row - 1 ≡ row = omega arith in rw (one_less, named) refl
@@ -148,7 +149,7 @@ known_after (Some (r ∷ rs)) new h recs (here, is, left) known = let same = rw 
 one_more : (row n : ℕ) → 0 < row → row - 1 ≤ n → row ≤ suc n
 one_more row n pos h = omega (arith, pos, h)
 
-pub header_then_rows : {A : Type 0} (cols : List Col) (room : ℕ) (old mid new : Left) (result : Result (Vec (List (Value A)) A) LoadError)
+pub header_then_rows : {A : Type 0} (cols : List Column) (room : ℕ) (old mid new : Left) (result : Result (Vec (List (Value A)) A) LoadError)
     → HeaderIs cols old mid (Ok tt) → RowsFollow cols room mid.records new result → LoadFollows cols room old.records new result
 header_then_rows cols room old mid new (Ok rows) (h, named, gives) (recs, known, follows, many, stops) =
     (h ∷ recs, known_after old.records mid.records h recs gives known, rw named follows, omega (arith, many), tt)
@@ -184,26 +185,26 @@ fault_exactly failure error.TooMany none h = refl
 fault_exactly failure error.OutOfMemory none h = absurd (h refl)
 
 -- a fault of records
-pub fault_of_known : (A : Type 0) (cols : List Col) (room : ℕ) (known : Option (List Fields)) (left : Left) (e : LoadError) (old new : List Row) → LoadFollows {A = A} cols room known left (Err e)
+pub fault_of_known : (A : Type 0) (cols : List Column) (room : ℕ) (known : Option (List Fields)) (left : Left) (e : LoadError) (old new : List Row) → LoadFollows {A = A} cols room known left (Err e)
     → left.failure ≡ None → IfSome known (λ recs. Appends (load_of cols room recs) old new (Err e))
 fault_of_known A cols room None left e old new follows none = tt
 fault_of_known A cols room (Some known) left e old new (recs, are, due, many, stops) none = rw are (λ other. due (fault_exactly left.failure e none other))
 
-pub fault_of_some : (A : Type 0) (cols : List Col) (room : ℕ) (known : Option (List Fields)) (left : Left) (e : LoadError) (old new : List Row) → LoadFollows {A = A} cols room known left (Err e)
+pub fault_of_some : (A : Type 0) (cols : List Column) (room : ℕ) (known : Option (List Fields)) (left : Left) (e : LoadError) (old new : List Row) → LoadFollows {A = A} cols room known left (Err e)
     → left.failure ≡ None → (recs : List Fields) × Appends (load_of cols room recs) old new (Err e) × Unit {0}
 fault_of_some A cols room known left e old new (recs, are, due, many, stops) none = (recs, λ other. due (fault_exactly left.failure e none other), tt)
 
-pub stops_of_known : (A : Type 0) (cols : List Col) (room : ℕ) (known : Option (List Fields)) (left : Left) (e : LoadError) → LoadFollows {A = A} cols room known left (Err e)
+pub stops_of_known : (A : Type 0) (cols : List Column) (room : ℕ) (known : Option (List Fields)) (left : Left) (e : LoadError) → LoadFollows {A = A} cols room known left (Err e)
     → IfSome known (λ recs. StopsAfterGood {Y = Unit {0}} cols room recs (Err e))
 stops_of_known A cols room None left e follows = tt
 stops_of_known A cols room (Some known) left e (recs, are, due, many, stops) = rw are stops
 
 -- rows of records
-pub rows_of_known : {A : Type 0} (cols : List Col) (room : ℕ) (known : Option (List Fields)) (left : Left) (rows : Vec (List (Value A)) A) (old new : List Row) → LoadFollows cols room known left (Ok rows)
+pub rows_of_known : {A : Type 0} (cols : List Column) (room : ℕ) (known : Option (List Fields)) (left : Left) (rows : Vec (List (Value A)) A) (old new : List Row) → LoadFollows cols room known left (Ok rows)
     → new ≡ old ++ rows_data rows.items → IfSome known (λ recs. Appends (load_of cols room recs) old new (Ok tt))
 rows_of_known cols room None left rows old new follows all = tt
 rows_of_known cols room (Some known) left rows old new (recs, are, due, many, stops) all = rw are (rows_data rows.items, due, all)
 
-pub rows_of_some : {A : Type 0} (cols : List Col) (room : ℕ) (known : Option (List Fields)) (left : Left) (rows : Vec (List (Value A)) A) (old new : List Row) → LoadFollows cols room known left (Ok rows)
+pub rows_of_some : {A : Type 0} (cols : List Column) (room : ℕ) (known : Option (List Fields)) (left : Left) (rows : Vec (List (Value A)) A) (old new : List Row) → LoadFollows cols room known left (Ok rows)
     → new ≡ old ++ rows_data rows.items → (recs : List Fields) × Appends (load_of cols room recs) old new (Ok tt) × (length recs ≡ left.given)
 rows_of_some cols room known left rows old new (recs, are, due, many, stops) all = (recs, (rows_data rows.items, due, all), many)

@@ -4,16 +4,17 @@ use Rattle.std.specs.Str.{bytes_eq, is_utf8}
 use Rattle.std.proofs.lemmas.List.Elements.{All-cons, All-nil}
 use Rattle.value.specs.declared.types.ColType.{ColType}
 use Rattle.value.specs.declared.types.ColType.TheVariants as types
-use Rattle.value.specs.declared.types.Kind.{Kind}
-use Rattle.value.specs.declared.types.Kind.TheVariants.{BadText}
+use Rattle.value.specs.declared.types.FaultKind.{FaultKind}
+use Rattle.value.specs.declared.types.FaultKind.TheVariants.{BadText}
 use Rattle.value.specs.Datum.{Datum, Row, null, int, text, bool}
 use Rattle.value.specs.Exact.{as_number}
 use Rattle.value.specs.Texts.{IsNoNullMark, bigint_at, null_mark, value_at}
 use Rattle.tables.specs.declared.LoadError.TheVariants as error
-use Rattle.tables.specs.Loading.{Col, Fields, NoTextIsNull, cell_of, cells_of, names, placed, rows_of}
+use Rattle.tables.specs.Loading.{Fields, NoTextIsNull, cell_of, cells_of, names, placed, rows_of}
+use Rattle.value.specs.Columns.{Column}
 use Rattle.tables.proofs.Records.{both_ok, if_ok}
 
-number : (r : Result ℤ Kind) (d : Datum) → as_number r ≡ Ok d → IsNoNullMark d
+number : (r : Result ℤ FaultKind) (d : Datum) → as_number r ≡ Ok d → IsNoNullMark d
 number (Ok n) d e = let is : int n ≡ d = cc e in rw (← is) tt
 number (Err k) d e = cc e
 
@@ -27,22 +28,22 @@ value types.Bigint f d other e = number (bigint_at f) d e
 value types.Text f d other e = let is : text f ≡ d = cc e in rw (← is) other
 value types.Boolean f d other e = truth _ _ d e
 
-placed_ok : (row column : ℕ) (r : Result Datum Kind) (d : Datum) → placed row column r ≡ Ok d → r ≡ Ok d
+placed_ok : (row column : ℕ) (r : Result Datum FaultKind) (d : Datum) → placed row column r ≡ Ok d → r ≡ Ok d
 placed_ok row column (Ok x) d e = cc e
 placed_ok row column (Err k) d e = cc e
 
 not_null : (f : List ℕ) → bytes_eq f null_mark ≡ false → f ≢ null_mark
 not_null f differ same = let equal : true ≡ false = rw same at differ in cc equal
 
-cell : (c : Col) (row column : ℕ) (f : List ℕ) (d : Datum) → cell_of c row column f ≡ Ok d → IsNoNullMark d
-cell c row column f d e = by_mark (bytes_eq f null_mark) c.required refl e where
+cell : (c : Column) (row column : ℕ) (f : List ℕ) (d : Datum) → cell_of c row column f ≡ Ok d → IsNoNullMark d
+cell c row column f d e = by_mark (bytes_eq f null_mark) c.not_null refl e where
   by_mark : (mark required : Bool) → bytes_eq f null_mark ≡ mark
-      → (if mark then (if required then Err (error.NotNull row column) else Ok null) else if is_utf8 f then placed row column (value_at c.kind f) else Err (error.Cell row column)) ≡ Ok d → IsNoNullMark d
+      → (if mark then (if required then Err (error.NotNull row column) else Ok null) else if is_utf8 f then placed row column (value_at c.data_type f) else Err (error.Cell row column)) ≡ Ok d → IsNoNullMark d
   by_mark true true is e = cc e
   by_mark true false is e = let none : null ≡ d = cc e in rw (← none) tt
-  by_mark false required is e = value c.kind f d (not_null f is) (placed_ok row column (value_at c.kind f) d (if_ok (is_utf8 f) _ _ d e).1)
+  by_mark false required is e = value c.data_type f d (not_null f is) (placed_ok row column (value_at c.data_type f) d (if_ok (is_utf8 f) _ _ d e).1)
 
-cells : (cs : List Col) (row column : ℕ) (fs : Fields) (values : Row) → cells_of cs row column fs ≡ Ok values → All IsNoNullMark values
+cells : (cs : List Column) (row column : ℕ) (fs : Fields) (values : Row) → cells_of cs row column fs ≡ Ok values → All IsNoNullMark values
 unfolding cells_of
 cells [] row column fs values e = let none : [] ≡ values = cc e in rw (← none) (All-nil IsNoNullMark)
 cells (c ∷ cs) row column [] values e = cc e
@@ -50,7 +51,7 @@ cells (c ∷ cs) row column (f ∷ fs) values e =
     let p = both_ok (cell_of c row column f) (cells_of cs row (column + 1) fs) values e in
     rw p.4 (All-cons IsNoNullMark p.0 p.1 (cell c row column f p.0 p.2) (cells cs row (column + 1) fs p.1 p.3))
 
-all_rows : (cols : List Col) (room row : ℕ) (recs : List Fields) (rows : List Row) → rows_of cols room row recs ≡ Ok rows → All (λ r. All IsNoNullMark r) rows
+all_rows : (cols : List Column) (room row : ℕ) (recs : List Fields) (rows : List Row) → rows_of cols room row recs ≡ Ok rows → All (λ r. All IsNoNullMark r) rows
 unfolding rows_of
 all_rows cols zero row [] rows e = let none : [] ≡ rows = cc e in rw (← none) (All-nil (λ r. All IsNoNullMark r))
 all_rows cols (suc room) row [] rows e = let none : [] ≡ rows = cc e in rw (← none) (All-nil (λ r. All IsNoNullMark r))

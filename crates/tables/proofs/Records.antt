@@ -7,7 +7,8 @@ use Rattle.csv_records.specs.Left.{FirstHasOther, GivesOf}
 use Rattle.value.specs.Datum.{Row}
 use Rattle.tables.specs.declared.LoadError.{LoadError}
 use Rattle.tables.specs.declared.LoadError.TheVariants as error
-use Rattle.tables.specs.Loading.{Col, Fields, both, cells_of, rows_of}
+use Rattle.tables.specs.Loading.{Fields, both, cells_of, rows_of}
+use Rattle.value.specs.Columns.{Column}
 use Rattle.tables.specs.Reading.{AreKnown}
 
 -- ---- the records that are known
@@ -86,12 +87,12 @@ first_row_then : (b : Bool) (cells : Result Row LoadError) (whole : Result (List
     → b ≡ true → cells ≡ Ok x → whole ≡ after xs r → rows ≡ x ∷ xs → (if b then both cells whole else Err e) ≡ after rows r
 first_row_then b cells whole e x xs rows r test is next all = rw (test, is, next, all) (both-after x xs r)
 
-pub rows_of-nil : (cols : List Col) (room row : ℕ) → rows_of cols room row [] ≡ Ok []
+pub rows_of-nil : (cols : List Column) (room row : ℕ) → rows_of cols room row [] ≡ Ok []
 unfolding rows_of
 rows_of-nil cols zero row = refl
 rows_of-nil cols (suc room) row = refl
 
-pub rows_of-append : (cols : List Col) (room row left from : ℕ) (seen : List Fields) (rows : List Row) (rest : List Fields) → left + length seen ≡ room → row + length seen ≡ from
+pub rows_of-append : (cols : List Column) (room row left from : ℕ) (seen : List Fields) (rows : List Row) (rest : List Fields) → left + length seen ≡ room → row + length seen ≡ from
     → rows_of cols room row seen ≡ Ok rows → rows_of cols room row (seen ++ rest) ≡ after rows (rows_of cols left from rest)
 unfolding rows_of
 rows_of-append cols room row left from [] rows rest e f h =
@@ -106,30 +107,30 @@ rows_of-append cols (suc room) row left from (s ∷ ss) rows rest e f h =
     let next = rows_of-append cols room (row + 1) left from ss q.1 rest (omega arith) (omega arith) q.3 in
     first_row_then (length s == length cols) (cells_of cols row 0 s) (rows_of cols room (row + 1) (ss ++ rest)) (error.Reader row) q.0 q.1 rows (rows_of cols left from rest) p.0 q.2 next q.4
 
-row_first : (cols : List Col) (room row left : ℕ) (r : Fields) (rest : List Fields) → room ≡ suc left → length r ≡ length cols
+row_first : (cols : List Column) (room row left : ℕ) (r : Fields) (rest : List Fields) → room ≡ suc left → length r ≡ length cols
     → rows_of cols room row (r ∷ rest) ≡ both (cells_of cols row 0 r) (rows_of cols left (row + 1) rest)
 unfolding rows_of
 row_first cols room row left r rest e n = rw (e, eq-eqb (length r) (length cols) n) refl
 
-no_room : (cols : List Col) (room row : ℕ) (r : Fields) (rest : List Fields) → room ≡ 0 → length r ≡ length cols → rows_of cols room row (r ∷ rest) ≡ Err error.TooMany
+no_room : (cols : List Column) (room row : ℕ) (r : Fields) (rest : List Fields) → room ≡ 0 → length r ≡ length cols → rows_of cols room row (r ∷ rest) ≡ Err error.TooMany
 unfolding rows_of
 no_room cols room row r rest e n = rw (e, eq-eqb (length r) (length cols) n) refl
 
-uneven : (cols : List Col) (room row : ℕ) (r : Fields) (rest : List Fields) → length r ≢ length cols → rows_of cols room row (r ∷ rest) ≡ Err (error.Reader row)
+uneven : (cols : List Column) (room row : ℕ) (r : Fields) (rest : List Fields) → length r ≢ length cols → rows_of cols room row (r ∷ rest) ≡ Err (error.Reader row)
 unfolding rows_of
 uneven cols zero row r rest n = rw (ne_eqb (length r) (length cols) n) refl
 uneven cols (suc room) row r rest n = rw (ne_eqb (length r) (length cols) n) refl
 
 -- ---- one more record after those that gave rows
 
-pub one_more_row : (cols : List Col) (room done : ℕ) (seen : List Fields) (rows : List Row) (r : Fields) (values : Row) → done < room → length seen ≡ done → rows_of cols room 1 seen ≡ Ok rows
+pub one_more_row : (cols : List Column) (room done : ℕ) (seen : List Fields) (rows : List Row) (r : Fields) (values : Row) → done < room → length seen ≡ done → rows_of cols room 1 seen ≡ Ok rows
     → length r ≡ length cols → cells_of cols (done + 1) 0 r ≡ Ok values → rows_of cols room 1 (seen ++ r ∷ []) ≡ Ok (rows ++ values ∷ [])
 one_more_row cols room done seen rows r values lt len was n cells =
     let first : rows_of cols (room - done) (done + 1) (r ∷ []) ≡ Ok (values ∷ []) =
     row_first cols (room - done) (done + 1) (room - (done + 1)) r [] (omega arith) n ∙ rw (cells, rows_of-nil cols (room - (done + 1)) (done + 1 + 1)) refl in
     rows_of-append cols room 1 (room - done) (done + 1) seen rows (r ∷ []) (omega arith) (omega arith) was ∙ ap (after rows) first
 
-pub cell_fault : (cols : List Col) (room done : ℕ) (seen : List Fields) (rows : List Row) (r : Fields) (rest : List Fields) (e : LoadError) → done < room → length seen ≡ done → rows_of cols room 1 seen ≡ Ok rows
+pub cell_fault : (cols : List Column) (room done : ℕ) (seen : List Fields) (rows : List Row) (r : Fields) (rest : List Fields) (e : LoadError) → done < room → length seen ≡ done → rows_of cols room 1 seen ≡ Ok rows
     → length r ≡ length cols → cells_of cols (done + 1) 0 r ≡ Err e → rows_of cols room 1 ((seen ++ r ∷ []) ++ rest) ≡ Err e
 cell_fault cols room done seen rows r rest e lt len was n cells =
     let first : rows_of cols (room - done) (done + 1) (r ∷ rest) ≡ Err e =
@@ -137,14 +138,14 @@ cell_fault cols room done seen rows r rest e lt len was n cells =
     ap (rows_of cols room 1) (append_assoc seen (r ∷ []) rest)
     ∙ rows_of-append cols room 1 (room - done) (done + 1) seen rows (r ∷ rest) (omega arith) (omega arith) was ∙ ap (after rows) first
 
-pub too_many : (cols : List Col) (room : ℕ) (seen : List Fields) (rows : List Row) (r : Fields) (rest : List Fields) → length seen ≡ room → rows_of cols room 1 seen ≡ Ok rows
+pub too_many : (cols : List Column) (room : ℕ) (seen : List Fields) (rows : List Row) (r : Fields) (rest : List Fields) → length seen ≡ room → rows_of cols room 1 seen ≡ Ok rows
     → length r ≡ length cols → rows_of cols room 1 ((seen ++ r ∷ []) ++ rest) ≡ Err error.TooMany
 too_many cols room seen rows r rest len was n =
     ap (rows_of cols room 1) (append_assoc seen (r ∷ []) rest)
     ∙ rows_of-append cols room 1 0 (room + 1) seen rows (r ∷ rest) (omega arith) (omega arith) was
     ∙ ap (after rows) (no_room cols 0 (room + 1) r rest refl n)
 
-pub uneven_fault : (cols : List Col) (room done : ℕ) (seen : List Fields) (rows : List Row) (r : Fields) (rest : List Fields) → done ≤ room → length seen ≡ done → rows_of cols room 1 seen ≡ Ok rows
+pub uneven_fault : (cols : List Column) (room done : ℕ) (seen : List Fields) (rows : List Row) (r : Fields) (rest : List Fields) → done ≤ room → length seen ≡ done → rows_of cols room 1 seen ≡ Ok rows
     → length r ≢ length cols → rows_of cols room 1 (seen ++ r ∷ rest) ≡ Err (error.Reader (done + 1))
 uneven_fault cols room done seen rows r rest le len was n =
     rows_of-append cols room 1 (room - done) (done + 1) seen rows (r ∷ rest) (omega arith) (omega arith) was

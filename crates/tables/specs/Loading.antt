@@ -2,28 +2,19 @@
 use Rattle.std.specs.Prelude.{ℕ, zero, suc, ◌+◌, ◌<◌, ◌≤◌, ◌==◌, ◌&&◌, ◌≡◌, ◌≢◌, Bool, true, false, List, [], ◌∷◌, ◌++◌, length, map, take, get_or, Option, is_none, Result, Ok, Err, IfErr, All, if◌then◌else◌}
 use Rattle.std.specs.Str.{bytes_eq, is_utf8}
 use Rattle.value.specs.declared.types.ColType.{ColType}
-use Rattle.value.specs.declared.types.Kind.{Kind}
+use Rattle.value.specs.declared.types.FaultKind.{FaultKind}
 use Rattle.value.specs.declared.types.Value.{Value}
 use Rattle.value.specs.Datum.{Datum, null, Row, row_of}
+use Rattle.value.specs.Columns.{Column}
 use Rattle.value.specs.Texts.{IsNoNullMark, null_mark, value_at}
 use Rattle.csv_records.specs.declared.RecordError.{RecordError}
 use Rattle.csv_records.specs.declared.RecordError.TheVariants as why
-use Rattle.tables.specs.declared.Column.{Column}
 use Rattle.tables.specs.declared.LoadError.{LoadError}
 use Rattle.tables.specs.declared.LoadError.TheVariants as error
 
--- a column: its name, its type, and whether each row must have a value there
-pub record Col : Type 0 where
-  pub name : List ℕ
-  pub kind : ColType
-  pub required : Bool
-
-abbrev pub col_of : {A : Type 0} → Column A → Col
-col_of c = record { name = c.name; kind = c.kind; required = c.required }
-
 -- what a table holds
 pub record Contents : Type 0 where
-  pub columns : List Col
+  pub columns : List Column
   pub rows : List Row
 
 -- the fields of a record, each as its bytes
@@ -37,44 +28,44 @@ both (Ok x) (Err e) = Err e
 both (Ok x) (Ok xs) = Ok (x ∷ xs)
 
 -- what is no value of the type is reported with its place
-abbrev pub placed : ℕ → ℕ → Result Datum Kind → Result Datum LoadError
+abbrev pub placed : ℕ → ℕ → Result Datum FaultKind → Result Datum LoadError
 placed row column (Ok d) = Ok d
 placed row column (Err k) = Err (error.Cell row column)
 
 -- a cell: null, or the value that its text spells
-abbrev pub cell_of : Col → ℕ → ℕ → List ℕ → Result Datum LoadError
+abbrev pub cell_of : Column → ℕ → ℕ → List ℕ → Result Datum LoadError
 cell_of c row column f =
-    if bytes_eq f null_mark then (if c.required then Err (error.NotNull row column) else Ok null)
-    else if is_utf8 f then placed row column (value_at c.kind f) else Err (error.Cell row column)
+    if bytes_eq f null_mark then (if c.not_null then Err (error.NotNull row column) else Ok null)
+    else if is_utf8 f then placed row column (value_at c.data_type f) else Err (error.Cell row column)
 
 -- the cells of a row, from a column on
-unfoldable pub cells_of : List Col → ℕ → ℕ → Fields → Result Row LoadError
+unfoldable pub cells_of : List Column → ℕ → ℕ → Fields → Result Row LoadError
 cells_of [] row column fs = Ok []
 cells_of (c ∷ cs) row column [] = Err (error.Reader row)
 cells_of (c ∷ cs) row column (f ∷ fs) = both (cell_of c row column f) (cells_of cs row (column + 1) fs)
 
 -- the rows of records, from a row on, where there is room for so many
-unfoldable pub rows_of : List Col → ℕ → ℕ → List Fields → Result (List Row) LoadError
+unfoldable pub rows_of : List Column → ℕ → ℕ → List Fields → Result (List Row) LoadError
 rows_of cols room row [] = Ok []
 rows_of cols zero row (r ∷ rs) = if length r == length cols then Err error.TooMany else Err (error.Reader row)
 rows_of cols (suc room) row (r ∷ rs) =
     if length r == length cols then both (cells_of cols row 0 r) (rows_of cols room (row + 1) rs) else Err (error.Reader row)
 
 -- the fields are the names of the columns, in order
-unfoldable pub names : List Col → Fields → Bool
+unfoldable pub names : List Column → Fields → Bool
 names [] [] = true
 names [] (f ∷ fs) = false
 names (c ∷ cs) [] = false
 names (c ∷ cs) (f ∷ fs) = bytes_eq f c.name && names cs fs
 
 -- the rows of records whose first one is the names of the columns
-abbrev pub load_of : List Col → ℕ → List Fields → Result (List Row) LoadError
+abbrev pub load_of : List Column → ℕ → List Fields → Result (List Row) LoadError
 load_of cols room [] = Err error.Header
 load_of cols room (h ∷ rs) = if names cols h then rows_of cols room 1 rs else Err error.Header
 
 -- no value that a load gives has the text of the null mark
 abbrev pub NoTextIsNull : Type 0
-NoTextIsNull = (cols : List Col) (room : ℕ) (recs : List Fields) (rows : List Row) → load_of cols room recs ≡ Ok rows → All (λ row. All IsNoNullMark row) rows
+NoTextIsNull = (cols : List Column) (room : ℕ) (recs : List Fields) (rows : List Row) → load_of cols room recs ≡ Ok rows → All (λ row. All IsNoNullMark row) rows
 
 -- the error that is reported where the record of a row was not read
 abbrev pub reported : RecordError → ℕ → LoadError
@@ -113,7 +104,7 @@ UnlessUnread (Ok y) fact = fact
 UnlessUnread (Err e) fact = ((row : ℕ) → e ≢ error.Reader row) → fact
 
 -- where a row was not read, the header and the rows before it are there and without fault
-abbrev pub StopsAfterGood : {Y : Type 0} → List Col → ℕ → List Fields → Result Y LoadError → Type 0
+abbrev pub StopsAfterGood : {Y : Type 0} → List Column → ℕ → List Fields → Result Y LoadError → Type 0
 StopsAfterGood cols room recs result =
     IfErr result (λ e. (row : ℕ) → e ≡ error.Reader row → 0 < row → (row ≤ length recs) × (rows : List Row) × (load_of cols room (take row recs) ≡ Ok rows))
 

@@ -5,7 +5,8 @@ use Rattle.value.specs.declared.types.Value.{Value}
 use Rattle.value.specs.Datum.{Row}
 use Rattle.tables.specs.declared.LoadError.{LoadError}
 use Rattle.tables.specs.declared.LoadError.TheVariants as error
-use Rattle.tables.specs.Loading.{Col, Fields, Follows, StopsAfterGood, is_fault, load_of, names, reported, rows_data, rows_of}
+use Rattle.tables.specs.Loading.{Fields, Follows, StopsAfterGood, is_fault, load_of, names, reported, rows_data, rows_of}
+use Rattle.value.specs.Columns.{Column}
 
 -- the records are those that are known, if they are
 abbrev pub AreKnown : Option (List Fields) → List Fields → Type 0
@@ -17,20 +18,20 @@ abbrev pub Refuses : ℕ → Left → Left → LoadError → Type 0
 Refuses row old new e = MatchOption new.failure ((e ≡ error.Reader row) × NextIsUneven old) (λ why. e ≡ reported why row)
 
 -- the first record was read and is the header, or there is no header
-abbrev pub HeaderIs : List Col → Left → Left → Result (Unit {0}) LoadError → Type 0
+abbrev pub HeaderIs : List Column → Left → Left → Result (Unit {0}) LoadError → Type 0
 HeaderIs cols old new (Ok u) = (h : Fields) × (names cols h ≡ true) × GivesOf old.records new.records true h
 HeaderIs cols old new (Err e) = (is_fault new.failure e ≡ true → (room : ℕ) → load_of cols room (unwrap_or old.records []) ≡ Err e)
     × ((row : ℕ) → e ≡ error.Reader row → row ≡ 0)
 
 -- the rows after the header are those of some records, which are those that are known, or the fault is theirs
-abbrev pub RowsFollow : {A : Type 0} → List Col → ℕ → Option (List Fields) → Left → Result (Vec (List (Value A)) A) LoadError → Type 0
+abbrev pub RowsFollow : {A : Type 0} → List Column → ℕ → Option (List Fields) → Left → Result (Vec (List (Value A)) A) LoadError → Type 0
 RowsFollow cols room known left result = (recs : List Fields) × AreKnown known recs
     × Follows (λ rows. rows_data rows.items) left.failure (rows_of cols room 1 recs) result
     × OnOk result (length recs + 1 ≡ left.given)
     × IfErr result (λ e. (row : ℕ) → e ≡ error.Reader row → (row - 1 ≤ length recs) × (rows : List Row) × (rows_of cols room 1 (take (row - 1) recs) ≡ Ok rows))
 
 -- the same of a text with its header
-abbrev pub LoadFollows : {A : Type 0} → List Col → ℕ → Option (List Fields) → Left → Result (Vec (List (Value A)) A) LoadError → Type 0
+abbrev pub LoadFollows : {A : Type 0} → List Column → ℕ → Option (List Fields) → Left → Result (Vec (List (Value A)) A) LoadError → Type 0
 LoadFollows cols room known left result = (recs : List Fields) × AreKnown known recs
     × Follows (λ rows. rows_data rows.items) left.failure (load_of cols room recs) result
     × OnOk result (length recs ≡ left.given)

@@ -1,24 +1,10 @@
 //! Typed tables, read from comma-separated text.
 #![tactic(auto)]
 
-use memory::Heap;
 use std::alloc::{AllocError, AllocFailed};
-use text::Text;
-use value::ColType;
 
 /// How many rows a table holds at most.
 pub const MAX_ROWS: u64 = 4_000_000_000;
-
-/// A column.
-#[derive(Drop)]
-pub struct Column<A: Heap> {
-    /// The name, which the header has at the column's place.
-    pub name: Text<A>,
-    /// The type of its values.
-    pub kind: ColType,
-    /// Whether no row may be null there (`NOT NULL`).
-    pub required: bool,
-}
 
 /// Why a text gave no rows. Rows count from 1 after the header, which is row 0, and columns from 0. Of several faults the
 /// first row decides, and then the first column.

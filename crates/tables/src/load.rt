@@ -4,18 +4,19 @@ ghost use Rattle.std.specs.Prelude.{◌≡◌, ◌≢◌, ◌+◌, ◌-◌, ◌<
 ghost use Rattle.csv.specs.Records.{fields_of};
 ghost use Rattle.csv_records.specs.Left.{Gives, counted};
 ghost use Rattle.value.specs.Datum.{datum, row_of};
-ghost use Rattle.tables.specs.Loading.{Follows, cell_of, cells_of, col_of, names, reported};
+ghost use Rattle.tables.specs.Loading.{Follows, cell_of, cells_of, names, reported};
+ghost use Rattle.value.specs.Columns.{column_of};
 ghost use Rattle.tables.specs.Reading.{HeaderIs, LoadFollows, Refuses, RowsFollow};
 ghost use Rattle.tables.specs.declared.LoadError.TheVariants.{Reader};
 
-use crate::{Column, LoadError};
+use crate::LoadError;
 use csv::ByteRecord;
 use csv_records::{RecordError, Records};
 use memory::Heap;
 use std::io::Read;
 use std::str;
 use text::Items;
-use value::{ReadError, Value, read_value};
+use value::{Column, ReadError, Value, read_value};
 
 // The value of a cell.
 fn read_cell<A: Heap>(
@@ -25,11 +26,11 @@ fn read_cell<A: Heap>(
     row: u64,
     at: u64,
 ) -> Result<Value<A>, LoadError>
-    ensures cell { Follows datum None (cell_of (col_of column.now) row at field.now) result }
+    ensures cell { Follows datum None (cell_of (column_of column.now) row at field.now) result }
     ensures no_reader { IfErr result (λ e. (r : ℕ) → e ≢ Reader r) }
 {
     if field == b"\\N".as_slice() {
-        if column.required {
+        if column.not_null {
             return Err(LoadError::NotNull { row, column: at });
         }
         return Ok(Value::Null);
@@ -37,9 +38,9 @@ fn read_cell<A: Heap>(
     let Ok(text) = str::from_utf8(field) else {
         return Err(LoadError::Cell { row, column: at });
     };
-    match read_value(alloc, column.kind, text) {
+    match read_value(alloc, column.data_type, text) {
         Ok(value) => Ok(value),
-        Err(ReadError::Kind(_)) => Err(LoadError::Cell { row, column: at }),
+        Err(ReadError::Fault(_)) => Err(LoadError::Cell { row, column: at }),
         Err(ReadError::Memory) => Err(LoadError::OutOfMemory),
     }
 }
@@ -53,7 +54,7 @@ fn read_row<A: Heap>(
 ) -> Result<Items<Value<A>, A>, LoadError>
     requires { length (fields_of cells.now) ≡ length columns.now }
     ensures wide { IfOk result (λ values. length values ≡ length columns.now) }
-    ensures cells { Follows (λ values. row_of values) None (cells_of (map col_of columns.now) row 0 (fields_of cells.now)) result }
+    ensures cells { Follows (λ values. row_of values) None (cells_of (map column_of columns.now) row 0 (fields_of cells.now)) result }
     ensures no_reader { IfErr result (λ e. (r : ℕ) → e ≢ Reader r) }
 {
     let mut values = Vec::with_capacity(alloc, columns.len())?;
@@ -99,7 +100,7 @@ fn read_rows<A: Heap, R: Read>(
     ensures wide { IfOk result (λ rows. All (λ r. length r ≡ length columns.now) rows.items) }
     ensures few { IfOk result (λ rows. length rows.items ≤ room) }
     ensures failed { IfSome records.new.failure (λ why. IsErrOf result (reported why records.new.given)) }
-    ensures rows { RowsFollow (map col_of columns.now) room records.old.records records.new result }
+    ensures rows { RowsFollow (map column_of columns.now) room records.old.records records.new result }
 {
     let mut rows = Vec::new(alloc);
     let mut cells = ByteRecord::new(alloc.global());
@@ -118,7 +119,7 @@ fn read_rows<A: Heap, R: Read>(
 
 // Whether the fields are the names of the columns.
 fn has_names<A: Heap>(columns: &[Column<A>], cells: &ByteRecord) -> bool
-    ensures names { result ≡ names (map col_of columns.now) (fields_of cells.now) }
+    ensures names { result ≡ names (map column_of columns.now) (fields_of cells.now) }
     ensures len { result ≡ true → length (fields_of cells.now) ≡ length columns.now }
 {
     if cells.len() != columns.len() {
@@ -148,7 +149,7 @@ fn read_header<A: Heap, R: Read>(
     ensures given { OnOk result (records.new.given ≡ 1) }
     ensures fresh { OnOk result (records.new.failure ≡ None) }
     ensures failed { IfSome records.new.failure (λ why. IsErrOf result (reported why records.new.given)) }
-    ensures header { HeaderIs (map col_of columns.now) records.old records.new result }
+    ensures header { HeaderIs (map column_of columns.now) records.old records.new result }
 {
     let mut cells = ByteRecord::new(alloc.global());
     if next_record(records, &mut cells, 0)? && has_names(columns, &cells) {
@@ -172,7 +173,7 @@ pub(crate) fn read_table<A: Heap, R: Read>(
     ensures wide { IfOk result (λ rows. All (λ r. length r ≡ length columns.now) rows.items) }
     ensures few { IfOk result (λ rows. length rows.items ≤ room) }
     ensures failed { IfSome records.new.failure (λ why. IsErrOf result (reported why records.new.given)) }
-    ensures rows { LoadFollows (map col_of columns.now) room records.old.records records.new result }
+    ensures rows { LoadFollows (map column_of columns.now) room records.old.records records.new result }
 {
     read_header(alloc, columns, records)?;
     read_rows(alloc, columns, records, room)

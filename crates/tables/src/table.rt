@@ -2,18 +2,19 @@
 
 ghost use Rattle.std.specs.Prelude.{◌≡◌, ◌-◌, ◌<◌, ◌≤◌, None, List, [], length, map, All, IfOk, IfSome, IsErrOf, OnErr, OnOk};
 ghost use Rattle.csv_records.specs.Left.{records_of};
-ghost use Rattle.value.specs.Datum.{seen};
-ghost use Rattle.tables.specs.Loading.{Appends, Fields, Loads, NoTextIsNull, StopsAfterGood, UnlessUnread, cell_at, col_of, load_of, reported};
+ghost use Rattle.value.specs.Columns.{column_of};
+ghost use Rattle.value.specs.Datum.{datum_of};
+ghost use Rattle.tables.specs.Loading.{Appends, Fields, Loads, NoTextIsNull, StopsAfterGood, UnlessUnread, cell_at, load_of, reported};
 ghost use Rattle.tables.specs.declared.TheConstants.{MAX_ROWS};
 
 use crate::load::read_table;
-use crate::{Column, LoadError, MAX_ROWS};
+use crate::{LoadError, MAX_ROWS};
 use csv_records::Records;
 use memory::Heap;
 use std::io::Read;
 use std::marker::Model;
 use text::Items;
-use value::{Val, Value};
+use value::{Column, Val, Value};
 
 /// A table: its columns, and its rows in the order in which they were read.
 #[derive(Drop)]
@@ -38,7 +39,7 @@ impl<A: Heap> Model for Table<A> {
 impl<A: Heap> Table<A> {
     /// A table with no rows.
     pub fn new(alloc: A, columns: Items<Column<A>, A>) -> Table<A>
-        ensures columns { result.columns ≡ map col_of columns }
+        ensures columns { result.columns ≡ map column_of columns }
         ensures rows { result.rows ≡ [] }
     {
         Table {
@@ -56,11 +57,11 @@ impl<A: Heap> Table<A> {
         reader: R,
         columns: Items<Column<A>, A>,
     ) -> Result<Table<A>, LoadError>
-        ensures columns { IfOk result (λ t. t.columns ≡ map col_of columns) }
-        ensures exact { IfSome (R.remaining reader) (λ bytes. UnlessUnread result (Loads (load_of (map col_of columns) MAX_ROWS (records_of bytes)) result)) }
+        ensures columns { IfOk result (λ t. t.columns ≡ map column_of columns) }
+        ensures exact { IfSome (R.remaining reader) (λ bytes. UnlessUnread result (Loads (load_of (map column_of columns) MAX_ROWS (records_of bytes)) result)) }
         // The same of bytes that are not known: what was read were some records.
-        ensures some_records { UnlessUnread result ((recs : List Fields) × Loads (load_of (map col_of columns) MAX_ROWS recs) result) }
-        ensures stops { IfSome (R.remaining reader) (λ bytes. StopsAfterGood (map col_of columns) MAX_ROWS (records_of bytes) result) }
+        ensures some_records { UnlessUnread result ((recs : List Fields) × Loads (load_of (map column_of columns) MAX_ROWS recs) result) }
+        ensures stops { IfSome (R.remaining reader) (λ bytes. StopsAfterGood (map column_of columns) MAX_ROWS (records_of bytes) result) }
     {
         let mut records = Records::new(alloc.global(), reader);
         Table::load_records(alloc, &mut records, columns)
@@ -89,12 +90,12 @@ impl<A: Heap> Table<A> {
         requires expected { records.old.expected ≡ None }
         requires given { records.old.given ≡ 0 }
         requires fresh { records.old.failure ≡ None }
-        ensures columns { IfOk result (λ t. t.columns ≡ map col_of columns) }
-        ensures exact { records.new.failure ≡ None → IfSome records.old.records (λ recs. Loads (load_of (map col_of columns) MAX_ROWS recs) result) }
+        ensures columns { IfOk result (λ t. t.columns ≡ map column_of columns) }
+        ensures exact { records.new.failure ≡ None → IfSome records.old.records (λ recs. Loads (load_of (map column_of columns) MAX_ROWS recs) result) }
         // The same of records that are not known: what was read were some records, as many as were given.
-        ensures some_records { records.new.failure ≡ None → (recs : List Fields) × Loads (load_of (map col_of columns) MAX_ROWS recs) result × OnOk result (length recs ≡ records.new.given) }
+        ensures some_records { records.new.failure ≡ None → (recs : List Fields) × Loads (load_of (map column_of columns) MAX_ROWS recs) result × OnOk result (length recs ≡ records.new.given) }
         ensures failed { IfSome records.new.failure (λ why. IsErrOf result (reported why records.new.given)) }
-        ensures stops { IfSome records.old.records (λ recs. StopsAfterGood (map col_of columns) MAX_ROWS recs result) }
+        ensures stops { IfSome records.old.records (λ recs. StopsAfterGood (map column_of columns) MAX_ROWS recs result) }
     {
         let mut table = Table::new(alloc, columns);
         table.append_records(records)?;
@@ -122,7 +123,7 @@ impl<A: Heap> Table<A> {
 
     /// The columns, in order.
     pub fn columns(&self) -> &[Column<A>]
-        ensures { map col_of result.now ≡ self.now.columns }
+        ensures { map column_of result.now ≡ self.now.columns }
     {
         self.columns.as_slice()
     }
@@ -140,7 +141,7 @@ impl<A: Heap> Table<A> {
     pub fn cell(&self, row: u64, column: u64) -> Val<'_, A>
         requires row { row < length self.now.rows }
         requires column { column < length self.now.columns }
-        ensures { seen result ≡ cell_at self.now row column }
+        ensures { datum_of result ≡ cell_at self.now row column }
     {
         self.rows[row as usize].as_slice()[column as usize].as_val()
     }

@@ -8,8 +8,8 @@ use Rattle.std.specs.Str.Parse.{digits_value}
 use Rattle.std.proofs.lemmas.Fmt.{decimal_digit, first_decimal, digits_decimal, digits_value-decimal, decimal-digits_value}
 use Rattle.std.proofs.lemmas.Slice.Eq.{bytes_eq-Decides}
 use Rattle.std.proofs.lemmas.Bool.Decides.{nat_tests}
-use Rattle.value.specs.declared.types.Kind.{Kind}
-use Rattle.value.specs.declared.types.Kind.TheVariants.{BadText, Range}
+use Rattle.value.specs.declared.types.FaultKind.{FaultKind}
+use Rattle.value.specs.declared.types.FaultKind.TheVariants.{BadText, Range}
 use Rattle.value.specs.Exact.{in_range, is_bigint}
 use Rattle.value.specs.Texts.{is_positive, is_spelled, spelled, bigint_at}
 use Rattle.value.proofs.Spelling.{own, same_test, both}
@@ -52,10 +52,10 @@ read_again (negsuc n) h = read_negative n (grind (arith, nat_tests))
 
 -- ---- nothing else is read as it
 
-ok_is : (x z : ℤ) → ◌≡◌ {A = Result ℤ Kind} (Ok x) (Ok z) → x ≡ z
+ok_is : (x z : ℤ) → ◌≡◌ {A = Result ℤ FaultKind} (Ok x) (Ok z) → x ≡ z
 ok_is x z h = cc
 
-err_is : (k : Kind) (z : ℤ) → ◌≡◌ {A = Result ℤ Kind} (Err k) (Ok z) → ⊥
+err_is : (k : FaultKind) (z : ℤ) → ◌≡◌ {A = Result ℤ FaultKind} (Err k) (Ok z) → ⊥
 err_is k z h = cc
 
 ranged_by : (x z : ℤ) (b : Bool) → is_bigint x ≡ b → in_range x ≡ Ok z → (x ≡ z) × (is_bigint x ≡ true)
@@ -104,7 +104,7 @@ spelled_text : (t : List ℕ) → is_spelled t ≡ true → is_bigint (spelled t
 spelled_text [] s f = cc
 spelled_text (c ∷ cs) s f = spelled_by c cs (c == 45) refl s f
 
-zero_text : (t : List ℕ) (z : ℤ) → ◌≡◌ {A = Result ℤ Kind} (cond (bytes_eq t (48 ∷ [])) (Ok (pos 0)) (Err BadText)) (Ok z) → t ≡ signed_decimal z
+zero_text : (t : List ℕ) (z : ℤ) → ◌≡◌ {A = Result ℤ FaultKind} (cond (bytes_eq t (48 ∷ [])) (Ok (pos 0)) (Err BadText)) (Ok z) → t ≡ signed_decimal z
 zero_text t z h =
     elim (chosen (bytes_eq t (48 ∷ [])) (Ok (pos 0)) (Err BadText) (Ok z) h) [
       | inl p ↦ (bytes_eq-Decides t (48 ∷ [])).0 p.0 ∙ sym (decimal_digit 0 (omega arith)) ∙ ap signed_decimal (ok_is (pos 0) z p.1)

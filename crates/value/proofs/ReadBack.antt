@@ -4,8 +4,8 @@ use Rattle.std.specs.Str.{bytes_eq}
 use Rattle.std.specs.Fmt.{signed_decimal}
 use Rattle.std.proofs.lemmas.Slice.Eq.{bytes_eq-Decides}
 use Rattle.value.specs.Datum.{Datum, null, int, text, bool}
-use Rattle.value.specs.declared.types.Kind.{Kind}
-use Rattle.value.specs.declared.types.Kind.TheVariants.{BadText}
+use Rattle.value.specs.declared.types.FaultKind.{FaultKind}
+use Rattle.value.specs.declared.types.FaultKind.TheVariants.{BadText}
 use Rattle.value.specs.declared.types.ColType.{ColType}
 use Rattle.value.specs.declared.types.ColType.TheVariants as types
 use Rattle.value.specs.Exact.{is_bigint, as_number}
@@ -43,20 +43,20 @@ written types.Boolean (text s) t h e = cc
 
 -- ---- what reads is what is written
 
-ok_is : (x d : Datum) → ◌≡◌ {A = Result Datum Kind} (Ok x) (Ok d) → x ≡ d
+ok_is : (x d : Datum) → ◌≡◌ {A = Result Datum FaultKind} (Ok x) (Ok d) → x ≡ d
 ok_is x d h = cc
 
-err_is : (k : Kind) (d : Datum) → ◌≡◌ {A = Result Datum Kind} (Err k) (Ok d) → ⊥
+err_is : (k : FaultKind) (d : Datum) → ◌≡◌ {A = Result Datum FaultKind} (Err k) (Ok d) → ⊥
 err_is k d h = cc
 
-bigint_text : (r : Result ℤ Kind) (d : Datum) (t : List ℕ) → bigint_at t ≡ r → as_number r ≡ Ok d → text_at d ≡ Some t
+bigint_text : (r : Result ℤ FaultKind) (d : Datum) (t : List ℕ) → bigint_at t ≡ r → as_number r ≡ Ok d → text_at d ≡ Some t
 bigint_text (Ok z) d t e h = ap text_at (sym (ok_is (int z) d h)) ∙ ap Some (sym (one_spelling t z e))
 bigint_text (Err k) d t e h = absurd (err_is k d h)
 
 same_bytes : (t s : List ℕ) → bytes_eq t s ≡ true → t ≡ s
 same_bytes t s e = (bytes_eq-Decides t s).0 e
 
-is_f : (d : Datum) (t : List ℕ) → ◌≡◌ {A = Result Datum Kind} (cond (bytes_eq t (codes "f")) (Ok (bool false)) (Err BadText)) (Ok d) → text_at d ≡ Some t
+is_f : (d : Datum) (t : List ℕ) → ◌≡◌ {A = Result Datum FaultKind} (cond (bytes_eq t (codes "f")) (Ok (bool false)) (Err BadText)) (Ok d) → text_at d ≡ Some t
 is_f d t h =
     elim (chosen (bytes_eq t (codes "f")) (Ok (bool false)) (Err BadText) (Ok d) h) [
       | inl p ↦ ap text_at (sym (ok_is (bool false) d p.1)) ∙ ap Some (sym (same_bytes t (codes "f") p.0))

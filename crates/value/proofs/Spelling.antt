@@ -6,7 +6,7 @@ use Rattle.std.specs.Char.{is_ascii_digit}
 use Rattle.std.specs.Str.Parse.{IsNumeral, digits_value, without_leading_sign, signed_digits_value}
 use Rattle.std.proofs.lemmas.Str.Parse.{IsNumeralModel, numerals_by_value, tells_all_ascii_digits}
 use Rattle.std.proofs.lemmas.Bool.Decides.{nat_tests}
-use Rattle.value.specs.declared.types.Kind.TheVariants.{Range}
+use Rattle.value.specs.declared.types.FaultKind.TheVariants.{Range}
 use Rattle.value.specs.Exact.{in_range, is_bigint}
 use Rattle.value.specs.Texts.{is_positive, is_spelled, spelled, bigint_at}
 

@@ -24,16 +24,16 @@ datum (owned.Text s) = text s
 datum (owned.Bool b) = bool b
 
 -- what a lent value is
-abbrev pub seen : {A : Type 0} → Val A → Datum
-seen lent.Null = null
-seen (lent.Int n) = int n
-seen (lent.Text s) = text (cow_str_bytes s)
-seen (lent.Bool b) = bool b
+abbrev pub datum_of : {A : Type 0} → Val A → Datum
+datum_of lent.Null = null
+datum_of (lent.Int n) = int n
+datum_of (lent.Text s) = text (cow_str_bytes s)
+datum_of (lent.Bool b) = bool b
 
 abbrev pub row_of : {A : Type 0} → List (Value A) → Row
 row_of values = map datum values
 
 -- what a function of values returned
-abbrev pub sees : {A E : Type 0} → Result (Val A) E → Result Datum E
-sees (Ok v) = Ok (seen v)
-sees (Err e) = Err e
+abbrev pub datums_of : {A E : Type 0} → Result (Val A) E → Result Datum E
+datums_of (Ok v) = Ok (datum_of v)
+datums_of (Err e) = Err e

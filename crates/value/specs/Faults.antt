@@ -2,19 +2,19 @@
 use Rattle.std.specs.Prelude.{ℕ, List, codes}
 use Rattle.std.specs.declared.cmp.Ordering.{Ordering}
 use Rattle.std.specs.Ordering.{nat_cmp, on}
-use Rattle.value.specs.declared.types.Kind.{Kind}
-use Rattle.value.specs.declared.types.Kind.TheVariants.{Div0, Range, BadText}
+use Rattle.value.specs.declared.types.FaultKind.{FaultKind}
+use Rattle.value.specs.declared.types.FaultKind.TheVariants.{Div0, Range, BadText}
 
 -- of two kinds that are due, the lower is reported
-abbrev pub kind_rank : Kind → ℕ
+abbrev pub kind_rank : FaultKind → ℕ
 kind_rank Div0 = 0
 kind_rank Range = 1
 kind_rank BadText = 2
 
-abbrev pub kind_cmp : Kind → Kind → Ordering
+abbrev pub kind_cmp : FaultKind → FaultKind → Ordering
 kind_cmp = on kind_rank nat_cmp
 
-abbrev pub kind_code : Kind → List ℕ
+abbrev pub kind_code : FaultKind → List ℕ
 kind_code Div0 = codes "22012"
 kind_code Range = codes "22003"
 kind_code BadText = codes "22P02"

@@ -7,3 +7,4 @@ pub mod Texts
 pub mod Casts
 pub mod Faults
 pub mod Codes
+pub mod Columns

@@ -5,8 +5,8 @@ use Rattle.std.specs.List.{list_all}
 use Rattle.std.specs.Str.{bytes_eq}
 use Rattle.std.specs.Char.{is_ascii_digit}
 use Rattle.std.specs.Str.Parse.{digits_value}
-use Rattle.value.specs.declared.types.Kind.{Kind}
-use Rattle.value.specs.declared.types.Kind.TheVariants.{BadText}
+use Rattle.value.specs.declared.types.FaultKind.{FaultKind}
+use Rattle.value.specs.declared.types.FaultKind.TheVariants.{BadText}
 use Rattle.value.specs.Exact.{in_range, is_bigint, as_number}
 use Rattle.value.specs.Datum.{Datum, null, int, text, bool, datum}
 use Rattle.value.specs.declared.types.ColType.{ColType}
@@ -31,7 +31,7 @@ spelled [] = pos 0
 spelled (c ∷ cs) = if c == 45 then neg_ℤ (pos (digits_value 10 cs)) else pos (digits_value 10 (c ∷ cs))
 
 -- the bigint of a text
-abbrev pub bigint_at : List ℕ → Result ℤ Kind
+abbrev pub bigint_at : List ℕ → Result ℤ FaultKind
 bigint_at t = if is_spelled t then in_range (spelled t) else (if bytes_eq t (48 ∷ []) then Ok (pos 0) else Err BadText)
 
 -- what is read as a bigint is its own text
@@ -43,19 +43,19 @@ abbrev pub ReadAgain : Type 0
 ReadAgain = (z : ℤ) → is_bigint z ≡ true → bigint_at (signed_decimal z) ≡ Ok z
 
 -- t or f
-abbrev pub boolean_at : List ℕ → Result Datum Kind
+abbrev pub boolean_at : List ℕ → Result Datum FaultKind
 boolean_at t = if bytes_eq t (codes "t") then Ok (bool true) else if bytes_eq t (codes "f") then Ok (bool false) else Err BadText
 
 -- the value of a type that a text spells
-abbrev pub value_at : ColType → List ℕ → Result Datum Kind
+abbrev pub value_at : ColType → List ℕ → Result Datum FaultKind
 value_at types.Bigint t = as_number (bigint_at t)
 value_at types.Text t = Ok (text t)
 value_at types.Boolean t = boolean_at t
 
 -- what is read is this, unless memory ran out
-abbrev pub Reads : {A : Type 0} → Result (Value A) ReadError → Result Datum Kind → Type 0
+abbrev pub Reads : {A : Type 0} → Result (Value A) ReadError → Result Datum FaultKind → Type 0
 Reads (Ok v) due = due ≡ Ok (datum v)
-Reads (Err (errors.Kind k)) due = due ≡ Err k
+Reads (Err (errors.Fault k)) due = due ≡ Err k
 Reads (Err errors.Memory) due = Unit {0}
 
 -- the field that stands for null: a backslash and N

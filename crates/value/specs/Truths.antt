@@ -16,7 +16,7 @@ abbrev pub greatest : Truth → Truth → Truth
 greatest a b = if nat_lt (rank a) (rank b) then b else a
 
 -- the order turned round
-abbrev pub opposite : Truth → Truth
-opposite False = True
-opposite Unknown = Unknown
-opposite True = False
+abbrev pub negated : Truth → Truth
+negated False = True
+negated Unknown = Unknown
+negated True = False

@@ -3,7 +3,7 @@
 ghost use Rattle.std.specs.Prelude.{◌≡◌};
 ghost use Rattle.value.specs.Faults.{kind_code, kind_cmp};
 
-use crate::types::Kind;
+use crate::types::FaultKind;
 
 /// Where an evaluation failed, and by what.
 #[derive(Clone, Copy, Debug, PartialEq, Eq)]
@@ -11,23 +11,23 @@ pub struct Fault {
     /// The byte of the query's text where the failing part begins.
     pub offset: u32,
     /// What it failed by.
-    pub kind: Kind,
+    pub kind: FaultKind,
 }
 
-impl Kind {
+impl FaultKind {
     /// The code, of five characters (PostgreSQL: Error Codes).
     pub fn code(self) -> &'static str
         ensures { result.now ≡ kind_code self }
     {
         match self {
-            Kind::Div0 => "22012",
-            Kind::Range => "22003",
-            Kind::BadText => "22P02",
+            FaultKind::Div0 => "22012",
+            FaultKind::Range => "22003",
+            FaultKind::BadText => "22P02",
         }
     }
 }
 
 /// Of two kinds that are due the lesser is reported: division by zero, then a number out of range, then a text that is no number.
-pub fn kinds_in_order()
-    ensures { (a b : Kind) → ⟦<Kind as Ord>⟧.cmp a b ≡ kind_cmp a b }
+pub fn law_kinds_in_order()
+    ensures { (a b : FaultKind) → ⟦<FaultKind as Ord>⟧.cmp a b ≡ kind_cmp a b }
 {}

@@ -3,7 +3,9 @@
 
 mod arith;
 mod casting;
+mod column;
 mod faults;
+mod operators;
 mod order;
 mod reading;
 mod refusal;
@@ -13,10 +15,12 @@ mod writing;
 
 pub use arith::{add, div, mul, neg, rem, sub};
 pub use casting::{CastError, cast};
-pub use faults::{Fault, kinds_in_order};
-pub use order::{Truth, cmp_rows, cmp_values, eq3, lt3, sort_rows, sorted_rows};
-pub use reading::{ReadError, one_spelling, read_bigint, read_value};
+pub use column::Column;
+pub use faults::{Fault, law_kinds_in_order};
+pub use operators::{Aggregate, Arithmetic, Comparison};
+pub use order::{Truth, cmp_rows, cmp_values, eq3, law_sorted_rows, lt3, sort_rows};
+pub use reading::{ReadError, law_one_spelling, read_bigint, read_value};
 pub use refusal::Refusal;
 pub use truth::{and3, as_condition, not3, of_truth, or3};
-pub use types::{ColType, Kind, Val, Value};
-pub use writing::{text_of, texts_read_back};
+pub use types::{ColType, FaultKind, Val, Value};
+pub use writing::{law_texts_read_back, text_of};

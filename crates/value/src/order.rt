@@ -2,7 +2,7 @@
 
 ghost use Rattle.std.specs.Prelude.{◌≡◌, IsTrue, ◌↔◌, List, map, IsPermutation, IsSorted};
 ghost use Rattle.bags.specs.Sorting.{sorted_by};
-ghost use Rattle.value.specs.Datum.{Row, seen, null, row_of};
+ghost use Rattle.value.specs.Datum.{Row, datum_of, null, row_of};
 ghost use Rattle.value.specs.Orders.{datum_cmp, row_cmp, compared, equal_of, less_of, class};
 
 use crate::types::{Val, Value};
@@ -22,7 +22,7 @@ pub enum Truth {
 }
 
 fn class<A: Heap>(a: &Val<'_, A>) -> u8
-    ensures { result ≡ class (seen a.now) }
+    ensures { result ≡ class (datum_of a.now) }
 {
     match a {
         Val::Bool(false) => 0,
@@ -35,7 +35,7 @@ fn class<A: Heap>(a: &Val<'_, A>) -> u8
 
 /// The order of values, ascending with nulls last; texts by their bytes.
 pub fn cmp_values<A: Heap>(a: &Val<'_, A>, b: &Val<'_, A>) -> Ordering
-    ensures { result ≡ datum_cmp (seen a.now) (seen b.now) }
+    ensures { result ≡ datum_cmp (datum_of a.now) (datum_of b.now) }
 {
     match (a, b) {
         (Val::Int(m), Val::Int(n)) => m.cmp(n),
@@ -45,14 +45,14 @@ pub fn cmp_values<A: Heap>(a: &Val<'_, A>, b: &Val<'_, A>) -> Ordering
 }
 
 fn is_null<A: Heap>(a: &Val<'_, A>) -> bool
-    ensures { IsTrue result ↔ (seen a.now ≡ null) }
+    ensures { IsTrue result ↔ (datum_of a.now ≡ null) }
 {
     matches!(a, Val::Null)
 }
 
 // What a comparison says; unknown where a value is null.
 fn unless_null<A: Heap>(a: &Val<'_, A>, b: &Val<'_, A>, holds: bool) -> Truth
-    ensures { result ≡ compared (λ _. holds) (seen a.now) (seen b.now) }
+    ensures { result ≡ compared (λ _. holds) (datum_of a.now) (datum_of b.now) }
 {
     if is_null(a) || is_null(b) {
         Truth::Unknown
@@ -65,14 +65,14 @@ fn unless_null<A: Heap>(a: &Val<'_, A>, b: &Val<'_, A>, holds: bool) -> Truth
 
 /// Whether two values are equal; unknown where one is null (PostgreSQL: Comparison Functions and Operators).
 pub fn eq3<A: Heap>(a: &Val<'_, A>, b: &Val<'_, A>) -> Truth
-    ensures { result ≡ equal_of (seen a.now) (seen b.now) }
+    ensures { result ≡ equal_of (datum_of a.now) (datum_of b.now) }
 {
     unless_null(a, b, cmp_values(a, b).is_eq())
 }
 
 /// Whether a value is less than another; unknown where one is null (PostgreSQL: Comparison Functions and Operators).
 pub fn lt3<A: Heap>(a: &Val<'_, A>, b: &Val<'_, A>) -> Truth
-    ensures { result ≡ less_of (seen a.now) (seen b.now) }
+    ensures { result ≡ less_of (datum_of a.now) (datum_of b.now) }
 {
     unless_null(a, b, cmp_values(a, b).is_lt())
 }
@@ -100,6 +100,6 @@ pub fn sort_rows<A: Heap>(rows: &mut Vec<Items<Value<A>, A>, A>)
 }
 
 /// The order of rows is total and tells all rows apart, so a list of rows has one sorted order.
-pub fn sorted_rows()
+pub fn law_sorted_rows()
     ensures { (rows ys : List Row) → (ys ≡ sorted_by row_cmp rows) ↔ (IsPermutation rows ys × IsSorted row_cmp ys) }
 {}

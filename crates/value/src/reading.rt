@@ -6,7 +6,7 @@ ghost use Rattle.std.specs.Char.{is_ascii_digit};
 ghost use Rattle.value.specs.Texts.{is_positive, is_spelled, bigint_at, value_at, Reads, ReadAgain, OneSpelling};
 ghost use Rattle.value.specs.declared.reading.ReadError.TheVariants.{Memory};
 
-use crate::types::{ColType, Kind, Value};
+use crate::types::{ColType, FaultKind, Value};
 use memory::Heap;
 use std::alloc::AllocError;
 use text::Text;
@@ -40,18 +40,18 @@ fn is_spelled(text: &[u8]) -> bool
 }
 
 /// The bigint that a text spells: `0`, or an optional minus and digits that do not begin with 0.
-pub fn read_bigint(text: &str) -> Result<i64, Kind>
+pub fn read_bigint(text: &str) -> Result<i64, FaultKind>
     ensures { result ≡ bigint_at text.now }
 {
     if is_spelled(text.as_bytes()) {
         match text.parse::<i64>() {
             Ok(n) => Ok(n),
-            Err(_) => Err(Kind::Range),
+            Err(_) => Err(FaultKind::Range),
         }
     } else if text == "0" {
         Ok(0)
     } else {
-        Err(Kind::BadText)
+        Err(FaultKind::BadText)
     }
 }
 
@@ -59,7 +59,7 @@ pub fn read_bigint(text: &str) -> Result<i64, Kind>
 #[derive(Clone, Copy, Debug, PartialEq, Eq)]
 pub enum ReadError {
     /// It spells no value of the type, or one out of range.
-    Kind(Kind),
+    Fault(FaultKind),
     /// A growth of memory was refused.
     Memory,
 }
@@ -80,7 +80,7 @@ fn read_boolean<A: Heap>(text: &str) -> Result<Value<A>, ReadError>
     } else if text == "f" {
         Ok(Value::Bool(false))
     } else {
-        Err(ReadError::Kind(Kind::BadText))
+        Err(ReadError::Fault(FaultKind::BadText))
     }
 }
 
@@ -91,7 +91,7 @@ pub fn read_value<A: Heap>(alloc: A, kind: ColType, text: &str) -> Result<Value<
     match kind {
         ColType::Bigint => match read_bigint(text) {
             Ok(n) => Ok(Value::Int(n)),
-            Err(kind) => Err(ReadError::Kind(kind)),
+            Err(kind) => Err(ReadError::Fault(kind)),
         },
         ColType::Text => Ok(Value::Text(Text::new(alloc, text)?)),
         ColType::Boolean => read_boolean(text),
@@ -99,7 +99,7 @@ pub fn read_value<A: Heap>(alloc: A, kind: ColType, text: &str) -> Result<Value<
 }
 
 /// A bigint has one text, and nothing else is read as it.
-pub fn one_spelling()
+pub fn law_one_spelling()
     ensures read_again { ReadAgain }
     ensures one_spelling { OneSpelling }
 {}

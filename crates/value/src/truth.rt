@@ -1,8 +1,8 @@
 //! Logic of three values, and values as conditions (PostgreSQL: Logical Operators).
 
 ghost use Rattle.std.specs.Prelude.{◌≡◌};
-ghost use Rattle.value.specs.Datum.{seen};
-ghost use Rattle.value.specs.Truths.{least, greatest, opposite};
+ghost use Rattle.value.specs.Datum.{datum_of};
+ghost use Rattle.value.specs.Truths.{least, greatest, negated};
 ghost use Rattle.value.specs.Conditions.{truth_at, at_truth};
 
 use crate::order::Truth;
@@ -33,7 +33,7 @@ pub fn or3(a: Truth, b: Truth) -> Truth
 
 /// Not: unknown stays unknown.
 pub fn not3(a: Truth) -> Truth
-    ensures { result ≡ opposite a }
+    ensures { result ≡ negated a }
 {
     match a {
         Truth::False => Truth::True,
@@ -44,7 +44,7 @@ pub fn not3(a: Truth) -> Truth
 
 /// A value as a condition: null is unknown, and so is what is no truth value.
 pub fn as_condition<A: Heap>(value: &Val<'_, A>) -> Truth
-    ensures { result ≡ truth_at (seen value.now) }
+    ensures { result ≡ truth_at (datum_of value.now) }
 {
     match value {
         Val::Bool(true) => Truth::True,
@@ -55,7 +55,7 @@ pub fn as_condition<A: Heap>(value: &Val<'_, A>) -> Truth
 
 /// A condition as a value: unknown is null.
 pub fn of_truth<'r, A: Heap>(truth: Truth) -> Val<'r, A>
-    ensures { seen result ≡ at_truth truth }
+    ensures { datum_of result ≡ at_truth truth }
 {
     match truth {
         Truth::True => Val::Bool(true),

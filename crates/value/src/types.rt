@@ -44,7 +44,7 @@ pub enum ColType {
 
 /// What an evaluation can fail by, in the order in which faults are reported.
 #[derive(Clone, Copy, Debug, PartialEq, Eq, PartialOrd, Ord)]
-pub enum Kind {
+pub enum FaultKind {
     /// Division by zero (22012).
     Div0,
     /// A number out of range (22003).
@@ -55,11 +55,11 @@ pub enum Kind {
 
 impl<A: Heap> Value<A> {
     ghost use Rattle.std.specs.Prelude.{◌≡◌, IfOk};
-    ghost use Rattle.value.specs.Datum.{datum, seen};
+    ghost use Rattle.value.specs.Datum.{datum, datum_of};
 
     /// The value, with its text lent.
     pub fn as_val(&self) -> Val<'_, A>
-        ensures { seen result ≡ datum self.now }
+        ensures { datum_of result ≡ datum self.now }
     {
         match self {
             Value::Null => Val::Null,
@@ -84,11 +84,11 @@ impl<A: Heap> Value<A> {
 
 impl<A: Heap> Val<'_, A> {
     ghost use Rattle.std.specs.Prelude.{◌≡◌, IfOk};
-    ghost use Rattle.value.specs.Datum.{datum, seen};
+    ghost use Rattle.value.specs.Datum.{datum, datum_of};
 
     /// The same value in memory of its own.
     pub fn to_value(&self, alloc: A) -> Result<Value<A>, AllocError>
-        ensures { IfOk result (λ copy. datum copy ≡ seen self.now) }
+        ensures { IfOk result (λ copy. datum copy ≡ datum_of self.now) }
     {
         match self {
             Val::Null => Ok(Value::Null),

@@ -3,7 +3,7 @@
 ghost use Rattle.std.specs.Prelude.{◌≡◌, ℤ, IfOk, OnErr, string_bytes, option_map};
 ghost use Rattle.std.specs.Cow.{cow_str_bytes};
 ghost use Rattle.std.specs.Fmt.{signed_decimal};
-ghost use Rattle.value.specs.Datum.{seen, int};
+ghost use Rattle.value.specs.Datum.{datum_of, int};
 ghost use Rattle.value.specs.Texts.{text_at, WrittenReadsBack, ReadIsWritten};
 
 use crate::types::Val;
@@ -25,9 +25,9 @@ pub fn text_of<'r, A: Heap>(
     alloc: A,
     value: &'r Val<'_, A>,
 ) -> Result<Option<CowStr<'r, A>>, AllocError>
-    ensures text { IfOk result (λ text. option_map (λ t. cow_str_bytes t) text ≡ text_at (seen value.now)) }
+    ensures text { IfOk result (λ text. option_map (λ t. cow_str_bytes t) text ≡ text_at (datum_of value.now)) }
     // Only the text of a bigint is made in memory.
-    ensures memory { OnErr result ((n : ℤ) × (seen value.now ≡ int n)) }
+    ensures memory { OnErr result ((n : ℤ) × (datum_of value.now ≡ int n)) }
 {
     match value {
         Val::Null => Ok(None),
@@ -39,7 +39,7 @@ pub fn text_of<'r, A: Heap>(
 }
 
 /// What is written of a value reads back as the value, and what reads as a value is what is written of it.
-pub fn texts_read_back()
+pub fn law_texts_read_back()
     ensures written { WrittenReadsBack }
     ensures read { ReadIsWritten }
 {}

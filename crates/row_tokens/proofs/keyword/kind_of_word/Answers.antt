@@ -1,5 +1,5 @@
 use Rattle.std.proofs.Common.{◌≡◌, ◌∙◌, ap}
-use Rattle.row_tokens.specs.declared.token.Kind.TheVariants.{Name}
+use Rattle.row_tokens.specs.declared.token.TokenKind.TheVariants.{Name}
 use Rattle.row_tokens.specs.Words.{by_place, keyword_in, reserved, kind_of_word}
 use Rattle.row_tokens.proofs.keyword.kind_of_word.Goals as goal
 

@@ -2,13 +2,13 @@ use Rattle.std.proofs.Common.{rules, ◌≡◌, ◌≢◌, sym, true, false, map
 use Rattle.std.specs.Str.{bytes_eq}
 use Rattle.std.proofs.lemmas.List.{length-map}
 use Rattle.csv.specs.Records.{fields_of}
-use Rattle.tables.specs.Loading.{col_of}
+use Rattle.value.specs.Columns.{column_of}
 use Rattle.tables.proofs.Names.{names-other_length, names_end, names_missing, names_step}
 use Rattle.tables.proofs.load.has_names.Goals as goal
 
 pub returns-then-len-columns : goal.returns-then-len-columns
 returns-then-len-columns g c =
-    let ne : length (fields_of c.args.cells.now) ≢ length (map col_of c.args.columns.now) = rw (length-map, ← c.len.ensures) c.if-len-columns.true in
+    let ne : length (fields_of c.args.cells.now) ≢ length (map column_of c.args.columns.now) = rw (length-map, ← c.len.ensures) c.if-len-columns.true in
     record { names = sym (names-other_length _ _ ne); len = λ e. cc e }
 
 pub returns-in_default : goal.returns-in_default
@@ -28,5 +28,5 @@ loop-i-preserved g c =
 pub returns : goal.returns
 returns g c =
     let len : length (fields_of c.args.cells.now) ≡ length c.args.columns.now = search rules in
-    let all = names_end (map col_of c.args.columns.now) (fields_of c.args.cells.now) c.loop-i.i _ (rw length-map c.loop-i-test.false) (rw length-map len) c.loop-i.invariant in
+    let all = names_end (map column_of c.args.columns.now) (fields_of c.args.cells.now) c.loop-i.i _ (rw length-map c.loop-i-test.false) (rw length-map len) c.loop-i.invariant in
     record { names = sym all; len = λ _. len }

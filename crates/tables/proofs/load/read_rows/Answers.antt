@@ -3,7 +3,8 @@ use Rattle.std.proofs.lemmas.List.{length-append, length-map, map-append}
 use Rattle.std.proofs.lemmas.List.Elements.{All-push}
 use Rattle.std.proofs.lemmas.Result.{err_from_is_err_and}
 use Rattle.csv.specs.Records.{fields_of}
-use Rattle.tables.specs.Loading.{col_of, rows_data}
+use Rattle.tables.specs.Loading.{rows_data}
+use Rattle.value.specs.Columns.{column_of}
 use Rattle.tables.proofs.Follow.{all_seen, cell_refused, counted_one, no_room_left, one_more_seen, out_of_memory, refused, refuses_unread, start_seen, width}
 use Rattle.tables.proofs.load.read_rows.Goals as goal
 
@@ -14,13 +15,13 @@ loop-done-init g c = record {
   given = c.requires.given;
   fresh = c.requires.fresh;
   wide = search rules;
-  seen = rw c.new-rows.ensures.items (start_seen (map col_of c.args.columns.now) c.args.room c.args.records.now.records);
+  seen = rw c.new-rows.ensures.items (start_seen (map column_of c.args.columns.now) c.args.room c.args.records.now.records);
 }
 
 pub returns-in_err-next_record-clause-rows : goal.returns-in_err-next_record-clause-rows
 returns-in_err-next_record-clause-rows g c =
     let p = err_from_is_err_and c.from_residual.result c.from_residual.ensures.1 in
-    let cols = map col_of c.args.columns.now in
+    let cols = map column_of c.args.columns.now in
     let expected : c.loop-done.records.expected ≡ Some (length cols) = rw length-map c.loop-done.invariant.expected in
     let within : c.loop-done.done ≤ c.args.room = omega arith in
     rw (p.1, p.2) (refused g.row.A.Denot cols c.args.room c.loop-done.done (rows_data c.loop-done.rows.items) c.args.records.now.records c.loop-done.records c.next_record.new.records _ within c.loop-done.invariant.seen expected c.in_err-next_record.ensures.refuses)
@@ -28,25 +29,25 @@ returns-in_err-next_record-clause-rows g c =
 pub returns-then-not-branch-clause-rows : goal.returns-then-not-branch-clause-rows
 returns-then-not-branch-clause-rows g c =
     let gives = rw c.if-not-branch.true at c.in_ok-next_record.ensures.gives in
-    all_seen (map col_of c.args.columns.now) c.args.room c.loop-done.done c.loop-done.rows c.args.records.now.records c.loop-done.records c.next_record.new.records (fields_of c.next_record.new.cells) c.loop-done.invariant.seen gives (rw c.if-not-branch.true at c.in_ok-next_record.ensures.given) c.loop-done.invariant.given
+    all_seen (map column_of c.args.columns.now) c.args.room c.loop-done.done c.loop-done.rows c.args.records.now.records c.loop-done.records c.next_record.new.records (fields_of c.next_record.new.cells) c.loop-done.invariant.seen gives (rw c.if-not-branch.true at c.in_ok-next_record.ensures.given) c.loop-done.invariant.given
 
 pub returns-in_err-read_row-clause-rows : goal.returns-in_err-read_row-clause-rows
 returns-in_err-read_row-clause-rows g c =
     let p = err_from_is_err_and c.from_residual-in_err-read_row.result c.from_residual-in_err-read_row.ensures.1 in
     let gives = rw c.if-not-branch.false at c.in_ok-next_record.ensures.gives in
-    let cols = map col_of c.args.columns.now in
+    let cols = map column_of c.args.columns.now in
     let expected : c.loop-done.records.expected ≡ Some (length cols) = rw length-map c.loop-done.invariant.expected in
     rw (p.1, p.2) (cell_refused g.row.A.Denot cols c.args.room c.loop-done.done (rows_data c.loop-done.rows.items) c.args.records.now.records c.loop-done.records c.next_record.new.records (fields_of c.next_record.new.cells) _ c.loop-done-test.true c.loop-done.invariant.seen gives expected c.in_err-read_row.ensures.cells c.in_err-read_row.ensures.no_reader)
 
 pub returns-in_err-push-clause-rows : goal.returns-in_err-push-clause-rows
 returns-in_err-push-clause-rows g c =
     let p = err_from_is_err_and c.from_residual-in_err-push.result c.from_residual-in_err-push.ensures.1 in
-    rw (p.1, p.2) (out_of_memory g.row.A.Denot (map col_of c.args.columns.now) c.args.room c.args.records.now.records c.next_record.new.records _ refl)
+    rw (p.1, p.2) (out_of_memory g.row.A.Denot (map column_of c.args.columns.now) c.args.room c.args.records.now.records c.next_record.new.records _ refl)
 
 pub loop-done-preserved : goal.loop-done-preserved
 loop-done-preserved g c =
     let gives = rw c.if-not-branch.false at c.in_ok-next_record.ensures.gives in
-    let cols = map col_of c.args.columns.now in
+    let cols = map column_of c.args.columns.now in
     let expected : c.loop-done.records.expected ≡ Some (length cols) = rw length-map c.loop-done.invariant.expected in
     let items = c.in_ok-push.ensures.items in
     record {
@@ -61,7 +62,7 @@ loop-done-preserved g c =
 pub returns-in_err-next_record-2-clause-rows : goal.returns-in_err-next_record-2-clause-rows
 returns-in_err-next_record-2-clause-rows g c =
     let p = err_from_is_err_and c.from_residual-in_err-next_record-2.result c.from_residual-in_err-next_record-2.ensures.1 in
-    let cols = map col_of c.args.columns.now in
+    let cols = map column_of c.args.columns.now in
     let expected : c.loop-done.records.expected ≡ Some (length cols) = rw length-map c.loop-done.invariant.expected in
     let full : c.args.room ≡ c.loop-done.done = omega arith in
     let within : c.loop-done.done ≤ c.args.room = omega arith in
@@ -71,7 +72,7 @@ returns-in_err-next_record-2-clause-rows g c =
 pub returns-then-branch-clause-rows : goal.returns-then-branch-clause-rows
 returns-then-branch-clause-rows g c =
     let gives = rw c.if-branch.true at c.in_ok-next_record-2.ensures.gives in
-    let cols = map col_of c.args.columns.now in
+    let cols = map column_of c.args.columns.now in
     let expected : c.loop-done.records.expected ≡ Some (length cols) = rw length-map c.loop-done.invariant.expected in
     let full : c.loop-done.done ≡ c.args.room = omega arith in
     no_room_left g.row.A.Denot cols c.args.room c.loop-done.done (rows_data c.loop-done.rows.items) c.args.records.now.records c.loop-done.records c.next_record-2.new.records (fields_of c.next_record-2.new.cells) full c.loop-done.invariant.seen gives expected
@@ -79,7 +80,7 @@ returns-then-branch-clause-rows g c =
 pub returns-clause-rows : goal.returns-clause-rows
 returns-clause-rows g c =
     let gives = rw c.if-branch.false at c.in_ok-next_record-2.ensures.gives in
-    all_seen (map col_of c.args.columns.now) c.args.room c.loop-done.done c.loop-done.rows c.args.records.now.records c.loop-done.records c.next_record-2.new.records (fields_of c.next_record-2.new.cells) c.loop-done.invariant.seen gives (rw c.if-branch.false at c.in_ok-next_record-2.ensures.given) c.loop-done.invariant.given
+    all_seen (map column_of c.args.columns.now) c.args.room c.loop-done.done c.loop-done.rows c.args.records.now.records c.loop-done.records c.next_record-2.new.records (fields_of c.next_record-2.new.cells) c.loop-done.invariant.seen gives (rw c.if-branch.false at c.in_ok-next_record-2.ensures.given) c.loop-done.invariant.given
 
 pub returns-in_err-next_record-clause-failed : goal.returns-in_err-next_record-clause-failed
 returns-in_err-next_record-clause-failed g c =

@@ -1,5 +1,6 @@
 use Rattle.std.proofs.Common.{◌≡◌, ◌+◌, Some, None, length, map, All}
-use Rattle.tables.specs.Loading.{col_of, rows_data}
+use Rattle.tables.specs.Loading.{rows_data}
+use Rattle.value.specs.Columns.{column_of}
 use Rattle.tables.proofs.Follow.{SeenRows}
 use Rattle.tables.proofs.load.read_rows.Given as goal
 
@@ -10,5 +11,5 @@ invariant-loop-done g l = record {
   given : l.records.given ≡ l.done + 1;
   fresh : l.records.failure ≡ None;
   wide : All (λ r. length r ≡ length l.columns) l.rows.items;
-  seen : SeenRows (map col_of l.columns) l.room l.done (rows_data l.rows.items) l.fn.records.records l.records.records;
+  seen : SeenRows (map column_of l.columns) l.room l.done (rows_data l.rows.items) l.fn.records.records l.records.records;
 }

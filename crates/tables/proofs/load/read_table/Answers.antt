@@ -1,14 +1,14 @@
 use Rattle.std.proofs.Common.{map}
 use Rattle.std.proofs.lemmas.Result.{err_from_is_err_and}
-use Rattle.tables.specs.Loading.{col_of}
+use Rattle.value.specs.Columns.{column_of}
 use Rattle.tables.proofs.Follow.{header_then_rows, no_header}
 use Rattle.tables.proofs.load.read_table.Goals as goal
 
 pub returns-in_err-read_header-clause-rows : goal.returns-in_err-read_header-clause-rows
 returns-in_err-read_header-clause-rows g c =
     let p = err_from_is_err_and c.from_residual.result c.from_residual.ensures.1 in
-    rw (p.1, p.2) (no_header g.row.A.Denot (map col_of c.args.columns.now) c.args.room c.args.records.now c.read_header.new.records _ c.in_err-read_header.ensures.header)
+    rw (p.1, p.2) (no_header g.row.A.Denot (map column_of c.args.columns.now) c.args.room c.args.records.now c.read_header.new.records _ c.in_err-read_header.ensures.header)
 
 pub returns-clause-rows : goal.returns-clause-rows
 returns-clause-rows g c =
-    header_then_rows (map col_of c.args.columns.now) c.args.room c.args.records.now c.read_header.new.records c.read_rows.new.records c.read_rows.result c.in_ok-read_header.ensures.header c.read_rows.ensures.rows
+    header_then_rows (map column_of c.args.columns.now) c.args.room c.args.records.now c.read_header.new.records c.read_rows.new.records c.read_rows.result c.in_ok-read_header.ensures.header c.read_rows.ensures.rows

@@ -4,7 +4,8 @@ use Rattle.std.proofs.lemmas.List.Elements.{All-append}
 use Rattle.std.proofs.lemmas.Result.{err_from_is_err_and}
 use Rattle.std.specs.Result.{is_ok}
 use Rattle.tables.specs.declared.TheConstants.{MAX_ROWS}
-use Rattle.tables.specs.Loading.{col_of, rows_data}
+use Rattle.tables.specs.Loading.{rows_data}
+use Rattle.value.specs.Columns.{column_of}
 use Rattle.tables.proofs.Follow.{fault_of_known, fault_of_some, rows_of_known, rows_of_some, stops_of_known}
 use Rattle.tables.proofs.table.Table.append_records.Goals as goal
 
@@ -12,19 +13,19 @@ pub returns-in_err-rows-clause-exact : goal.returns-in_err-rows-clause-exact
 returns-in_err-rows-clause-exact g c =
     let p = err_from_is_err_and c.from_residual.result c.from_residual.ensures.1 in
     let follows = rw (c.as_slice.ensures, c.len.ensures, c.self.inside.rows.ok.0) at c.in_err-rows.ensures.rows in
-    rw (← c.self.view_is, length-map, p.1, p.2) (fault_of_known g.row.A.Denot (map col_of c.self.inside.columns) (MAX_ROWS - length c.self.inside.rows.items) c.args.records.now.records c.read_table.new.records _ (rows_data c.self.inside.rows.items) (rows_data c.self.inside.rows.items) follows)
+    rw (← c.self.view_is, length-map, p.1, p.2) (fault_of_known g.row.A.Denot (map column_of c.self.inside.columns) (MAX_ROWS - length c.self.inside.rows.items) c.args.records.now.records c.read_table.new.records _ (rows_data c.self.inside.rows.items) (rows_data c.self.inside.rows.items) follows)
 
 pub returns-in_err-rows-clause-some_records : goal.returns-in_err-rows-clause-some_records
 returns-in_err-rows-clause-some_records g c =
     let p = err_from_is_err_and c.from_residual.result c.from_residual.ensures.1 in
     let follows = rw (c.as_slice.ensures, c.len.ensures, c.self.inside.rows.ok.0) at c.in_err-rows.ensures.rows in
-    rw (← c.self.view_is, length-map, p.1, p.2) (fault_of_some g.row.A.Denot (map col_of c.self.inside.columns) (MAX_ROWS - length c.self.inside.rows.items) c.args.records.now.records c.read_table.new.records _ (rows_data c.self.inside.rows.items) (rows_data c.self.inside.rows.items) follows)
+    rw (← c.self.view_is, length-map, p.1, p.2) (fault_of_some g.row.A.Denot (map column_of c.self.inside.columns) (MAX_ROWS - length c.self.inside.rows.items) c.args.records.now.records c.read_table.new.records _ (rows_data c.self.inside.rows.items) (rows_data c.self.inside.rows.items) follows)
 
 pub returns-in_err-rows-clause-stops : goal.returns-in_err-rows-clause-stops
 returns-in_err-rows-clause-stops g c =
     let p = err_from_is_err_and c.from_residual.result c.from_residual.ensures.1 in
     let follows = rw (c.as_slice.ensures, c.len.ensures, c.self.inside.rows.ok.0) at c.in_err-rows.ensures.rows in
-    rw (← c.self.view_is, length-map, p.1, p.2) (stops_of_known g.row.A.Denot (map col_of c.self.inside.columns) (MAX_ROWS - length c.self.inside.rows.items) c.args.records.now.records c.read_table.new.records _ follows)
+    rw (← c.self.view_is, length-map, p.1, p.2) (stops_of_known g.row.A.Denot (map column_of c.self.inside.columns) (MAX_ROWS - length c.self.inside.rows.items) c.args.records.now.records c.read_table.new.records _ follows)
 
 pub invariant_of-self : goal.invariant_of-self
 invariant_of-self g c =
@@ -46,11 +47,11 @@ returns-clause-exact g c =
     let good : is_ok c.append.result ≡ true = search rules in
     let items = rw good at c.append.ensures.items in
     let follows = rw (c.as_slice.ensures, c.len.ensures, c.self.inside.rows.ok.0) at c.in_ok-rows.ensures.rows in
-    rw (← c.self.view_is, length-map, items, map-append) (λ _. rows_of_known (map col_of c.self.inside.columns) (MAX_ROWS - length c.self.inside.rows.items) c.args.records.now.records c.read_table.new.records c.in_ok-rows.rows (rows_data c.self.inside.rows.items) _ follows refl)
+    rw (← c.self.view_is, length-map, items, map-append) (λ _. rows_of_known (map column_of c.self.inside.columns) (MAX_ROWS - length c.self.inside.rows.items) c.args.records.now.records c.read_table.new.records c.in_ok-rows.rows (rows_data c.self.inside.rows.items) _ follows refl)
 
 pub returns-clause-some_records : goal.returns-clause-some_records
 returns-clause-some_records g c =
     let good : is_ok c.append.result ≡ true = search rules in
     let items = rw good at c.append.ensures.items in
     let follows = rw (c.as_slice.ensures, c.len.ensures, c.self.inside.rows.ok.0) at c.in_ok-rows.ensures.rows in
-    rw (← c.self.view_is, length-map, items, map-append) (λ _. rows_of_some (map col_of c.self.inside.columns) (MAX_ROWS - length c.self.inside.rows.items) c.args.records.now.records c.read_table.new.records c.in_ok-rows.rows (rows_data c.self.inside.rows.items) _ follows refl)
+    rw (← c.self.view_is, length-map, items, map-append) (λ _. rows_of_some (map column_of c.self.inside.columns) (MAX_ROWS - length c.self.inside.rows.items) c.args.records.now.records c.read_table.new.records c.in_ok-rows.rows (rows_data c.self.inside.rows.items) _ follows refl)

@@ -1,6 +1,6 @@
 use Rattle.row_tokens.proofs.Lasts.{refused_at, all_good, all_none}
-use Rattle.row_tokens.proofs.scanner.tokens.Goals as goal
-use Rattle.row_tokens.proofs.scanner.tokens.Goals.{in_default-via-in-Some+else-is_bad, in_default-via-in_default}
+use Rattle.row_tokens.proofs.scanner.tokenize.Goals as goal
+use Rattle.row_tokens.proofs.scanner.tokenize.Goals.{in_default-via-in-Some+else-is_bad, in_default-via-in_default}
 
 pub returns-in-Some-clause-refused : goal.returns-in-Some-clause-refused
 returns-in-Some-clause-refused g c =

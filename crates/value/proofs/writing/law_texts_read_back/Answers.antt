@@ -1,5 +1,5 @@
 use Rattle.value.proofs.ReadBack.{written, read}
-use Rattle.value.proofs.writing.texts_read_back.Goals as goal
+use Rattle.value.proofs.writing.law_texts_read_back.Goals as goal
 
 pub returns-clause-written : goal.returns-clause-written
 returns-clause-written c = written
