@@ -1,16 +1,8 @@
-//! The allocators that every type of this repository takes.
+//! The allocators that every type of this repository takes, and one word for running out of memory.
 #![tactic(auto)]
 
-use std::alloc::{Allocator, Global};
+mod failure;
+mod heap;
 
-/// An allocator whose handle is copied, and which names the system's own for libraries that take no other.
-pub trait Heap: Allocator + Copy {
-    /// The system's allocator.
-    fn global(&self) -> Global;
-}
-
-impl Heap for Global {
-    fn global(&self) -> Global {
-        *self
-    }
-}
+pub use failure::Failure;
+pub use heap::Heap;
