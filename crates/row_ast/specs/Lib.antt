@@ -1,0 +1,3 @@
+pub mod Ast
+pub mod Statements
+pub mod View

@@ -1,0 +1,13 @@
+//! The trees of queries and schema statements, as they are written. Names are folded to lower case; an offset is that of a
+//! byte of the text, from 0.
+#![tactic(auto)]
+
+mod expr;
+mod query;
+mod statement;
+
+pub use expr::{Arm, ColumnRef, Expr};
+pub use query::{
+    Condition, FromItem, Join, Query, SelectItem, SelectList, SortKey, SortTarget, TableRef,
+};
+pub use statement::{CreatePolicy, Grant, RowSecurity, Statement};

@@ -1,0 +1,105 @@
+//! Queries.
+
+use crate::expr::{ColumnRef, Expr};
+use memory::Heap;
+use text::{Items, Text};
+
+/// A condition of WHERE, ON or HAVING.
+#[derive(Drop)]
+pub struct Condition<A: Heap> {
+    /// The condition.
+    pub predicate: Expr<A>,
+    /// Where its first token starts.
+    pub offset: u32,
+}
+
+/// An output column.
+#[derive(Drop)]
+pub struct SelectItem<A: Heap> {
+    /// Its expression.
+    pub value: Expr<A>,
+    /// The name after AS.
+    pub alias: Option<Text<A>>,
+}
+
+/// What a query selects.
+#[derive(Drop)]
+pub enum SelectList<A: Heap> {
+    /// `*`.
+    All { offset: u32 },
+    /// The items, as written.
+    Items(Items<SelectItem<A>, A>),
+}
+
+/// A table of FROM.
+#[derive(Drop)]
+pub struct TableRef<A: Heap> {
+    /// The table's name.
+    pub table: Text<A>,
+    /// Its alias, if one is written.
+    pub alias: Option<Text<A>>,
+    /// Where the table's name starts.
+    pub offset: u32,
+}
+
+/// What is joined to the tables before it.
+#[derive(Drop)]
+pub enum Join<A: Heap> {
+    /// `[INNER] JOIN table ON on`.
+    Inner {
+        table: TableRef<A>,
+        on: Condition<A>,
+    },
+    /// `CROSS JOIN table`.
+    Cross {
+        table: TableRef<A>,
+    },
+}
+
+/// A table of FROM and what is joined to it.
+#[derive(Drop)]
+pub struct FromItem<A: Heap> {
+    /// The first table.
+    pub first: TableRef<A>,
+    /// The joins, as written.
+    pub joins: Items<Join<A>, A>,
+}
+
+/// What ORDER BY names.
+#[derive(Drop)]
+pub enum SortTarget<A: Heap> {
+    /// An output column by its heading.
+    Heading(Text<A>),
+    /// An output column by its place, from 1.
+    Place(u64),
+}
+
+/// A key of ORDER BY.
+#[derive(Drop)]
+pub struct SortKey<A: Heap> {
+    /// The output column.
+    pub target: SortTarget<A>,
+    /// Whether with DESC.
+    pub descending: bool,
+    /// Where its first token starts.
+    pub offset: u32,
+}
+
+/// A query (PostgreSQL: SELECT).
+#[derive(Drop)]
+pub struct Query<A: Heap> {
+    /// What is selected.
+    pub select: SelectList<A>,
+    /// FROM.
+    pub from: Items<FromItem<A>, A>,
+    /// WHERE.
+    pub filter: Option<Condition<A>>,
+    /// The columns of GROUP BY, none without it.
+    pub group_by: Items<ColumnRef<A>, A>,
+    /// HAVING.
+    pub having: Option<Condition<A>>,
+    /// The keys of ORDER BY, none without it.
+    pub order_by: Items<SortKey<A>, A>,
+    /// LIMIT.
+    pub limit: Option<u64>,
+}
