@@ -3,8 +3,12 @@ use Rattle.std.specs.Prelude.{◌≡◌, Result, Ok, Err, ⊤}
 use Rattle.memory.specs.declared.failure.Failure.{Failure}
 use Rattle.memory.specs.declared.failure.Failure.TheVariants.{Fault, OutOfMemory}
 
+-- the fault is the stated one; out of memory says nothing
+abbrev pub IsFailure : {Y E : Type 0} → Failure E → Result Y E → Type 0
+IsFailure (Fault e) stated = stated ≡ Err e
+IsFailure OutOfMemory stated = ⊤
+
 -- the result, seen by view, is the stated one, unless memory ran out
 abbrev pub Gives : {X Y E : Type 0} → (X → Y) → Result X (Failure E) → Result Y E → Type 0
 Gives view (Ok x) stated = stated ≡ Ok (view x)
-Gives view (Err (Fault e)) stated = stated ≡ Err e
-Gives view (Err OutOfMemory) stated = ⊤
+Gives view (Err failure) stated = IsFailure failure stated

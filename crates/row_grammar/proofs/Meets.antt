@@ -3,7 +3,8 @@ use Rattle.std.proofs.Common.{◌≡◌, ℕ, zero, suc, ◌<◌, ◌≤◌, ◌
 use Rattle.std.specs.Prelude.{if◌then◌else◌}
 use Rattle.row_grammar.specs.Grammar.{Language}
 use Rattle.row_grammar.specs.Meaning.{Reading, Fronting, Room, any, at_most, HasRoom, one_less, Many, ManyFront}
-use Rattle.row_grammar.specs.Decoder.{syntax, limit, ◌>>=◌, Outcome, head_in, word_at, opened_at, stop_at, many_at, run}
+use Rattle.row_grammar.specs.Decoder.{◌>>=◌, Outcome, head_in, word_at, opened_at, stop_at, many_at, run}
+use Rattle.row_grammar.specs.declared.error.ReadError.TheVariants.{Syntax, Limit}
 use Rattle.row_grammar.proofs.Facts.{Facts, more_room, many_starts, many_begins, head_or_left, head_or_right, head_and}
 
 module _ (L : Language) where
@@ -36,8 +37,8 @@ module _ (L : Language) where
 
   abbrev pub Meets : {A I : Type 0} → (I → Reading Token A) → (I → Fronting Token) → (Kind → Bool) → I → I → List Token → Outcome Token A → Type 0
   Meets S F x here beyond ts (Ok p) = IsRead S F x here ts p.0 p.1
-  Meets S F x here beyond ts (Err (syntax n)) = IsStopped S F x here ts n
-  Meets S F x here beyond ts (Err (limit n)) = IsLimited S F x here beyond ts n
+  Meets S F x here beyond ts (Err (Syntax n)) = IsStopped S F x here ts n
+  Meets S F x here beyond ts (Err (Limit n)) = IsLimited S F x here beyond ts n
 
   abbrev pub Apart : (Kind → Bool) → (Kind → Bool) → Type 0
   Apart p q = (k : Kind) → p k ≡ true → q k ≡ true → ⊥
@@ -154,15 +155,15 @@ module _ (L : Language) where
 
       both_then : (r : Outcome Token B) → Meets S' F' x' here (up here) us r → Meets Both BothFront both_ext here (up here) ts (r >>= λ y. Ok ((a, y.0), y.1))
       both_then (Ok p) m' = both_read p.0 p.1 m'
-      both_then (Err (syntax n)) m' = both_stopped' n m'
-      both_then (Err (limit n)) m' = both_limited' n m'
+      both_then (Err (Syntax n)) m' = both_stopped' n m'
+      both_then (Err (Limit n)) m' = both_limited' n m'
 
     pub both_meets : (here : I) (ts : List Token) (r : Outcome Token A) (next : List Token → Outcome Token B) → Meets S F x here (up here) ts r
         → ((us : List Token) → Meets S' F' x' here (up here) us (next us))
         → Meets Both BothFront both_ext here (up here) ts (r >>= λ a. next a.1 >>= λ b. Ok ((a.0, b.0), b.1))
     both_meets here ts (Ok p) next m m' = both_then here ts p.0 p.1 m (next p.1) (m' p.1)
-    both_meets here ts (Err (syntax n)) next m m' = both_stopped here ts n m
-    both_meets here ts (Err (limit n)) next m m' = both_limited here (up here) ts n m
+    both_meets here ts (Err (Syntax n)) next m m' = both_stopped here ts n m
+    both_meets here ts (Err (Limit n)) next m m' = both_limited here (up here) ts n m
 
   -- ---- one form or another
 
@@ -213,8 +214,8 @@ module _ (L : Language) where
           | inr h ↦ inr (empty' i t vs h)
         ];
       }
-      left_meets here (Err (syntax n)) m = record { rest = m.rest; count = m.count; front = inl m.front; ends = λ i. left_ends n i (m.ends i); only = λ i. left_only i (m.only i) }
-      left_meets here (Err (limit n)) m = record { rest = m.rest; count = m.count; front = inl m.front; ends = left_ends n here m.ends; more = (m.more.0, m.more.1, inl m.more.2); only = left_only here m.only }
+      left_meets here (Err (Syntax n)) m = record { rest = m.rest; count = m.count; front = inl m.front; ends = λ i. left_ends n i (m.ends i); only = λ i. left_only i (m.only i) }
+      left_meets here (Err (Limit n)) m = record { rest = m.rest; count = m.count; front = inl m.front; ends = left_ends n here m.ends; more = (m.more.0, m.more.1, inl m.more.2); only = left_only here m.only }
 
     -- the first form doesn't begin here
     module _ (ts : List Token) (begins : head_in kind f ts ≡ false) where
@@ -241,8 +242,8 @@ module _ (L : Language) where
           | inl h ↦ absurd (no_value i t vs h)
         ];
       }
-      right_meets here (Err (syntax n)) m = record { rest = m.rest; count = m.count; front = inr m.front; ends = λ i. right_ends n i (m.ends i); only = λ i. right_only i (m.only i) }
-      right_meets here (Err (limit n)) m = record { rest = m.rest; count = m.count; front = inr m.front; ends = right_ends n here m.ends; more = (m.more.0, m.more.1, inr m.more.2); only = right_only here m.only }
+      right_meets here (Err (Syntax n)) m = record { rest = m.rest; count = m.count; front = inr m.front; ends = λ i. right_ends n i (m.ends i); only = λ i. right_only i (m.only i) }
+      right_meets here (Err (Limit n)) m = record { rest = m.rest; count = m.count; front = inr m.front; ends = right_ends n here m.ends; more = (m.more.0, m.more.1, inr m.more.2); only = right_only here m.only }
 
     pub either_meets : (here : I) (ts : List Token) (r r' : Outcome Token A) → Meets S F x here (up here) ts r → Meets S' F' x' here (up here) ts r'
         → Meets Either EitherFront either_ext here (up here) ts (if head_in kind f ts then r else r')
@@ -264,8 +265,8 @@ module _ (L : Language) where
       ends = m.ends;
       only = λ i t vs h. elim (m.only i h.0 vs h.1) [ inl same ↦ inl (h.2 ∙ ap make same.0, same.1) | inr e ↦ inr e ];
     }
-    made_meets here beyond ts (Err (syntax n)) m = record { rest = m.rest; count = m.count; front = m.front; ends = m.ends; only = λ i t vs h. m.only i h.0 vs h.1 }
-    made_meets here beyond ts (Err (limit n)) m = record { rest = m.rest; count = m.count; front = m.front; ends = m.ends; more = m.more; only = λ t vs h. m.only h.0 vs h.1 }
+    made_meets here beyond ts (Err (Syntax n)) m = record { rest = m.rest; count = m.count; front = m.front; ends = m.ends; only = λ i t vs h. m.only i h.0 vs h.1 }
+    made_meets here beyond ts (Err (Limit n)) m = record { rest = m.rest; count = m.count; front = m.front; ends = m.ends; more = m.more; only = λ t vs h. m.only h.0 vs h.1 }
 
   -- ---- a token, and nothing
 
@@ -289,7 +290,7 @@ module _ (L : Language) where
     }
     word_meets here beyond (x ∷ xs) = go (p (kind x)) refl
       where
-        go : (b : Bool) → p (kind x) ≡ b → Meets Word WordFront none_ext here beyond (x ∷ xs) (if b then Ok (x, xs) else Err (syntax (length (x ∷ xs))))
+        go : (b : Bool) → p (kind x) ≡ b → Meets Word WordFront none_ext here beyond (x ∷ xs) (if b then Ok (x, xs) else Err (Syntax (length (x ∷ xs))))
         go true e = record {
           spells = (refl, e);
           ends = λ i vs. elim [ inl h ↦ omega (arith, ap length h) | inr h ↦ omega (arith, ap length h.1) ];
@@ -362,8 +363,8 @@ module _ (L : Language) where
         ends = λ i. nest_ends (length q.1) i (m.ends i);
         only = λ i t vs h. elim (m.only i t.1 vs (inside i t vs h)) [ inl same ↦ inl (same_value i t vs q.0 h same.0, same.1) | inr e ↦ inr e ];
       }
-      nest_inside up_open (Err (syntax n)) m = record { rest = m.rest; count = m.count; front = inr (open_, (y, ms, refl, is, m.front)); ends = λ i. nest_ends n i (m.ends i); only = λ i t vs h. m.only i t.1 vs (inside i t vs h) }
-      nest_inside up_open (Err (limit n)) m = record { rest = m.rest; count = m.count; front = inr (open_, (y, ms, refl, is, m.front)); ends = nest_ends n here m.ends; more = (m.more.0, m.more.1, inr (up_open, (y, ms, refl, is, m.more.2))); only = λ t vs h. m.only t.1 vs (inside here t vs h) }
+      nest_inside up_open (Err (Syntax n)) m = record { rest = m.rest; count = m.count; front = inr (open_, (y, ms, refl, is, m.front)); ends = λ i. nest_ends n i (m.ends i); only = λ i t vs h. m.only i t.1 vs (inside i t vs h) }
+      nest_inside up_open (Err (Limit n)) m = record { rest = m.rest; count = m.count; front = inr (open_, (y, ms, refl, is, m.front)); ends = nest_ends n here m.ends; more = (m.more.0, m.more.1, inr (up_open, (y, ms, refl, is, m.more.2))); only = λ t vs h. m.only t.1 vs (inside here t vs h) }
 
     nest_limited : (here : I) (up_open : opens (up here) ≡ true) (y : Token) (ms : List Token) → p (kind y) ≡ true → opens here ≡ false → IsLimited Nest NestFront x here (up here) (y ∷ ms) (length (y ∷ ms))
     nest_limited here up_open y ms is closed = record {
@@ -392,7 +393,7 @@ module _ (L : Language) where
     nest_meets here up_open [] run m = nest_stopped here [] refl
     nest_meets here up_open (y ∷ ms) run m = go (p (kind y)) refl (opens here) refl
       where
-        go : (b : Bool) → p (kind y) ≡ b → (o : Bool) → opens here ≡ o → Meets Nest NestFront x here (up here) (y ∷ ms) (◌>>=◌ {A = Token × List Token} (if b then (if o then Ok (y, ms) else Err (limit (length (y ∷ ms)))) else Err (syntax (length (y ∷ ms)))) (λ x. nested x.0 (run x.1)))
+        go : (b : Bool) → p (kind y) ≡ b → (o : Bool) → opens here ≡ o → Meets Nest NestFront x here (up here) (y ∷ ms) (◌>>=◌ {A = Token × List Token} (if b then (if o then Ok (y, ms) else Err (Limit (length (y ∷ ms)))) else Err (Syntax (length (y ∷ ms)))) (λ x. nested x.0 (run x.1)))
         go false e o e' = nest_stopped here (y ∷ ms) e
         go true e false e' = nest_limited here up_open y ms e e'
         go true e true e' = nest_inside here y ms e e' up_open (run ms) (m e' ms)
@@ -531,14 +532,14 @@ module _ (L : Language) where
         ends = λ j vs h. goes_ends ts begins a us m j.1 j.0 (length p.1) (m'.ends (one_less j.0, j.1)) h.0 vs h.1;
         only = λ j xs vs h. goes_same ts begins a us m j.1 j.0 p.0 p.1 (m'.only (one_less j.0, j.1)) xs vs h;
       }
-      loop_goes ts begins room has a us m (Err (syntax n)) m' = record {
+      loop_goes ts begins room has a us m (Err (Syntax n)) m' = record {
         rest = m'.rest;
         count = m'.count;
         front = (a ∷ m'.front.0, (has, (us, m.spells, m'.front.1)));
         ends = λ j vs h. goes_ends ts begins a us m j.1 j.0 n (m'.ends (one_less j.0, j.1)) h.0 vs h.1;
         only = λ j xs vs h. goes_only ts begins a us m j.1 j.0 (m'.only (one_less j.0, j.1)) xs vs h;
       }
-      loop_goes ts begins room has a us m (Err (limit n)) m' = record {
+      loop_goes ts begins room has a us m (Err (Limit n)) m' = record {
         rest = m'.rest;
         count = m'.count;
         front = (a ∷ m'.front.0, (has, (us, m.spells, m'.front.1)));
@@ -615,5 +616,5 @@ module _ (L : Language) where
                 → Meets Loop LoopFront loop_ext (room, here) (more_room room, up here) ts (if b then (r >>= λ a. many_at kind lim next f n a.1 >>= λ xs. Ok (a.0 ∷ xs.0, xs.1)) else Ok ([], ts))
             go rec false e r m = loop_over room ts e
             go rec true e (Ok p) m = loop_goes ts e room (has_room room n ts counts) p.0 p.1 m (many_at kind lim next f n p.1) (rec (one_less room) p.1 (leads_less room leads) (counts_less room n ts p.1 counts (shorter ts p.0 p.1 m.spells)))
-            go rec true e (Err (syntax k)) m = loop_stops ts e room (has_room room n ts counts) k m
-            go rec true e (Err (limit k)) m = loop_limits ts e room (has_room room n ts counts) k m
+            go rec true e (Err (Syntax k)) m = loop_stops ts e room (has_room room n ts counts) k m
+            go rec true e (Err (Limit k)) m = loop_limits ts e room (has_room room n ts counts) k m

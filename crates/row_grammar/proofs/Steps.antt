@@ -2,7 +2,12 @@
 use Rattle.std.proofs.Common.{◌≡◌, ℕ, zero, suc, ◌-◌, ◌<◌, Bool, true, false, List, [], ◌∷◌, length, Option, Some, None, Result, Ok, Err, refl, sym, arith, ap}
 use Rattle.std.specs.Prelude.{if◌then◌else◌}
 use Rattle.row_grammar.specs.Grammar.{Language, Form, made, both, many, Grammar}
-use Rattle.row_grammar.specs.Decoder.{Stop, limit, ◌>>=◌, Outcome, head_in, many_at, first, IsFault}
+use Rattle.row_grammar.specs.Decoder.{◌>>=◌, Outcome, head_in, many_at, first}
+use Rattle.row_grammar.specs.declared.error.ReadError.{ReadError}
+use Rattle.row_grammar.specs.declared.error.ReadError.TheVariants.{Limit}
+use Rattle.memory.specs.Gives.{IsFailure}
+use Rattle.memory.specs.declared.failure.Failure.{Failure}
+use Rattle.memory.specs.declared.failure.Failure.TheVariants.{Fault, OutOfMemory}
 use Rattle.row_grammar.specs.Limits.{can_open, deep_at, reads}
 
 -- a rule that stands a level deeper is read with one level less
@@ -16,14 +21,14 @@ pub if_open : {A : Type 0} (d : ℕ) (x y : A) → 0 < d → (if can_open d then
 if_open zero x y h = absurd (omega arith)
 if_open (suc d) x y h = refl
 
-pub bind_bind : {A B C : Type 0} (r : Result A Stop) (f : A → Result B Stop) (g : B → Result C Stop) → ((r >>= f) >>= g) ≡ (r >>= λ x. f x >>= g)
+pub bind_bind : {A B C : Type 0} (r : Result A ReadError) (f : A → Result B ReadError) (g : B → Result C ReadError) → ((r >>= f) >>= g) ≡ (r >>= λ x. f x >>= g)
 bind_bind (Ok x) f g = refl
 bind_bind (Err e) f g = refl
 
 -- a fault of a part is the whole's
-pub fault_along : {X Y : Type 0} (s : Option Stop) (r : Result X Stop) (r' : Result Y Stop) → ((stop : Stop) → r ≡ Err stop → r' ≡ Err stop) → IsFault s r → IsFault s r'
-fault_along None r r' h q = tt
-fault_along (Some stop) r r' h q = h stop q
+pub fault_along : {X Y : Type 0} (s : Failure ReadError) (r : Result X ReadError) (r' : Result Y ReadError) → ((stop : ReadError) → r ≡ Err stop → r' ≡ Err stop) → IsFailure s r → IsFailure s r'
+fault_along OutOfMemory r r' h q = tt
+fault_along (Fault stop) r r' h q = h stop q
 
 -- ---- loops: what is made of the values that are still to come
 
@@ -52,12 +57,12 @@ module _ {K T : Type 0} (kind : T → K) {A B : Type 0} (k : List A → B) (r : 
   ends_stop zero us h = rw h refl
   ends_stop (suc n) us h = rw h refl
 
-  pub ends_limit : (n : ℕ) (us : List T) → n ≡ 0 → head_in kind p us ≡ true → ends k (many_at kind true r p n us) ≡ Err (limit (length us))
+  pub ends_limit : (n : ℕ) (us : List T) → n ≡ 0 → head_in kind p us ≡ true → ends k (many_at kind true r p n us) ≡ Err (Limit (length us))
   unfolding many_at
   ends_limit zero us e h = rw h refl
   ends_limit (suc n) us e h = absurd (omega arith)
 
-  pub ends_fail : (n : ℕ) (us : List T) (stop : Stop) → 0 < n → head_in kind p us ≡ true → r us ≡ Err stop → ends k (many_at kind true r p n us) ≡ Err stop
+  pub ends_fail : (n : ℕ) (us : List T) (stop : ReadError) → 0 < n → head_in kind p us ≡ true → r us ≡ Err stop → ends k (many_at kind true r p n us) ≡ Err stop
   unfolding many_at
   ends_fail zero us stop l h e = absurd (omega arith)
   ends_fail (suc n) us stop l h e = rw (h, e) refl
@@ -80,7 +85,7 @@ module _ {K T : Type 0} (kind : T → K) {A B : Type 0} (k : List A → B) (r : 
   list_over zero us h = refl
   list_over (suc n) us h = absurd (omega arith)
 
-  pub list_fail : (n : ℕ) (us : List T) (stop : Stop) → 0 < n → head_in kind p us ≡ true → r us ≡ Err stop → ends k (many_at kind false r p n us) ≡ Err stop
+  pub list_fail : (n : ℕ) (us : List T) (stop : ReadError) → 0 < n → head_in kind p us ≡ true → r us ≡ Err stop → ends k (many_at kind false r p n us) ≡ Err stop
   unfolding many_at
   list_fail zero us stop l h e = absurd (omega arith)
   list_fail (suc n) us stop l h e = rw (h, e) refl
@@ -120,5 +125,5 @@ module _ {L : Language} (G : Grammar L) (w d : ℕ) {A B C : Type 0} (make : A �
       → ends (make x) (many_at L.kind lim (reads G w d h) (first L G.inner_first h) (if lim then w else length us) us) ≡ reads G w d a_run ts
   run_start x us e = sym (rw e (ends_pair make x (many_at L.kind lim (reads G w d h) (first L G.inner_first h) (if lim then w else length us) us)))
 
-  pub run_err : (stop : Stop) → reads G w d g ts ≡ Err stop → reads G w d a_run ts ≡ Err stop
+  pub run_err : (stop : ReadError) → reads G w d g ts ≡ Err stop → reads G w d a_run ts ≡ Err stop
   run_err stop e = rw e refl

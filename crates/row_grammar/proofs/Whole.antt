@@ -3,7 +3,8 @@ use Rattle.std.proofs.Common.{◌≡◌, ℕ, zero, suc, ◌≤◌, inl, inr, Bo
 use Rattle.std.specs.Prelude.{if◌then◌else◌}
 use Rattle.row_grammar.specs.Grammar.{Language, Form, word, nothing, both, either, made, many, nest, inner, Grammar}
 use Rattle.row_grammar.specs.Meaning.{Reading, Fronting, any, at_most, room_of, Many, ManyFront}
-use Rattle.row_grammar.specs.Decoder.{syntax, limit, Outcome, nullable, first, many_at}
+use Rattle.row_grammar.specs.Decoder.{Outcome, nullable, first, many_at}
+use Rattle.row_grammar.specs.declared.error.ReadError.TheVariants.{Syntax, Limit}
 use Rattle.row_grammar.specs.Limits.{can_open, Deep, DeepFront, Spells, Front, deep_at, reads}
 use Rattle.row_grammar.proofs.Facts.{Facts, facts_of, more_room, and_left, and_right}
 use Rattle.row_grammar.proofs.Meets.{Meets, Apart, word_meets, nothing_meets, both_meets, either_meets, made_meets, nest_meets, Loop, LoopFront, loop_ext, loop_meets}
@@ -47,8 +48,8 @@ module _ (L : Language) {A : Type 0} (lim : Bool) (R : Bounds → Reading L.Toke
       → Meets L (Loop L R G f x up facts' apart) (LoopFront L R G f x up facts' apart) x' (room_of lim w, (w, d)) (more_room (room_of lim w), (suc w, suc d)) ts r
       → Meets L AtRoom FrontAtRoom x' (w, d) (suc w, suc d) ts r
   at_room ts (Ok p) m = record { spells = m.spells; ends = λ i. m.ends (room_of lim i.0, i); only = λ i. m.only (room_of lim i.0, i) }
-  at_room ts (Err (syntax n)) m = record { rest = m.rest; count = m.count; front = m.front; ends = λ i. m.ends (room_of lim i.0, i); only = λ i. m.only (room_of lim i.0, i) }
-  at_room ts (Err (limit n)) m = record {
+  at_room ts (Err (Syntax n)) m = record { rest = m.rest; count = m.count; front = m.front; ends = λ i. m.ends (room_of lim i.0, i); only = λ i. m.only (room_of lim i.0, i) }
+  at_room ts (Err (Limit n)) m = record {
     rest = m.rest;
     count = m.count;
     front = m.front;
@@ -60,8 +61,8 @@ module _ (L : Language) {A : Type 0} (lim : Bool) (R : Bounds → Reading L.Toke
 meets_within : (L : Language) (kinds : List L.Kind) → HasEvery kinds → {A I : Type 0} (R : I → Reading L.Token A) (G : I → Fronting L.Token) (x y : L.Kind → Bool) (here beyond : I) (ts : List L.Token) → within kinds x y ≡ true
     → (r : Outcome L.Token A) → Meets L R G x here beyond ts r → Meets L R G y here beyond ts r
 meets_within L kinds every R G x y here beyond ts w (Ok p) m = record { spells = m.spells; ends = m.ends; only = λ i t vs h. elim (m.only i t vs h) [ inl same ↦ inl same | inr e ↦ inr (head_within L kinds every x y w vs e) ] }
-meets_within L kinds every R G x y here beyond ts w (Err (syntax n)) m = record { rest = m.rest; count = m.count; front = m.front; ends = m.ends; only = λ i t vs h. head_within L kinds every x y w vs (m.only i t vs h) }
-meets_within L kinds every R G x y here beyond ts w (Err (limit n)) m = record { rest = m.rest; count = m.count; front = m.front; ends = m.ends; more = m.more; only = λ t vs h. head_within L kinds every x y w vs (m.only t vs h) }
+meets_within L kinds every R G x y here beyond ts w (Err (Syntax n)) m = record { rest = m.rest; count = m.count; front = m.front; ends = m.ends; only = λ i t vs h. head_within L kinds every x y w vs (m.only i t vs h) }
+meets_within L kinds every R G x y here beyond ts w (Err (Limit n)) m = record { rest = m.rest; count = m.count; front = m.front; ends = m.ends; more = m.more; only = λ t vs h. head_within L kinds every x y w vs (m.only t vs h) }
 
 module _ {L : Language} (G : Grammar L) (kinds : List L.Kind) (inner_ext : L.Inner → L.Kind → Bool) (decided : IsDecided G kinds inner_ext) where
   open L use {Kind, Token, Inner, Tree}
@@ -174,14 +175,14 @@ module _ {L : Language} (G : Grammar L) (kinds : List L.Kind) (inner_ext : L.Inn
       ends = deep_ends (length p.1) (m.ends (w, d) ts ((facts (rule r) (w, d)).none ts)) m.ends;
       only = deep_only m.only;
     }
-    lower (Err (syntax n)) m = record {
+    lower (Err (Syntax n)) m = record {
       rest = m.rest;
       count = m.count;
       front = m.front;
       ends = deep_ends n (m.ends (w, d) ts ((facts (rule r) (w, d)).none ts)) m.ends;
       only = deep_only m.only;
     }
-    lower (Err (limit n)) m = record { rest = m.rest; count = m.count; front = m.front; ends = m.ends; more = m.more; only = m.only }
+    lower (Err (Limit n)) m = record { rest = m.rest; count = m.count; front = m.front; ends = m.ends; more = m.more; only = m.only }
 
   pub inner_fine : (w d : ℕ) → can_open d ≡ true → InnerFine w d
   unfolding deep_at

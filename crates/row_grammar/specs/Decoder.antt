@@ -1,38 +1,23 @@
 -- Reading from left to right by one token ahead, with the first fault that is met.
 use Rattle.std.specs.Prelude.{◌≡◌, ℕ, zero, suc, Bool, true, false, ◌&&◌, ◌||◌, List, [], ◌∷◌, length, Option, Some, None, Result, Ok, Err, if◌then◌else◌}
+use Rattle.row_grammar.specs.declared.error.ReadError.{ReadError}
+use Rattle.row_grammar.specs.declared.error.ReadError.TheVariants.{Syntax, Limit}
 use Rattle.row_grammar.specs.Grammar.{Language, Form, word, nothing, both, either, made, many, nest, inner}
-
--- why reading stops, at the token with so many tokens from it on
-pub data Stop : Type 0 where
-  -- the grammar does not go on so
-  syntax : ℕ → Stop
-  -- a limit is passed
-  limit : ℕ → Stop
 
 infixl 10 ◌>>=◌
 -- one step, then another with its value; the first fault ends both
-abbrev pub ◌>>=◌ : {A B : Type 0} → Result A Stop → (A → Result B Stop) → Result B Stop
+abbrev pub ◌>>=◌ : {A B : Type 0} → Result A ReadError → (A → Result B ReadError) → Result B ReadError
 (Ok x) >>= f = f x
 (Err e) >>= f = Err e
 
--- The fault that an error stands for, if it stands for one, is what reading gives.
-abbrev pub IsFault : {B : Type 0} → Option Stop → Result B Stop → Type 0
-IsFault None read = Unit {0}
-IsFault (Some stop) read = read ≡ Err stop
-
--- What a function returned, seen by view, is what reading gives; an error that stands for no fault, as when memory runs out, says nothing.
-abbrev pub Gives : {E A B : Type 0} → (E → Option Stop) → (A → B) → Result A E → Result B Stop → Type 0
-Gives stop_of view (Ok x) read = read ≡ Ok (view x)
-Gives stop_of view (Err e) read = IsFault (stop_of e) read
-
 -- a value and the tokens after it, or the first fault
 abbrev pub Outcome : Type 0 → Type 0 → Type 0
-Outcome T A = Result (A × List T) Stop
+Outcome T A = Result (A × List T) ReadError
 
 -- where no more may follow: under a limit one that does passes it
 abbrev pub stop_at : {T A : Type 0} → Bool → Bool → List T → Outcome T (List A)
 stop_at false b ts = Ok ([], ts)
-stop_at true b ts = if b then Err (limit (length ts)) else Ok ([], ts)
+stop_at true b ts = if b then Err (Limit (length ts)) else Ok ([], ts)
 
 module _ {K T : Type 0} (kind : T → K) where
   -- whether the next token is of one of these kinds
@@ -42,13 +27,13 @@ module _ {K T : Type 0} (kind : T → K) where
 
   -- a token of one of these kinds
   abbrev pub word_at : (K → Bool) → List T → Outcome T T
-  word_at p [] = Err (syntax 0)
-  word_at p (t ∷ ts) = if p (kind t) then Ok (t, ts) else Err (syntax (length (t ∷ ts)))
+  word_at p [] = Err (Syntax 0)
+  word_at p (t ∷ ts) = if p (kind t) then Ok (t, ts) else Err (Syntax (length (t ∷ ts)))
 
   -- a token that opens a level, where one may be opened
   abbrev pub opened_at : Bool → (K → Bool) → List T → Outcome T T
-  opened_at o p [] = Err (syntax 0)
-  opened_at o p (t ∷ ts) = if p (kind t) then (if o then Ok (t, ts) else Err (limit (length (t ∷ ts)))) else Err (syntax (length (t ∷ ts)))
+  opened_at o p [] = Err (Syntax 0)
+  opened_at o p (t ∷ ts) = if p (kind t) then (if o then Ok (t, ts) else Err (Limit (length (t ∷ ts)))) else Err (Syntax (length (t ∷ ts)))
 
   -- values as long as the next token begins one, at most n
   unfoldable pub many_at : {A : Type 0} → Bool → (List T → Outcome T A) → (K → Bool) → ℕ → List T → Outcome T (List A)

@@ -2,7 +2,9 @@
 use Rattle.std.specs.Prelude.{◌≡◌, ◌≤◌, ℕ, zero, suc, Bool, true, false, List, [], ◌∷◌, length, Result, Ok, Err, Option, Some, None}
 use Rattle.row_grammar.specs.Grammar.{Language, Form, Grammar}
 use Rattle.row_grammar.specs.Meaning.{Reading, Fronting, SpellsIn, FrontIn}
-use Rattle.row_grammar.specs.Decoder.{Stop, syntax, limit, ◌>>=◌, Outcome, run}
+use Rattle.row_grammar.specs.Decoder.{◌>>=◌, Outcome, run}
+use Rattle.row_grammar.specs.declared.error.ReadError.{ReadError}
+use Rattle.row_grammar.specs.declared.error.ReadError.TheVariants.{Syntax, Limit}
 
 -- whether a level may be opened where depth more are allowed
 abbrev pub can_open : ℕ → Bool
@@ -37,7 +39,7 @@ module _ {L : Language} (G : Grammar L) where
 
   -- such a rule, read
   unfoldable pub deep_at : ℕ → ℕ → (r : Inner) → List Token → Outcome Token (Tree r)
-  deep_at width zero r ts = Err (limit (length ts))
+  deep_at width zero r ts = Err (Limit (length ts))
   deep_at width (suc depth) r ts = run L inner_first width (can_open depth) (deep_at width depth) (rule r) ts
 
   -- What one token ahead reads of a form, with at most depth levels and runs of at most width.
@@ -47,12 +49,12 @@ module _ {L : Language} (G : Grammar L) where
   -- ---- the whole text
 
   -- no token is left over
-  abbrev pub finish : {A : Type 0} → A → List Token → Result A Stop
+  abbrev pub finish : {A : Type 0} → A → List Token → Result A ReadError
   finish x [] = Ok x
-  finish x (t ∷ ts) = Err (syntax (length (t ∷ ts)))
+  finish x (t ∷ ts) = Err (Syntax (length (t ∷ ts)))
 
   -- the form, read from the whole text
-  unfoldable pub whole_at : ℕ → ℕ → {A : Type 0} → Form L A → List Token → Result A Stop
+  unfoldable pub whole_at : ℕ → ℕ → {A : Type 0} → Form L A → List Token → Result A ReadError
   whole_at width depth f ts = do
     x ← reads width depth f ts
     finish x.0 x.1
@@ -77,11 +79,6 @@ module _ {L : Language} (G : Grammar L) where
       pub goes_on : (width' depth' : ℕ) × (vs : List Token) × (width ≤ width') × (depth ≤ depth') × Front width' depth' f ts vs × (suc (length vs) ≡ n)
 
   -- What a refusal says of the text.
-  abbrev pub IsRefused : ℕ → ℕ → {A : Type 0} → Form L A → List Token → Stop → Type 0
-  IsRefused width depth f ts (syntax n) = IsLongest width depth f ts n
-  IsRefused width depth f ts (limit n) = IsPassed width depth f ts n
-
-  -- The same of the fault that an error stands for, if it stands for one.
-  abbrev pub Refuses : ℕ → ℕ → {A : Type 0} → Form L A → List Token → Option Stop → Type 0
-  Refuses width depth f ts None = Unit {0}
-  Refuses width depth f ts (Some stop) = IsRefused width depth f ts stop
+  abbrev pub IsRefused : ℕ → ℕ → {A : Type 0} → Form L A → List Token → ReadError → Type 0
+  IsRefused width depth f ts (Syntax n) = IsLongest width depth f ts n
+  IsRefused width depth f ts (Limit n) = IsPassed width depth f ts n

@@ -1,0 +1,289 @@
+use Rattle.std.proofs.Common.{◌≡◌, ◌++◌, true, false, ◌∷◌, List, map, Ok, Err, refl, sym, ap, ◌∙◌, arith}
+use Rattle.std.proofs.lemmas.Result.{err_from_is_err_and}
+use Rattle.std.proofs.lemmas.List.{length-map}
+use Rattle.std.specs.List.{flat_map}
+use Rattle.row_grammar.specs.Decoder.{first, head_in, word_at, opened_at, Outcome}
+use Rattle.row_grammar.specs.declared.error.ReadError.{ReadError}
+use Rattle.row_grammar.specs.Limits.{reads, can_open}
+use Rattle.row_grammar.proofs.Steps.{fault_along, run_start, run_err}
+use Rattle.row_tokens.specs.declared.token.TokenKind.TheVariants as k
+use Rattle.row_tokens.specs.Words.{Word}
+use Rattle.row_tokens.specs.View.{word_of}
+use Rattle.row_ast.specs.Ast.{Expr, Other, choice, arms_of, all_of, any_of, exprs_of, and_members, or_members}
+use Rattle.row_reader.specs.Language.{language, Located, is, of, next_at, kind_of}
+use Rattle.row_reader.specs.declared.reader.Class.TheVariants as class
+use Rattle.row_reader.specs.Expressions as rules
+use Rattle.row_reader.specs.Expressions.{grammar, nested_first, folded_left, and_of, or_of}
+use Rattle.row_ast.specs.View.{expr_of, arm_pair}
+use Rattle.row_expressions.specs.View.{located}
+use Rattle.row_ast.proofs.Trees.{and_made, or_made, appended}
+use Rattle.row_reader.proofs.Lists.{listed_stop, listed_over, listed_fail, listed_go, listed_first, listed_none}
+use Rattle.row_expressions.proofs.Runs.{run_on, run_stop, run_full, run_fail, run_go, run_more, word_is_next, joined, joined_go}
+use Rattle.row_expressions.proofs.expressions.+expression.Goals as goal
+
+-- ---- arms
+
+begins_arm : first language nested_first rules.arm ≡ is k.When
+unfolding rules.arm
+begins_arm = refl
+
+pub arms-returns-in_err-first : goal.arms-returns-in_err-first
+unfolding rules.arms
+arms-returns-in_err-first g t c =
+    let p = err_from_is_err_and c.from_residual.result c.from_residual.ensures.1 in
+    rw (p.1, p.2) (listed_none c.args.reader.run_limit c.args.reader.depth_limit rules.arm rules.arm (map word_of c.args.tokens.now) _ c.in_err-first.ensures)
+
+pub arms-loop-init : goal.arms-loop-init
+unfolding rules.arms
+arms-loop-init g t c =
+    listed_first c.args.reader.run_limit c.args.reader.depth_limit (λ a. arm_pair a) rules.arm (is k.When) rules.arm (map word_of c.args.tokens.now) begins_arm c.in_ok-first.first (map word_of c.in_ok-first.rest.now) _ c.new-all.result.items c.push.new.self.items
+    c.in_ok-first.ensures c.new-all.ensures.items c.in_ok-push.ensures.items (omega (arith, length-map c.in_ok-first.rest.now word_of))
+
+pub arms-returns-then-not-sees : goal.arms-returns-then-not-sees
+arms-returns-then-not-sees g t c = listed_stop c.args.reader.run_limit c.args.reader.depth_limit (λ a. arm_pair a) rules.arm (is k.When) _ c.loop.all.items _ (map word_of c.loop.rest.now) c.loop.invariant (cc)
+
+pub arms-returns : goal.arms-returns
+arms-returns g t c = listed_over c.args.reader.run_limit c.args.reader.depth_limit (λ a. arm_pair a) rules.arm (is k.When) _ c.loop.all.items _ (map word_of c.loop.rest.now) c.loop.invariant (omega arith)
+
+pub arms-returns-in_err-next : goal.arms-returns-in_err-next
+arms-returns-in_err-next g t c =
+    let p = err_from_is_err_and c.from_residual-in_err-next.result c.from_residual-in_err-next.ensures.1 in
+    rw (p.1, p.2) (listed_fail c.args.reader.run_limit c.args.reader.depth_limit (λ a. arm_pair a) rules.arm (is k.When) _ c.loop.all.items _ (map word_of c.loop.rest.now) c.loop.invariant _ (omega arith) (cc) c.in_err-next.ensures)
+
+pub arms-loop-preserved : goal.arms-loop-preserved
+arms-loop-preserved g t c =
+    listed_go c.args.reader.run_limit c.args.reader.depth_limit (λ a. arm_pair a) rules.arm (is k.When) _ c.loop.all.items _ (map word_of c.loop.rest.now) c.loop.invariant c.in_ok-next.next (map word_of c.in_ok-next.after.now) c.push-in-loop.new.self.items _ (omega arith) (cc)
+    c.in_ok-next.ensures c.in_ok-push-2.ensures.items (omega arith)
+
+-- ---- product
+
+begins_factor : first language nested_first rules.factor ≡ of class.Multiplication
+unfolding rules.factor rules.multiplication of
+begins_factor = refl
+
+start_product : (w d n : _) (ts : List Word) (x : Located) (us : List Word) → reads grammar w d rules.unary ts ≡ Ok (x, us) → n ≡ w → run_on w d rules.factor (of class.Multiplication) (folded_left x) n us ≡ reads grammar w d rules.product ts
+unfolding rules.product
+start_product w d n ts x us e j = rw (j, ← begins_factor) (run_start grammar w d (λ x ys. folded_left x ys) rules.unary true rules.factor ts x us e)
+
+pub product-returns-in_err-left : goal.product-returns-in_err-left
+unfolding rules.product
+product-returns-in_err-left g t c =
+    let p = err_from_is_err_and c.from_residual.result c.from_residual.ensures.1 in
+    rw (p.1, p.2) (fault_along _ (reads grammar c.args.reader.run_limit c.args.reader.depth_limit rules.unary (map word_of c.args.tokens.now)) (reads grammar c.args.reader.run_limit c.args.reader.depth_limit rules.product (map word_of c.args.tokens.now))
+    (λ stop r. run_err grammar c.args.reader.run_limit c.args.reader.depth_limit (λ x ys. folded_left x ys) rules.unary true rules.factor (map word_of c.args.tokens.now) stop r) c.in_err-left.ensures)
+
+pub product-loop-init : goal.product-loop-init
+product-loop-init g t c = start_product c.args.reader.run_limit c.args.reader.depth_limit _ (map word_of c.args.tokens.now) (located c.in_ok-left.left) (map word_of c.in_ok-left.rest.now) c.in_ok-left.ensures (omega arith)
+
+pub product-returns-then-not-sees_any : goal.product-returns-then-not-sees_any
+product-returns-then-not-sees_any g t c = run_stop c.args.reader.run_limit c.args.reader.depth_limit rules.factor (of class.Multiplication) (folded_left (located c.loop.left)) _ _ (map word_of c.loop.rest.now) c.loop.invariant (cc)
+
+pub product-returns : goal.product-returns
+product-returns g t c = run_stop c.args.reader.run_limit c.args.reader.depth_limit rules.factor (of class.Multiplication) (folded_left (located c.loop.left)) _ _ (map word_of c.loop.rest.now) c.loop.invariant (cc)
+
+pub product-returns-then-sees_any : goal.product-returns-then-sees_any
+product-returns-then-sees_any g t c = rw (← length-map c.loop.rest.now word_of) (run_full c.args.reader.run_limit c.args.reader.depth_limit rules.factor (of class.Multiplication) (folded_left (located c.loop.left)) _ _ (map word_of c.loop.rest.now) c.loop.invariant (omega arith) (cc))
+
+pub product-returns-in_err-sign : goal.product-returns-in_err-sign
+product-returns-in_err-sign g t c =
+    let p = err_from_is_err_and c.from_residual-in_err-sign.result c.from_residual-in_err-sign.ensures.1 in
+    rw (p.1, p.2) (run_fail c.args.reader.run_limit c.args.reader.depth_limit rules.factor (of class.Multiplication) (folded_left (located c.loop.left)) _ _ (map word_of c.loop.rest.now) c.loop.invariant _ (omega arith) (cc) c.in_err-sign.ensures)
+
+pub product-loop-preserved : goal.product-loop-preserved
+product-loop-preserved g t c =
+    run_go c.args.reader.run_limit c.args.reader.depth_limit rules.factor (of class.Multiplication) (folded_left (located c.loop.left)) _ _ (map word_of c.loop.rest.now) c.loop.invariant
+    (c.in_ok-sign.sign, located c.in_ok-sign.right) (map word_of c.in_ok-sign.after.now) _ _ (omega arith) (cc) c.in_ok-sign.ensures
+    (λ xs. ap (λ x. folded_left x xs) (sym c.in_ok-left-2.ensures)) (omega arith)
+
+-- ---- sum
+
+begins_addend : first language nested_first rules.addend ≡ of class.Addition
+unfolding rules.addend rules.addition of
+begins_addend = refl
+
+start_sum : (w d n : _) (ts : List Word) (x : Located) (us : List Word) → reads grammar w d rules.product ts ≡ Ok (x, us) → n ≡ w → run_on w d rules.addend (of class.Addition) (folded_left x) n us ≡ reads grammar w d rules.sum ts
+unfolding rules.sum
+start_sum w d n ts x us e j = rw (j, ← begins_addend) (run_start grammar w d (λ x ys. folded_left x ys) rules.product true rules.addend ts x us e)
+
+pub sum-returns-in_err-left : goal.sum-returns-in_err-left
+unfolding rules.sum
+sum-returns-in_err-left g t c =
+    let p = err_from_is_err_and c.from_residual.result c.from_residual.ensures.1 in
+    rw (p.1, p.2) (fault_along _ (reads grammar c.args.reader.run_limit c.args.reader.depth_limit rules.product (map word_of c.args.tokens.now)) (reads grammar c.args.reader.run_limit c.args.reader.depth_limit rules.sum (map word_of c.args.tokens.now))
+    (λ stop r. run_err grammar c.args.reader.run_limit c.args.reader.depth_limit (λ x ys. folded_left x ys) rules.product true rules.addend (map word_of c.args.tokens.now) stop r) c.in_err-left.ensures)
+
+pub sum-loop-init : goal.sum-loop-init
+sum-loop-init g t c = start_sum c.args.reader.run_limit c.args.reader.depth_limit _ (map word_of c.args.tokens.now) (located c.in_ok-left.left) (map word_of c.in_ok-left.rest.now) c.in_ok-left.ensures (omega arith)
+
+pub sum-returns-then-not-sees_any : goal.sum-returns-then-not-sees_any
+sum-returns-then-not-sees_any g t c = run_stop c.args.reader.run_limit c.args.reader.depth_limit rules.addend (of class.Addition) (folded_left (located c.loop.left)) _ _ (map word_of c.loop.rest.now) c.loop.invariant (cc)
+
+pub sum-returns : goal.sum-returns
+sum-returns g t c = run_stop c.args.reader.run_limit c.args.reader.depth_limit rules.addend (of class.Addition) (folded_left (located c.loop.left)) _ _ (map word_of c.loop.rest.now) c.loop.invariant (cc)
+
+pub sum-returns-then-sees_any : goal.sum-returns-then-sees_any
+sum-returns-then-sees_any g t c = rw (← length-map c.loop.rest.now word_of) (run_full c.args.reader.run_limit c.args.reader.depth_limit rules.addend (of class.Addition) (folded_left (located c.loop.left)) _ _ (map word_of c.loop.rest.now) c.loop.invariant (omega arith) (cc))
+
+pub sum-returns-in_err-sign : goal.sum-returns-in_err-sign
+sum-returns-in_err-sign g t c =
+    let p = err_from_is_err_and c.from_residual-in_err-sign.result c.from_residual-in_err-sign.ensures.1 in
+    rw (p.1, p.2) (run_fail c.args.reader.run_limit c.args.reader.depth_limit rules.addend (of class.Addition) (folded_left (located c.loop.left)) _ _ (map word_of c.loop.rest.now) c.loop.invariant _ (omega arith) (cc) c.in_err-sign.ensures)
+
+pub sum-loop-preserved : goal.sum-loop-preserved
+sum-loop-preserved g t c =
+    run_go c.args.reader.run_limit c.args.reader.depth_limit rules.addend (of class.Addition) (folded_left (located c.loop.left)) _ _ (map word_of c.loop.rest.now) c.loop.invariant
+    (c.in_ok-sign.sign, located c.in_ok-sign.right) (map word_of c.in_ok-sign.after.now) _ _ (omega arith) (cc) c.in_ok-sign.ensures
+    (λ xs. ap (λ x. folded_left x xs) (sym c.in_ok-left-2.ensures)) (omega arith)
+
+-- ---- conjunction
+
+begins_and_operand : first language nested_first rules.and_operand ≡ is k.And
+unfolding rules.and_operand
+begins_and_operand = refl
+
+next_and_operand : (w d : _) (us : List Word) (y : Word × Located) (vs : List Word) → reads grammar w d rules.and_operand us ≡ Ok (y, vs) → y.0.at ≡ next_at us
+unfolding rules.and_operand
+next_and_operand w d us y vs e = word_is_next w d (is k.And) rules.negation us y vs e
+
+alone_conjunction : (w d : _) (ts : List Word) (x : Located) (us : List Word) → reads grammar w d rules.negation ts ≡ Ok (x, us) → head_in kind_of (is k.And) us ≡ false → reads grammar w d rules.conjunction ts ≡ Ok (x, us)
+unfolding rules.conjunction
+alone_conjunction w d ts x us e n =
+    run_stop w d rules.and_operand (is k.And) (and_of x) (reads grammar w d rules.conjunction ts) w us
+    (rw (← begins_and_operand) (run_start grammar w d (λ x ys. and_of x ys) rules.negation true rules.and_operand ts x us e)) n
+
+start_conjunction : (w d n : _) (ts : List Word) (x : Located) (us : List Word) (at : _) (ms : List Expr) → reads grammar w d rules.negation ts ≡ Ok (x, us) → head_in kind_of (is k.And) us ≡ true → at ≡ next_at us → ms ≡ and_members x.1 → n ≡ w
+    → run_on w d rules.and_operand (is k.And) (joined (λ ms. all_of at (exprs_of ms)) and_members x.0 ms) n us ≡ reads grammar w d rules.conjunction ts
+unfolding rules.conjunction
+start_conjunction w d n ts x us at ms e h a m j =
+    rw (a, m, j) (run_more w d rules.and_operand (is k.And) (joined (λ ms. all_of (next_at us) (exprs_of ms)) and_members x.0 (and_members x.1)) (and_of x) w us h
+    (λ y vs ys r. ap (λ n. (x.0, all_of n (exprs_of (and_members x.1 ++ flat_map and_members (map (λ z. z.1.1) (y ∷ ys)))))) (sym (next_and_operand w d us y vs r)))
+    ∙ rw (← begins_and_operand) (run_start grammar w d (λ x ys. and_of x ys) rules.negation true rules.and_operand ts x us e))
+
+pub conjunction-returns-in_err-start : goal.conjunction-returns-in_err-start
+unfolding rules.conjunction
+conjunction-returns-in_err-start g t c =
+    let p = err_from_is_err_and c.from_residual.result c.from_residual.ensures.1 in
+    rw (p.1, p.2) (fault_along _ (reads grammar c.args.reader.run_limit c.args.reader.depth_limit rules.negation (map word_of c.args.tokens.now)) (reads grammar c.args.reader.run_limit c.args.reader.depth_limit rules.conjunction (map word_of c.args.tokens.now))
+    (λ stop r. run_err grammar c.args.reader.run_limit c.args.reader.depth_limit (λ x ys. and_of x ys) rules.negation true rules.and_operand (map word_of c.args.tokens.now) stop r) c.in_err-start.ensures)
+
+pub conjunction-returns-then-not-sees : goal.conjunction-returns-then-not-sees
+conjunction-returns-then-not-sees g t c = alone_conjunction c.args.reader.run_limit c.args.reader.depth_limit (map word_of c.args.tokens.now) (c.in_ok-start.start, expr_of c.in_ok-start.first) (map word_of c.in_ok-start.rest.now) c.in_ok-start.ensures (cc)
+
+pub conjunction-loop-init : goal.conjunction-loop-init
+conjunction-loop-init g t c = start_conjunction c.args.reader.run_limit c.args.reader.depth_limit _ (map word_of c.args.tokens.now) (c.in_ok-start.start, expr_of c.in_ok-start.first) (map word_of c.in_ok-start.rest.now) c.next_offset-offset.result (map (λ e. expr_of e) c.in_ok-members.members.items)
+    c.in_ok-start.ensures (cc) c.next_offset-offset.ensures c.in_ok-members.ensures (omega arith)
+
+pub conjunction-returns-then-not-sees-2 : goal.conjunction-returns-then-not-sees-2
+conjunction-returns-then-not-sees-2 g t c = run_stop c.args.reader.run_limit c.args.reader.depth_limit rules.and_operand (is k.And) (joined (λ ms. all_of c.next_offset-offset.result (exprs_of ms)) and_members c.in_ok-start.start (map (λ e. expr_of e) c.loop.members.items)) _ _ (map word_of c.loop.rest.now) c.loop.invariant (cc) ∙ ap (λ (p : Located). let o : Outcome Word Located = Ok (p, map word_of c.loop.rest.now) in o) (and_made c.in_ok-start.start c.next_offset-offset.result c.loop.members)
+
+pub conjunction-returns : goal.conjunction-returns
+conjunction-returns g t c = run_stop c.args.reader.run_limit c.args.reader.depth_limit rules.and_operand (is k.And) (joined (λ ms. all_of c.next_offset-offset.result (exprs_of ms)) and_members c.in_ok-start.start (map (λ e. expr_of e) c.loop.members.items)) _ _ (map word_of c.loop.rest.now) c.loop.invariant (cc) ∙ ap (λ (p : Located). let o : Outcome Word Located = Ok (p, map word_of c.loop.rest.now) in o) (and_made c.in_ok-start.start c.next_offset-offset.result c.loop.members)
+
+pub conjunction-returns-then-sees : goal.conjunction-returns-then-sees
+conjunction-returns-then-sees g t c = rw (← length-map c.loop.rest.now word_of) (run_full c.args.reader.run_limit c.args.reader.depth_limit rules.and_operand (is k.And) (joined (λ ms. all_of c.next_offset-offset.result (exprs_of ms)) and_members c.in_ok-start.start (map (λ e. expr_of e) c.loop.members.items)) _ _ (map word_of c.loop.rest.now) c.loop.invariant (omega arith) (cc))
+
+pub conjunction-returns-in_err-next : goal.conjunction-returns-in_err-next
+conjunction-returns-in_err-next g t c =
+    let p = err_from_is_err_and c.from_residual-in_err-next.result c.from_residual-in_err-next.ensures.1 in
+    rw (p.1, p.2) (run_fail c.args.reader.run_limit c.args.reader.depth_limit rules.and_operand (is k.And) (joined (λ ms. all_of c.next_offset-offset.result (exprs_of ms)) and_members c.in_ok-start.start (map (λ e. expr_of e) c.loop.members.items)) _ _ (map word_of c.loop.rest.now) c.loop.invariant _ (omega arith) (cc) c.in_err-next.ensures)
+
+pub conjunction-loop-preserved : goal.conjunction-loop-preserved
+conjunction-loop-preserved g t c =
+    run_go c.args.reader.run_limit c.args.reader.depth_limit rules.and_operand (is k.And) (joined (λ ms. all_of c.next_offset-offset.result (exprs_of ms)) and_members c.in_ok-start.start (map (λ e. expr_of e) c.loop.members.items)) _ _ (map word_of c.loop.rest.now) c.loop.invariant
+    (word_of c.in_ok-next.field-0-0-0, (c.in_ok-next.field-0-0-1-0, expr_of c.in_ok-next.next)) (map word_of c.in_ok-next.after.now) _ _ (omega arith) (cc) c.in_ok-next.ensures
+    (λ xs. joined_go (λ ms. all_of c.next_offset-offset.result (exprs_of ms)) and_members c.in_ok-start.start (map (λ e. expr_of e) c.loop.members.items) (word_of c.in_ok-next.field-0-0-0, (c.in_ok-next.field-0-0-1-0, expr_of c.in_ok-next.next)) xs
+    ∙ ap (λ l. joined (λ ms. all_of c.next_offset-offset.result (exprs_of ms)) and_members c.in_ok-start.start l xs) (appended c.loop.members.items c.in_ok-more.more.items c.append.new.self.items _ c.in_ok-append.ensures.items c.in_ok-more.ensures))
+    (omega arith)
+
+-- ---- expression
+
+begins_or_operand : first language nested_first rules.or_operand ≡ is k.Or
+unfolding rules.or_operand
+begins_or_operand = refl
+
+next_or_operand : (w d : _) (us : List Word) (y : Word × Located) (vs : List Word) → reads grammar w d rules.or_operand us ≡ Ok (y, vs) → y.0.at ≡ next_at us
+unfolding rules.or_operand
+next_or_operand w d us y vs e = word_is_next w d (is k.Or) rules.conjunction us y vs e
+
+alone_expression : (w d : _) (ts : List Word) (x : Located) (us : List Word) → reads grammar w d rules.conjunction ts ≡ Ok (x, us) → head_in kind_of (is k.Or) us ≡ false → reads grammar w d rules.expression ts ≡ Ok (x, us)
+unfolding rules.expression
+alone_expression w d ts x us e n =
+    run_stop w d rules.or_operand (is k.Or) (or_of x) (reads grammar w d rules.expression ts) w us
+    (rw (← begins_or_operand) (run_start grammar w d (λ x ys. or_of x ys) rules.conjunction true rules.or_operand ts x us e)) n
+
+start_expression : (w d n : _) (ts : List Word) (x : Located) (us : List Word) (at : _) (ms : List Expr) → reads grammar w d rules.conjunction ts ≡ Ok (x, us) → head_in kind_of (is k.Or) us ≡ true → at ≡ next_at us → ms ≡ or_members x.1 → n ≡ w
+    → run_on w d rules.or_operand (is k.Or) (joined (λ ms. any_of at (exprs_of ms)) or_members x.0 ms) n us ≡ reads grammar w d rules.expression ts
+unfolding rules.expression
+start_expression w d n ts x us at ms e h a m j =
+    rw (a, m, j) (run_more w d rules.or_operand (is k.Or) (joined (λ ms. any_of (next_at us) (exprs_of ms)) or_members x.0 (or_members x.1)) (or_of x) w us h
+    (λ y vs ys r. ap (λ n. (x.0, any_of n (exprs_of (or_members x.1 ++ flat_map or_members (map (λ z. z.1.1) (y ∷ ys)))))) (sym (next_or_operand w d us y vs r)))
+    ∙ rw (← begins_or_operand) (run_start grammar w d (λ x ys. or_of x ys) rules.conjunction true rules.or_operand ts x us e))
+
+pub expression-returns-in_err-start : goal.expression-returns-in_err-start
+unfolding rules.expression
+expression-returns-in_err-start g t c =
+    let p = err_from_is_err_and c.from_residual.result c.from_residual.ensures.1 in
+    rw (p.1, p.2) (fault_along _ (reads grammar c.args.reader.run_limit c.args.reader.depth_limit rules.conjunction (map word_of c.args.tokens.now)) (reads grammar c.args.reader.run_limit c.args.reader.depth_limit rules.expression (map word_of c.args.tokens.now))
+    (λ stop r. run_err grammar c.args.reader.run_limit c.args.reader.depth_limit (λ x ys. or_of x ys) rules.conjunction true rules.or_operand (map word_of c.args.tokens.now) stop r) c.in_err-start.ensures)
+
+pub expression-returns-then-not-sees : goal.expression-returns-then-not-sees
+expression-returns-then-not-sees g t c = alone_expression c.args.reader.run_limit c.args.reader.depth_limit (map word_of c.args.tokens.now) (c.in_ok-start.start, expr_of c.in_ok-start.first) (map word_of c.in_ok-start.rest.now) c.in_ok-start.ensures (cc)
+
+pub expression-loop-init : goal.expression-loop-init
+expression-loop-init g t c = start_expression c.args.reader.run_limit c.args.reader.depth_limit _ (map word_of c.args.tokens.now) (c.in_ok-start.start, expr_of c.in_ok-start.first) (map word_of c.in_ok-start.rest.now) c.next_offset-offset.result (map (λ e. expr_of e) c.in_ok-members.members.items)
+    c.in_ok-start.ensures (cc) c.next_offset-offset.ensures c.in_ok-members.ensures (omega arith)
+
+pub expression-returns-then-not-sees-2 : goal.expression-returns-then-not-sees-2
+expression-returns-then-not-sees-2 g t c = run_stop c.args.reader.run_limit c.args.reader.depth_limit rules.or_operand (is k.Or) (joined (λ ms. any_of c.next_offset-offset.result (exprs_of ms)) or_members c.in_ok-start.start (map (λ e. expr_of e) c.loop.members.items)) _ _ (map word_of c.loop.rest.now) c.loop.invariant (cc) ∙ ap (λ (p : Located). let o : Outcome Word Located = Ok (p, map word_of c.loop.rest.now) in o) (or_made c.in_ok-start.start c.next_offset-offset.result c.loop.members)
+
+pub expression-returns : goal.expression-returns
+expression-returns g t c = run_stop c.args.reader.run_limit c.args.reader.depth_limit rules.or_operand (is k.Or) (joined (λ ms. any_of c.next_offset-offset.result (exprs_of ms)) or_members c.in_ok-start.start (map (λ e. expr_of e) c.loop.members.items)) _ _ (map word_of c.loop.rest.now) c.loop.invariant (cc) ∙ ap (λ (p : Located). let o : Outcome Word Located = Ok (p, map word_of c.loop.rest.now) in o) (or_made c.in_ok-start.start c.next_offset-offset.result c.loop.members)
+
+pub expression-returns-then-sees : goal.expression-returns-then-sees
+expression-returns-then-sees g t c = rw (← length-map c.loop.rest.now word_of) (run_full c.args.reader.run_limit c.args.reader.depth_limit rules.or_operand (is k.Or) (joined (λ ms. any_of c.next_offset-offset.result (exprs_of ms)) or_members c.in_ok-start.start (map (λ e. expr_of e) c.loop.members.items)) _ _ (map word_of c.loop.rest.now) c.loop.invariant (omega arith) (cc))
+
+pub expression-returns-in_err-next : goal.expression-returns-in_err-next
+expression-returns-in_err-next g t c =
+    let p = err_from_is_err_and c.from_residual-in_err-next.result c.from_residual-in_err-next.ensures.1 in
+    rw (p.1, p.2) (run_fail c.args.reader.run_limit c.args.reader.depth_limit rules.or_operand (is k.Or) (joined (λ ms. any_of c.next_offset-offset.result (exprs_of ms)) or_members c.in_ok-start.start (map (λ e. expr_of e) c.loop.members.items)) _ _ (map word_of c.loop.rest.now) c.loop.invariant _ (omega arith) (cc) c.in_err-next.ensures)
+
+pub expression-loop-preserved : goal.expression-loop-preserved
+expression-loop-preserved g t c =
+    run_go c.args.reader.run_limit c.args.reader.depth_limit rules.or_operand (is k.Or) (joined (λ ms. any_of c.next_offset-offset.result (exprs_of ms)) or_members c.in_ok-start.start (map (λ e. expr_of e) c.loop.members.items)) _ _ (map word_of c.loop.rest.now) c.loop.invariant
+    (word_of c.in_ok-next.field-0-0-0, (c.in_ok-next.field-0-0-1-0, expr_of c.in_ok-next.next)) (map word_of c.in_ok-next.after.now) _ _ (omega arith) (cc) c.in_ok-next.ensures
+    (λ xs. joined_go (λ ms. any_of c.next_offset-offset.result (exprs_of ms)) or_members c.in_ok-start.start (map (λ e. expr_of e) c.loop.members.items) (word_of c.in_ok-next.field-0-0-0, (c.in_ok-next.field-0-0-1-0, expr_of c.in_ok-next.next)) xs
+    ∙ ap (λ l. joined (λ ms. any_of c.next_offset-offset.result (exprs_of ms)) or_members c.in_ok-start.start l xs) (appended c.loop.members.items c.in_ok-more.more.items c.append.new.self.items _ c.in_ok-append.ensures.items c.in_ok-more.ensures))
+    (omega arith)
+
+-- ---- CASE
+
+module _ (w d : _) (ts : List Word) (u : Word) (us : List Word) (opened : opened_at kind_of (can_open d) (is k.Case) ts ≡ Ok (u, us)) (as_ : List (Expr × Expr)) (vs : List Word) (arms : reads grammar w d rules.arms us ≡ Ok (as_, vs)) where
+  case_no_other : (stop : ReadError) → reads grammar w d rules.otherwise vs ≡ Err stop → reads grammar w d rules.case ts ≡ Err stop
+  unfolding rules.case
+  case_no_other stop r = rw opened (rw arms (rw r refl))
+
+  module _ (o : Other) (xs : List Word) (otherwise : reads grammar w d rules.otherwise vs ≡ Ok (o, xs)) where
+    case_no_end : (stop : ReadError) → word_at kind_of (is k.End) xs ≡ Err stop → reads grammar w d rules.case ts ≡ Err stop
+    unfolding rules.case
+    case_no_end stop r = rw opened (rw arms (rw otherwise (rw r refl)))
+
+    case_read : (v : Word) (ys : List Word) → word_at kind_of (is k.End) xs ≡ Ok (v, ys) → reads grammar w d rules.case ts ≡ Ok ((u.at, choice u.at (arms_of as_) o), ys)
+    unfolding rules.case
+    case_read v ys r = rw opened (rw arms (rw otherwise (rw r refl)))
+
+pub case-returns-in_err-other : goal.case-returns-in_err-other
+case-returns-in_err-other g t c =
+    let p = err_from_is_err_and c.from_residual-in_err-other.result c.from_residual-in_err-other.ensures.1 in
+    rw (p.1, p.2) (fault_along _ (reads grammar c.args.reader.run_limit c.args.reader.depth_limit rules.otherwise (map word_of c.in_ok-arms.rest.now)) (reads grammar c.args.reader.run_limit c.args.reader.depth_limit rules.case (map word_of c.args.tokens.now))
+    (case_no_other c.args.reader.run_limit c.args.reader.depth_limit (map word_of c.args.tokens.now) (word_of c.in_ok-word.word) (map word_of c.in_ok-word.rest.now) c.in_ok-word.ensures.token _ (map word_of c.in_ok-arms.rest.now) c.in_ok-arms.ensures) c.in_err-other.ensures)
+
+pub case-returns-in_err-rest : goal.case-returns-in_err-rest
+case-returns-in_err-rest g t c =
+    let p = err_from_is_err_and c.from_residual-in_err-rest.result c.from_residual-in_err-rest.ensures.1 in
+    rw (p.1, p.2) (fault_along _ (word_at kind_of (is k.End) (map word_of c.in_ok-other.rest.now)) (reads grammar c.args.reader.run_limit c.args.reader.depth_limit rules.case (map word_of c.args.tokens.now))
+    (case_no_end c.args.reader.run_limit c.args.reader.depth_limit (map word_of c.args.tokens.now) (word_of c.in_ok-word.word) (map word_of c.in_ok-word.rest.now) c.in_ok-word.ensures.token _ (map word_of c.in_ok-arms.rest.now) c.in_ok-arms.ensures _ (map word_of c.in_ok-other.rest.now) c.in_ok-other.ensures) c.in_err-rest.ensures)
+
+pub case-returns : goal.case-returns
+case-returns g t c =
+    case_read c.args.reader.run_limit c.args.reader.depth_limit (map word_of c.args.tokens.now) (word_of c.in_ok-word.word) (map word_of c.in_ok-word.rest.now) c.in_ok-word.ensures.token _ (map word_of c.in_ok-arms.rest.now) c.in_ok-arms.ensures _ (map word_of c.in_ok-other.rest.now) c.in_ok-other.ensures (word_of c.in_ok-rest.field-0-0) (map word_of c.in_ok-rest.rest.now) c.in_ok-rest.ensures
+    ∙ ap (λ (e : Expr). let o : Outcome Word Located = Ok ((c.in_ok-word.word.offset, e), map word_of c.in_ok-rest.rest.now) in o) (sym c.in_ok-case.ensures)

@@ -1,0 +1,122 @@
+use Rattle.std.proofs.Common.{◌≡◌, ◌+◌, ◌-◌, ◌*◌, map}
+use Rattle.row_grammar.specs.Limits.{reads}
+use Rattle.row_tokens.specs.declared.token.TokenKind.TheVariants as k
+use Rattle.row_tokens.specs.View.{word_of}
+use Rattle.row_ast.specs.Ast.{all_of, any_of, exprs_of, and_members, or_members}
+use Rattle.row_reader.specs.Language.{is, of}
+use Rattle.row_reader.specs.declared.reader.Class.TheVariants as c
+use Rattle.row_reader.specs.Expressions as rules
+use Rattle.row_reader.specs.Expressions.{grammar, folded_left}
+use Rattle.row_ast.specs.View.{expr_of, arm_pair}
+use Rattle.row_expressions.specs.View.{located}
+use Rattle.row_reader.proofs.Lists.{listed}
+use Rattle.row_expressions.proofs.Runs.{run_on, joined}
+use Rattle.row_expressions.proofs.expressions.+expression.Given as goal
+
+abbrev pub decreases-inner_expression : goal.decreases-inner_expression
+decreases-inner_expression g l = 30 * l.reader.depth_limit + 0
+
+abbrev pub decreases-inner_negation : goal.decreases-inner_negation
+decreases-inner_negation g l = 30 * l.reader.depth_limit + 0
+
+abbrev pub decreases-inner_unary : goal.decreases-inner_unary
+decreases-inner_unary g l = 30 * l.reader.depth_limit + 0
+
+abbrev pub decreases-parenthesized : goal.decreases-parenthesized
+decreases-parenthesized g l = 30 * l.reader.depth_limit + 1
+
+abbrev pub decreases-cast : goal.decreases-cast
+decreases-cast g l = 30 * l.reader.depth_limit + 1
+
+abbrev pub decreases-arm : goal.decreases-arm
+decreases-arm g l = 30 * l.reader.depth_limit + 1
+
+abbrev pub decreases-otherwise : goal.decreases-otherwise
+decreases-otherwise g l = 30 * l.reader.depth_limit + 1
+
+abbrev pub decreases-counted_rows : goal.decreases-counted_rows
+decreases-counted_rows g l = 30 * l.reader.depth_limit + 1
+
+abbrev pub decreases-aggregate_tail : goal.decreases-aggregate_tail
+decreases-aggregate_tail g l = 30 * l.reader.depth_limit + 1
+
+abbrev pub decreases-arms : goal.decreases-arms
+decreases-arms g l = 30 * l.reader.depth_limit + 2
+
+abbrev pub decreases-case : goal.decreases-case
+decreases-case g l = 30 * l.reader.depth_limit + 3
+
+abbrev pub decreases-count_tail : goal.decreases-count_tail
+decreases-count_tail g l = 30 * l.reader.depth_limit + 2
+
+abbrev pub decreases-count : goal.decreases-count
+decreases-count g l = 30 * l.reader.depth_limit + 3
+
+abbrev pub decreases-aggregate : goal.decreases-aggregate
+decreases-aggregate g l = 30 * l.reader.depth_limit + 2
+
+abbrev pub decreases-primary : goal.decreases-primary
+decreases-primary g l = 30 * l.reader.depth_limit + 4
+
+abbrev pub decreases-unary : goal.decreases-unary
+decreases-unary g l = 30 * l.reader.depth_limit + 5
+
+abbrev pub decreases-factor : goal.decreases-factor
+decreases-factor g l = 30 * l.reader.depth_limit + 6
+
+abbrev pub decreases-product : goal.decreases-product
+decreases-product g l = 30 * l.reader.depth_limit + 7
+
+abbrev pub decreases-addend : goal.decreases-addend
+decreases-addend g l = 30 * l.reader.depth_limit + 8
+
+abbrev pub decreases-sum : goal.decreases-sum
+decreases-sum g l = 30 * l.reader.depth_limit + 9
+
+abbrev pub decreases-between : goal.decreases-between
+decreases-between g l = 30 * l.reader.depth_limit + 10
+
+abbrev pub decreases-negated_range : goal.decreases-negated_range
+decreases-negated_range g l = 30 * l.reader.depth_limit + 11
+
+abbrev pub decreases-range_tail : goal.decreases-range_tail
+decreases-range_tail g l = 30 * l.reader.depth_limit + 12
+
+abbrev pub decreases-ranged_sum : goal.decreases-ranged_sum
+decreases-ranged_sum g l = 30 * l.reader.depth_limit + 13
+
+abbrev pub decreases-comparison : goal.decreases-comparison
+decreases-comparison g l = 30 * l.reader.depth_limit + 14
+
+abbrev pub decreases-null_test : goal.decreases-null_test
+decreases-null_test g l = 30 * l.reader.depth_limit + 15
+
+abbrev pub decreases-negation : goal.decreases-negation
+decreases-negation g l = 30 * l.reader.depth_limit + 16
+
+abbrev pub decreases-and_operand : goal.decreases-and_operand
+decreases-and_operand g l = 30 * l.reader.depth_limit + 17
+
+abbrev pub decreases-conjunction : goal.decreases-conjunction
+decreases-conjunction g l = 30 * l.reader.depth_limit + 18
+
+abbrev pub decreases-or_operand : goal.decreases-or_operand
+decreases-or_operand g l = 30 * l.reader.depth_limit + 19
+
+abbrev pub decreases-expression : goal.decreases-expression
+decreases-expression g l = 30 * l.reader.depth_limit + 20
+
+abbrev pub invariant-product-loop : goal.invariant-product-loop
+invariant-product-loop g l = run_on l.reader.run_limit l.reader.depth_limit rules.factor (of c.Multiplication) (folded_left (located l.left)) (l.reader.run_limit - l.counter) (map word_of l.rest) ≡ reads grammar l.reader.run_limit l.reader.depth_limit rules.product (map word_of l.tokens)
+
+abbrev pub invariant-sum-loop : goal.invariant-sum-loop
+invariant-sum-loop g l = run_on l.reader.run_limit l.reader.depth_limit rules.addend (of c.Addition) (folded_left (located l.left)) (l.reader.run_limit - l.counter) (map word_of l.rest) ≡ reads grammar l.reader.run_limit l.reader.depth_limit rules.sum (map word_of l.tokens)
+
+abbrev pub invariant-conjunction-loop : goal.invariant-conjunction-loop
+invariant-conjunction-loop g l = run_on l.reader.run_limit l.reader.depth_limit rules.and_operand (is k.And) (joined (λ ms. all_of l.offset (exprs_of ms)) and_members l.start (map (λ e. expr_of e) l.members.items)) (l.reader.run_limit - l.counter) (map word_of l.rest) ≡ reads grammar l.reader.run_limit l.reader.depth_limit rules.conjunction (map word_of l.tokens)
+
+abbrev pub invariant-expression-loop : goal.invariant-expression-loop
+invariant-expression-loop g l = run_on l.reader.run_limit l.reader.depth_limit rules.or_operand (is k.Or) (joined (λ ms. any_of l.offset (exprs_of ms)) or_members l.start (map (λ e. expr_of e) l.members.items)) (l.reader.run_limit - l.counter) (map word_of l.rest) ≡ reads grammar l.reader.run_limit l.reader.depth_limit rules.expression (map word_of l.tokens)
+
+abbrev pub invariant-arms-loop : goal.invariant-arms-loop
+invariant-arms-loop g l = listed l.reader.run_limit l.reader.depth_limit (λ a. arm_pair a) rules.arm (is k.When) l.all.items (l.most - l.counter) (map word_of l.rest) ≡ reads grammar l.reader.run_limit l.reader.depth_limit rules.arms (map word_of l.tokens)

@@ -1,0 +1,580 @@
+//! Expressions, from tokens.
+
+ghost use Rattle.std.specs.Prelude.{◌<◌, map, option_map};
+ghost use Rattle.memory.specs.Gives.{Gives};
+ghost use Rattle.row_grammar.specs.Limits.{reads, deep_at};
+ghost use Rattle.row_tokens.specs.View.{word_of, words_of};
+ghost use Rattle.row_reader.specs.Expressions as rules;
+ghost use Rattle.row_reader.specs.Expressions.{grammar};
+ghost use Rattle.row_reader.specs.Language.{an_expression, a_negation, a_unary};
+ghost use Rattle.row_reader.specs.Reading.{Parses};
+ghost use Rattle.row_ast.specs.View.{expr_of, arm_pair};
+ghost use Rattle.row_expressions.specs.View.{located, range_of, signed_of, suffix_of, otherwise_of};
+
+use crate::literals::{literal, value_list};
+use crate::names::{dot_name, type_name};
+use crate::operators::{addition, aggregate_name, comparison_sign, multiplication};
+use crate::build::{
+    Otherwise, Located, Range, CallSuffix, and_members, called, case_of, column_at, combined, compared,
+    counted, or_members, ranged,
+};
+use crate::reader::{
+    Class, Parsed, ReadError, Reader, before, expect, expect_any, next_offset, open, sees, sees_any,
+};
+use crate::tree::{Arithmetic, Arm, Expr};
+use memory::Heap;
+use row_tokens::{Token, TokenKind};
+
+/// An expression a level deeper.
+#[cycle(expression)]
+#[tactic(auto, using(row_grammar::proofs::Steps::deep_is))]
+pub fn inner_expression<'t, A: Heap>(
+    reader: Reader<A>,
+    tokens: &'t [Token<'t>],
+) -> Parsed<'t, Located<A>>
+    requires { 0 < reader.depth_limit }
+    ensures { Gives (λ x. (located x.0, words_of x.1.now)) result (deep_at grammar reader.run_limit reader.depth_limit an_expression (words_of tokens.now)) }
+{
+    expression(reader.deeper(), tokens)
+}
+
+// A negation a level deeper.
+#[cycle(expression)]
+#[tactic(auto, using(row_grammar::proofs::Steps::deep_is))]
+fn inner_negation<'t, A: Heap>(reader: Reader<A>, tokens: &'t [Token<'t>]) -> Parsed<'t, Located<A>>
+    requires { 0 < reader.depth_limit }
+    ensures { Gives (λ x. (located x.0, words_of x.1.now)) result (deep_at grammar reader.run_limit reader.depth_limit a_negation (words_of tokens.now)) }
+{
+    negation(reader.deeper(), tokens)
+}
+
+// A unary expression a level deeper.
+#[cycle(expression)]
+#[tactic(auto, using(row_grammar::proofs::Steps::deep_is))]
+fn inner_unary<'t, A: Heap>(reader: Reader<A>, tokens: &'t [Token<'t>]) -> Parsed<'t, Located<A>>
+    requires { 0 < reader.depth_limit }
+    ensures { Gives (λ x. (located x.0, words_of x.1.now)) result (deep_at grammar reader.run_limit reader.depth_limit a_unary (words_of tokens.now)) }
+{
+    unary(reader.deeper(), tokens)
+}
+
+// `( expr )`.
+#[cycle(expression)]
+#[tactic(auto, unfolding(crate::specs::Expressions::parenthesized))]
+fn parenthesized<'t, A: Heap>(reader: Reader<A>, tokens: &'t [Token<'t>]) -> Parsed<'t, Located<A>>
+    ensures { Parses (λ t. located t) rules.parenthesized reader tokens.now result }
+{
+    let (sign, rest) = open(TokenKind::Open, reader.depth_limit, tokens)?;
+    let ((_, inner), rest) = inner_expression(reader, rest)?;
+    let ((inner, _), rest) = before(inner, expect(TokenKind::Close, rest))?;
+    Ok(((sign.offset, inner), rest))
+}
+
+// `CAST ( expr AS type )`.
+#[cycle(expression)]
+#[tactic(auto, unfolding(crate::specs::Expressions::cast))]
+fn cast<'t, A: Heap>(reader: Reader<A>, tokens: &'t [Token<'t>]) -> Parsed<'t, Located<A>>
+    ensures { Parses (λ t. located t) rules.cast reader tokens.now result }
+{
+    let (word, rest) = expect(TokenKind::Cast, tokens)?;
+    let (_, rest) = open(TokenKind::Open, reader.depth_limit, rest)?;
+    let ((_, value), rest) = inner_expression(reader, rest)?;
+    let value = Box::new(reader.alloc, value)?;
+    let (_, rest) = expect(TokenKind::As, rest)?;
+    let (to, rest) = type_name(reader, rest)?;
+    let (_, rest) = expect(TokenKind::Close, rest)?;
+    Ok(((word.offset, Expr::Cast(word.offset, to, value)), rest))
+}
+
+// `WHEN expr THEN expr`.
+#[cycle(expression)]
+#[tactic(auto, unfolding(crate::specs::Expressions::arm))]
+fn arm<'t, A: Heap>(reader: Reader<A>, tokens: &'t [Token<'t>]) -> Parsed<'t, Arm<A>>
+    requires { 0 < reader.depth_limit }
+    ensures { Parses (λ t. arm_pair t) rules.arm reader tokens.now result }
+{
+    let (_, rest) = expect(TokenKind::When, tokens)?;
+    let ((_, when), rest) = inner_expression(reader, rest)?;
+    let ((when, _), rest) = before(when, expect(TokenKind::Then, rest))?;
+    let ((when, (_, gives)), rest) = before(when, inner_expression(reader, rest))?;
+    Ok((Arm { when, gives }, rest))
+}
+
+// The arms of a CASE.
+#[cycle(expression)]
+fn arms<'t, A: Heap>(reader: Reader<A>, tokens: &'t [Token<'t>]) -> Parsed<'t, Vec<Arm<A>, A>>
+    requires { 0 < reader.depth_limit }
+    ensures { Parses (λ t. map (λ a. arm_pair a) t.items) rules.arms reader tokens.now result }
+{
+    let (first, mut rest) = arm(reader, tokens)?;
+    let mut all = Vec::new(reader.alloc);
+    all.push(first)?;
+    let most = rest.len();
+    for _ in 0..most {
+        if !sees(TokenKind::When, rest) {
+            return Ok((all, rest));
+        }
+        let (next, after) = arm(reader, rest)?;
+        all.push(next)?;
+        rest = after;
+    }
+    Ok((all, rest))
+}
+
+// `[ELSE expr]`.
+#[cycle(expression)]
+#[tactic(auto, unfolding(crate::specs::Expressions::otherwise))]
+fn otherwise<'t, A: Heap>(reader: Reader<A>, tokens: &'t [Token<'t>]) -> Parsed<'t, Otherwise<A>>
+    requires { 0 < reader.depth_limit }
+    ensures { Parses (λ t. otherwise_of t) rules.otherwise reader tokens.now result }
+{
+    if !sees(TokenKind::Else, tokens) {
+        return Ok((Otherwise::Nothing, tokens));
+    }
+    let (_, rest) = expect(TokenKind::Else, tokens)?;
+    let ((_, value), rest) = inner_expression(reader, rest)?;
+    Ok((Otherwise::Value(value), rest))
+}
+
+// `CASE arms [ELSE expr] END`.
+#[cycle(expression)]
+#[tactic(auto, unfolding(crate::specs::Expressions::case))]
+fn case<'t, A: Heap>(reader: Reader<A>, tokens: &'t [Token<'t>]) -> Parsed<'t, Located<A>>
+    ensures { Parses (λ t. located t) rules.case reader tokens.now result }
+{
+    let (word, rest) = open(TokenKind::Case, reader.depth_limit, tokens)?;
+    let (arms, rest) = arms(reader, rest)?;
+    let (other, rest) = otherwise(reader, rest)?;
+    let (_, rest) = expect(TokenKind::End, rest)?;
+    let offset = word.offset;
+    let case = case_of(reader.alloc, offset, arms, other)?;
+    Ok(((offset, case), rest))
+}
+
+// `* | expr`.
+#[cycle(expression)]
+#[tactic(auto, unfolding(crate::specs::Expressions::counted_rows))]
+fn counted_rows<'t, A: Heap>(reader: Reader<A>, tokens: &'t [Token<'t>]) -> Parsed<'t, CallSuffix<A>>
+    requires { 0 < reader.depth_limit }
+    ensures { Parses (λ t. suffix_of t) rules.counted_rows reader tokens.now result }
+{
+    if sees(TokenKind::Star, tokens) {
+        let (_, rest) = expect(TokenKind::Star, tokens)?;
+        Ok((CallSuffix::Star, rest))
+    } else {
+        let ((_, argument), rest) = inner_expression(reader, tokens)?;
+        Ok((CallSuffix::Argument(argument), rest))
+    }
+}
+
+// What follows `count`.
+#[cycle(expression)]
+#[tactic(auto, unfolding(crate::specs::Expressions::count_tail))]
+fn count_tail<'t, A: Heap>(reader: Reader<A>, tokens: &'t [Token<'t>]) -> Parsed<'t, CallSuffix<A>>
+    ensures { Parses (λ t. suffix_of t) rules.count_tail reader tokens.now result }
+{
+    if sees(TokenKind::Open, tokens) {
+        let (_, rest) = open(TokenKind::Open, reader.depth_limit, tokens)?;
+        let (tail, rest) = counted_rows(reader, rest)?;
+        let ((tail, _), rest) = before(tail, expect(TokenKind::Close, rest))?;
+        Ok((tail, rest))
+    } else {
+        let (name, rest) = dot_name(reader, tokens)?;
+        Ok((CallSuffix::Dotted(name), rest))
+    }
+}
+
+// `count` and what follows it.
+#[cycle(expression)]
+#[tactic(auto, unfolding(crate::specs::Expressions::count))]
+fn count<'t, A: Heap>(reader: Reader<A>, tokens: &'t [Token<'t>]) -> Parsed<'t, Located<A>>
+    ensures { Parses (λ t. located t) rules.count reader tokens.now result }
+{
+    let (word, rest) = expect(TokenKind::Count, tokens)?;
+    let (tail, rest) = count_tail(reader, rest)?;
+    let value = counted(reader.alloc, &word, tail)?;
+    Ok(((word.offset, value), rest))
+}
+
+// What follows another function's name.
+#[cycle(expression)]
+#[tactic(auto, unfolding(crate::specs::Expressions::aggregate_tail))]
+fn aggregate_tail<'t, A: Heap>(reader: Reader<A>, tokens: &'t [Token<'t>]) -> Parsed<'t, CallSuffix<A>>
+    ensures { Parses (λ t. suffix_of t) rules.aggregate_tail reader tokens.now result }
+{
+    if sees(TokenKind::Open, tokens) {
+        let (_, rest) = open(TokenKind::Open, reader.depth_limit, tokens)?;
+        let ((_, argument), rest) = inner_expression(reader, rest)?;
+        let ((argument, _), rest) = before(argument, expect(TokenKind::Close, rest))?;
+        Ok((CallSuffix::Argument(argument), rest))
+    } else {
+        let (name, rest) = dot_name(reader, tokens)?;
+        Ok((CallSuffix::Dotted(name), rest))
+    }
+}
+
+// Another function's name and what follows it.
+#[cycle(expression)]
+#[tactic(auto, unfolding(crate::specs::Expressions::aggregate))]
+fn aggregate<'t, A: Heap>(reader: Reader<A>, tokens: &'t [Token<'t>]) -> Parsed<'t, Located<A>>
+    ensures { Parses (λ t. located t) rules.aggregate reader tokens.now result }
+{
+    let ((word, function), rest) = aggregate_name(reader, tokens)?;
+    let (tail, rest) = aggregate_tail(reader, rest)?;
+    let value = called(reader.alloc, &word, function, tail)?;
+    Ok(((word.offset, value), rest))
+}
+
+// `CURRENT_USER` or a literal.
+#[tactic(auto, unfolding(crate::specs::Expressions::constant))]
+fn constant<'t, A: Heap>(reader: Reader<A>, tokens: &'t [Token<'t>]) -> Parsed<'t, Located<A>>
+    ensures { Parses (λ t. located t) rules.constant reader tokens.now result }
+{
+    if sees(TokenKind::CurrentUser, tokens) {
+        let (word, rest) = expect(TokenKind::CurrentUser, tokens)?;
+        Ok(((word.offset, Expr::CurrentUser), rest))
+    } else {
+        let ((start, value), rest) = literal(reader, tokens)?;
+        Ok(((start, Expr::Literal(value)), rest))
+    }
+}
+
+// A column whose first word is no function's name.
+#[tactic(auto, unfolding(crate::specs::Expressions::plain_column))]
+fn plain_column<'t, A: Heap>(reader: Reader<A>, tokens: &'t [Token<'t>]) -> Parsed<'t, Located<A>>
+    ensures { Parses (λ t. located t) rules.plain_column reader tokens.now result }
+{
+    let (word, rest) = expect_any(Class::PlainName, tokens)?;
+    let (name, rest) = dot_name(reader, rest)?;
+    let column = column_at(reader.alloc, &word, name)?;
+    Ok(((word.offset, column), rest))
+}
+
+// An expression without an operator outside parentheses.
+#[cycle(expression)]
+#[tactic(auto, unfolding(crate::specs::Expressions::primary, crate::specs::Expressions::parenthesized, crate::specs::Expressions::cast, crate::specs::Expressions::case, crate::specs::Expressions::plain_column, crate::specs::Expressions::count, crate::specs::Expressions::aggregate, crate::specs::Expressions::aggregate_name, crate::specs::Language::of))]
+fn primary<'t, A: Heap>(reader: Reader<A>, tokens: &'t [Token<'t>]) -> Parsed<'t, Located<A>>
+    ensures { Parses (λ t. located t) rules.primary reader tokens.now result }
+{
+    if sees(TokenKind::Open, tokens) {
+        parenthesized(reader, tokens)
+    } else if sees(TokenKind::Cast, tokens) {
+        cast(reader, tokens)
+    } else if sees(TokenKind::Case, tokens) {
+        case(reader, tokens)
+    } else if sees_any(Class::PlainName, tokens) {
+        plain_column(reader, tokens)
+    } else if sees(TokenKind::Count, tokens) {
+        count(reader, tokens)
+    } else if sees_any(Class::Aggregate, tokens) {
+        aggregate(reader, tokens)
+    } else {
+        constant(reader, tokens)
+    }
+}
+
+// `- unary | primary`.
+#[cycle(expression)]
+#[tactic(auto, unfolding(crate::specs::Expressions::unary))]
+fn unary<'t, A: Heap>(reader: Reader<A>, tokens: &'t [Token<'t>]) -> Parsed<'t, Located<A>>
+    ensures { Parses (λ t. located t) rules.unary reader tokens.now result }
+{
+    if sees(TokenKind::Minus, tokens) {
+        let (sign, rest) = open(TokenKind::Minus, reader.depth_limit, tokens)?;
+        let ((_, inner), rest) = inner_unary(reader, rest)?;
+        let inner = Box::new(reader.alloc, inner)?;
+        Ok(((sign.offset, Expr::Opposite(sign.offset, inner)), rest))
+    } else {
+        primary(reader, tokens)
+    }
+}
+
+// `* unary` and the like.
+#[cycle(expression)]
+#[tactic(auto, unfolding(crate::specs::Expressions::factor))]
+fn factor<'t, A: Heap>(
+    reader: Reader<A>,
+    tokens: &'t [Token<'t>],
+) -> Parsed<'t, ((u32, Arithmetic), Located<A>)>
+    ensures { Parses (λ t. (t.0, located t.1)) rules.factor reader tokens.now result }
+{
+    let (sign, rest) = multiplication(reader, tokens)?;
+    let (operand, rest) = unary(reader, rest)?;
+    Ok(((sign, operand), rest))
+}
+
+// `unary {(* | / | %) unary}`.
+#[cycle(expression)]
+fn product<'t, A: Heap>(reader: Reader<A>, tokens: &'t [Token<'t>]) -> Parsed<'t, Located<A>>
+    ensures { Parses (λ t. located t) rules.product reader tokens.now result }
+{
+    let (mut left, mut rest) = unary(reader, tokens)?;
+    for _ in 0..reader.run_limit {
+        if !sees_any(Class::Multiplication, rest) {
+            return Ok((left, rest));
+        }
+        let ((sign, right), after) = factor(reader, rest)?;
+        left = combined(reader.alloc, left, sign, right)?;
+        rest = after;
+    }
+    if sees_any(Class::Multiplication, rest) {
+        drop(left);
+        return Err(Failure::Fault(ReadError::Limit { left: rest.len() }));
+    }
+    Ok((left, rest))
+}
+
+// `+ product` and the like.
+#[cycle(expression)]
+#[tactic(auto, unfolding(crate::specs::Expressions::addend))]
+fn addend<'t, A: Heap>(
+    reader: Reader<A>,
+    tokens: &'t [Token<'t>],
+) -> Parsed<'t, ((u32, Arithmetic), Located<A>)>
+    ensures { Parses (λ t. (t.0, located t.1)) rules.addend reader tokens.now result }
+{
+    let (sign, rest) = addition(reader, tokens)?;
+    let (operand, rest) = product(reader, rest)?;
+    Ok(((sign, operand), rest))
+}
+
+// `product {(+ | -) product}`.
+#[cycle(expression)]
+fn sum<'t, A: Heap>(reader: Reader<A>, tokens: &'t [Token<'t>]) -> Parsed<'t, Located<A>>
+    ensures { Parses (λ t. located t) rules.sum reader tokens.now result }
+{
+    let (mut left, mut rest) = product(reader, tokens)?;
+    for _ in 0..reader.run_limit {
+        if !sees_any(Class::Addition, rest) {
+            return Ok((left, rest));
+        }
+        let ((sign, right), after) = addend(reader, rest)?;
+        left = combined(reader.alloc, left, sign, right)?;
+        rest = after;
+    }
+    if sees_any(Class::Addition, rest) {
+        drop(left);
+        return Err(Failure::Fault(ReadError::Limit { left: rest.len() }));
+    }
+    Ok((left, rest))
+}
+
+// `BETWEEN sum AND sum`.
+#[cycle(expression)]
+#[tactic(auto, unfolding(crate::specs::Expressions::between))]
+fn between<'t, A: Heap>(reader: Reader<A>, tokens: &'t [Token<'t>]) -> Parsed<'t, Range<A>>
+    ensures { Parses (λ t. range_of t) rules.between reader tokens.now result }
+{
+    let (word, rest) = expect(TokenKind::Between, tokens)?;
+    let ((_, low), rest) = sum(reader, rest)?;
+    let ((low, _), rest) = before(low, expect(TokenKind::And, rest))?;
+    let ((low, (_, high)), rest) = before(low, sum(reader, rest))?;
+    Ok((Range::Bounds(word.offset, low, high), rest))
+}
+
+// `IN ( literal {, literal} )`.
+#[tactic(auto, unfolding(crate::specs::Expressions::in_list))]
+fn in_list<'t, A: Heap>(reader: Reader<A>, tokens: &'t [Token<'t>]) -> Parsed<'t, Range<A>>
+    ensures { Parses (λ t. range_of t) rules.in_list reader tokens.now result }
+{
+    let (word, rest) = expect(TokenKind::In, tokens)?;
+    let (_, rest) = open(TokenKind::Open, reader.depth_limit, rest)?;
+    let (values, rest) = value_list(reader, rest)?;
+    let (_, rest) = expect(TokenKind::Close, rest)?;
+    Ok((Range::Values(word.offset, values), rest))
+}
+
+// `NOT` and a range.
+#[cycle(expression)]
+#[tactic(auto, unfolding(crate::specs::Expressions::negated_range, crate::specs::Expressions::range, crate::specs::Expressions::between))]
+fn negated_range<'t, A: Heap>(
+    reader: Reader<A>,
+    tokens: &'t [Token<'t>],
+) -> Parsed<'t, (u32, Range<A>)>
+    ensures { Parses (λ t. (t.0, range_of t.1)) rules.negated_range reader tokens.now result }
+{
+    let (word, rest) = expect(TokenKind::Not, tokens)?;
+    if sees(TokenKind::Between, rest) {
+        let (range, rest) = between(reader, rest)?;
+        Ok(((word.offset, range), rest))
+    } else {
+        let (range, rest) = in_list(reader, rest)?;
+        Ok(((word.offset, range), rest))
+    }
+}
+
+// A range behind its operand, if there is one, and where a NOT before it stands.
+#[cycle(expression)]
+#[tactic(auto, unfolding(crate::specs::Expressions::range_tail, crate::specs::Expressions::negated_range, crate::specs::Expressions::between, crate::specs::Expressions::in_list))]
+fn range_tail<'t, A: Heap>(
+    reader: Reader<A>,
+    tokens: &'t [Token<'t>],
+) -> Parsed<'t, Option<(Option<u32>, Range<A>)>>
+    ensures { Parses (λ t. option_map (λ r. signed_of r) t) rules.range_tail reader tokens.now result }
+{
+    if sees(TokenKind::Not, tokens) {
+        let ((not, range), rest) = negated_range(reader, tokens)?;
+        Ok((Some((Some(not), range)), rest))
+    } else if sees(TokenKind::Between, tokens) {
+        let (range, rest) = between(reader, tokens)?;
+        Ok((Some((None, range)), rest))
+    } else if sees(TokenKind::In, tokens) {
+        let (range, rest) = in_list(reader, tokens)?;
+        Ok((Some((None, range)), rest))
+    } else {
+        Ok((None, tokens))
+    }
+}
+
+// `sum [[NOT] BETWEEN sum AND sum | [NOT] IN (..)]`.
+#[cycle(expression)]
+#[tactic(auto, unfolding(crate::specs::Expressions::ranged_sum))]
+fn ranged_sum<'t, A: Heap>(reader: Reader<A>, tokens: &'t [Token<'t>]) -> Parsed<'t, Located<A>>
+    ensures { Parses (λ t. located t) rules.ranged_sum reader tokens.now result }
+{
+    let (operand, rest) = sum(reader, tokens)?;
+    let ((operand, range), rest) = before(operand, range_tail(reader, rest))?;
+    Ok((ranged(reader.alloc, operand, range)?, rest))
+}
+
+// A comparison, of which there is at most one.
+#[cycle(expression)]
+#[tactic(auto, unfolding(crate::specs::Expressions::comparison, crate::specs::Expressions::compared_with, crate::specs::Expressions::comparison_sign, crate::specs::Language::of))]
+fn comparison<'t, A: Heap>(reader: Reader<A>, tokens: &'t [Token<'t>]) -> Parsed<'t, Located<A>>
+    ensures { Parses (λ t. located t) rules.comparison reader tokens.now result }
+{
+    let (left, rest) = ranged_sum(reader, tokens)?;
+    if !sees_any(Class::Comparison, rest) {
+        return Ok((left, rest));
+    }
+    let ((left, sign), rest) = before(left, comparison_sign(reader, rest))?;
+    let ((left, right), rest) = before(left, ranged_sum(reader, rest))?;
+    Ok((compared(reader.alloc, left, sign, right)?, rest))
+}
+
+// `IS [NOT] NULL`, and whether with NOT.
+#[tactic(auto, unfolding(crate::specs::Expressions::is_null, crate::specs::Expressions::null_word))]
+fn is_null<'t, A: Heap>(reader: Reader<A>, tokens: &'t [Token<'t>]) -> Parsed<'t, (u32, bool)>
+    ensures { Parses (λ t. t) rules.is_null reader tokens.now result }
+{
+    let (word, rest) = expect(TokenKind::Is, tokens)?;
+    if sees(TokenKind::Not, rest) {
+        let (_, rest) = expect(TokenKind::Not, rest)?;
+        let (_, rest) = expect(TokenKind::Null, rest)?;
+        Ok(((word.offset, true), rest))
+    } else {
+        let (_, rest) = expect(TokenKind::Null, rest)?;
+        Ok(((word.offset, false), rest))
+    }
+}
+
+// `comparison [IS [NOT] NULL]`.
+#[cycle(expression)]
+#[tactic(auto, unfolding(crate::specs::Expressions::null_test, crate::specs::Expressions::is_null))]
+fn null_test<'t, A: Heap>(reader: Reader<A>, tokens: &'t [Token<'t>]) -> Parsed<'t, Located<A>>
+    ensures { Parses (λ t. located t) rules.null_test reader tokens.now result }
+{
+    let ((start, left), rest) = comparison(reader, tokens)?;
+    if !sees(TokenKind::Is, rest) {
+        return Ok(((start, left), rest));
+    }
+    let ((left, (offset, negated)), rest) = before(left, is_null(reader, rest))?;
+    let left = Box::new(reader.alloc, left)?;
+    Ok(((start, Expr::IsNull(negated, offset, left)), rest))
+}
+
+// `NOT negation | null test`.
+#[cycle(expression)]
+#[tactic(auto, unfolding(crate::specs::Expressions::negation))]
+fn negation<'t, A: Heap>(reader: Reader<A>, tokens: &'t [Token<'t>]) -> Parsed<'t, Located<A>>
+    ensures { Parses (λ t. located t) rules.negation reader tokens.now result }
+{
+    if sees(TokenKind::Not, tokens) {
+        let (word, rest) = open(TokenKind::Not, reader.depth_limit, tokens)?;
+        let ((_, inner), rest) = inner_negation(reader, rest)?;
+        let inner = Box::new(reader.alloc, inner)?;
+        Ok(((word.offset, Expr::Not(word.offset, inner)), rest))
+    } else {
+        null_test(reader, tokens)
+    }
+}
+
+// `AND negation`.
+#[cycle(expression)]
+#[tactic(auto, unfolding(crate::specs::Expressions::and_operand))]
+fn and_operand<'t, A: Heap>(
+    reader: Reader<A>,
+    tokens: &'t [Token<'t>],
+) -> Parsed<'t, (Token<'t>, Located<A>)>
+    ensures { Parses (λ t. (word_of t.0, located t.1)) rules.and_operand reader tokens.now result }
+{
+    let (word, rest) = expect(TokenKind::And, tokens)?;
+    let (operand, rest) = negation(reader, rest)?;
+    Ok(((word, operand), rest))
+}
+
+// `negation {AND negation}`; a member that is itself an AND is merged.
+#[cycle(expression)]
+fn conjunction<'t, A: Heap>(reader: Reader<A>, tokens: &'t [Token<'t>]) -> Parsed<'t, Located<A>>
+    ensures { Parses (λ t. located t) rules.conjunction reader tokens.now result }
+{
+    let ((start, first), mut rest) = negation(reader, tokens)?;
+    if !sees(TokenKind::And, rest) {
+        return Ok(((start, first), rest));
+    }
+    let offset = next_offset(rest);
+    let mut members = and_members(reader.alloc, first)?;
+    for _ in 0..reader.run_limit {
+        if !sees(TokenKind::And, rest) {
+            return Ok(((start, Expr::And(offset, members)), rest));
+        }
+        let ((_, (_, next)), after) = and_operand(reader, rest)?;
+        let mut more = and_members(reader.alloc, next)?;
+        members.append(&mut more)?;
+        rest = after;
+    }
+    if sees(TokenKind::And, rest) {
+        return Err(Failure::Fault(ReadError::Limit { left: rest.len() }));
+    }
+    Ok(((start, Expr::And(offset, members)), rest))
+}
+
+// `OR conjunction`.
+#[cycle(expression)]
+#[tactic(auto, unfolding(crate::specs::Expressions::or_operand))]
+fn or_operand<'t, A: Heap>(
+    reader: Reader<A>,
+    tokens: &'t [Token<'t>],
+) -> Parsed<'t, (Token<'t>, Located<A>)>
+    ensures { Parses (λ t. (word_of t.0, located t.1)) rules.or_operand reader tokens.now result }
+{
+    let (word, rest) = expect(TokenKind::Or, tokens)?;
+    let (operand, rest) = conjunction(reader, rest)?;
+    Ok(((word, operand), rest))
+}
+
+/// An expression: `conjunction {OR conjunction}`; a member that is itself an OR is merged.
+#[cycle(expression)]
+pub fn expression<'t, A: Heap>(reader: Reader<A>, tokens: &'t [Token<'t>]) -> Parsed<'t, Located<A>>
+    ensures { Parses (λ t. located t) rules.expression reader tokens.now result }
+{
+    let ((start, first), mut rest) = conjunction(reader, tokens)?;
+    if !sees(TokenKind::Or, rest) {
+        return Ok(((start, first), rest));
+    }
+    let offset = next_offset(rest);
+    let mut members = or_members(reader.alloc, first)?;
+    for _ in 0..reader.run_limit {
+        if !sees(TokenKind::Or, rest) {
+            return Ok(((start, Expr::Or(offset, members)), rest));
+        }
+        let ((_, (_, next)), after) = or_operand(reader, rest)?;
+        let mut more = or_members(reader.alloc, next)?;
+        members.append(&mut more)?;
+        rest = after;
+    }
+    if sees(TokenKind::Or, rest) {
+        return Err(Failure::Fault(ReadError::Limit { left: rest.len() }));
+    }
+    Ok(((start, Expr::Or(offset, members)), rest))
+}

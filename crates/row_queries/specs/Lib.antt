@@ -1,0 +1,3 @@
+pub mod Queries
+pub mod Limits
+pub mod View

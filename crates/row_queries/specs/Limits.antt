@@ -1,0 +1,66 @@
+-- How large a query may be.
+use Rattle.std.specs.Prelude.{ℕ, ◌+◌, Bool, ◌&&◌, nat_le, List, length, map, Option, Some, None}
+use Rattle.std.specs.List.{sum}
+use Rattle.row_ast.specs.Ast.{and_members, Condition, SelectList, every_column, items, Join, inner_join, cross_join, FromItem, Query}
+
+-- how many entries FROM may have
+abbrev pub most_entries : ℕ
+most_entries = 8
+
+-- how many conjuncts ON and WHERE may have together
+abbrev pub most_conjuncts : ℕ
+most_conjuncts = 64
+
+-- how many items SELECT may have
+abbrev pub most_items : ℕ
+most_items = 64
+
+-- how many columns GROUP BY may have
+abbrev pub most_groups : ℕ
+most_groups = 64
+
+-- how many sort_keys ORDER BY may have
+abbrev pub most_keys : ℕ
+most_keys = 64
+
+-- the entries of FROM
+abbrev pub entries : List FromItem → ℕ
+entries chains = sum (map (λ c. 1 + length c.joins) chains)
+
+-- the conjuncts of a condition: the members of an AND, or itself
+abbrev pub members : Condition → ℕ
+members c = length (and_members c.holds)
+
+abbrev pub join_members : Join → ℕ
+join_members (inner_join e on_) = members on_
+join_members (cross_join e) = 0
+
+abbrev pub filter_members : Option Condition → ℕ
+filter_members None = 0
+filter_members (Some c) = members c
+
+-- the conjuncts of all ON conditions
+abbrev pub from_members : List FromItem → ℕ
+from_members chains = sum (map (λ c. sum (map join_members c.joins)) chains)
+
+-- those of ON and WHERE together
+abbrev pub conjuncts : Query → ℕ
+conjuncts q = from_members q.from + filter_members q.filter
+
+abbrev pub item_count : SelectList → ℕ
+item_count (every_column at) = 0
+item_count (items list) = length list
+
+-- FROM and the conditions
+abbrev pub within_joined : Query → Bool
+within_joined q = nat_le (entries q.from) most_entries && nat_le (conjuncts q) most_conjuncts
+
+abbrev pub within_lists : Query → Bool
+within_lists q = nat_le (length q.group_by) most_groups && nat_le (length q.order_by) most_keys
+
+-- the items, and the columns of GROUP BY and ORDER BY
+abbrev pub within_columns : Query → Bool
+within_columns q = nat_le (item_count q.select_list) most_items && within_lists q
+
+abbrev pub is_small : Query → Bool
+is_small q = within_joined q && within_columns q

@@ -1,0 +1,127 @@
+-- The grammar of queries: a definition for each rule.
+use Rattle.std.specs.Prelude.{ℕ, Bool, true, false, List, [], Option, Some}
+use Rattle.row_grammar.specs.Grammar.{word, nothing, both, either, made, many}
+use Rattle.row_tokens.specs.declared.token.TokenKind.TheVariants as k
+use Rattle.row_tokens.specs.Words.{Word}
+use Rattle.row_ast.specs.Ast.{Name, ColumnRef, Condition, SelectItem, SelectList, every_column, items as items_of, TableRef, Join, inner_join, cross_join, FromItem, SortTarget, heading, place, SortKey, Query}
+use Rattle.row_reader.specs.Language.{Rule, is, of, maybe, after, listed, name_of}
+use Rattle.row_reader.specs.Expressions.{name, columns, expression}
+use Rattle.row_reader.specs.declared.reader.Class.TheVariants as c
+
+-- ---- trees
+
+abbrev pub table_ref_of : Word → Option Name → TableRef
+table_ref_of w alias = record { table = name_of w; alias = alias; at = w.at }
+
+-- what follows FROM
+pub record Clauses : Type 0 where
+  pub filter : Option Condition
+  pub group_by : List ColumnRef
+  pub having : Option Condition
+  pub order_by : List SortKey
+  pub limit : Option ℕ
+
+abbrev pub question : SelectList → List FromItem → Clauses → Query
+question s chains rest = record { select_list = s; from = chains; filter = rest.filter; group_by = rest.group_by; having = rest.having; order_by = rest.order_by; limit = rest.limit }
+
+-- ---- items
+
+unfoldable pub condition : Rule Condition
+condition = made (λ p. record { at = p.0; holds = p.1 }) expression
+
+-- [AS name]
+unfoldable pub select_alias : Rule (Option Name)
+select_alias = maybe (after (is k.As) name)
+
+-- select_item := expr [AS name]
+unfoldable pub select_item : Rule SelectItem
+select_item = made (λ p. record { value = p.0.1; alias = p.1 }) (both expression select_alias)
+
+unfoldable pub next_select_item : Rule SelectItem
+next_select_item = after (is k.Comma) select_item
+
+unfoldable pub select_items : Rule (List SelectItem)
+select_items = listed select_item next_select_item
+
+-- items := * | select_item {, select_item}
+unfoldable pub select_list : Rule SelectList
+select_list = either (made (λ w. every_column w.at) (word (is k.Star))) (made items_of select_items)
+
+-- ---- FROM
+
+-- [[AS] name]
+unfoldable pub table_alias : Rule (Option Name)
+table_alias = either (made Some (after (is k.As) name)) (maybe name)
+
+-- table_ref := name [[AS] name]
+unfoldable pub table_ref : Rule TableRef
+table_ref = made (λ p. table_ref_of p.0 p.1) (both (word (of c.Name)) table_alias)
+
+-- JOIN table_ref ON expr
+unfoldable pub plain_join : Rule Join
+plain_join = made (λ p. inner_join p.0 p.1) (after (is k.Join) (both table_ref (after (is k.On) condition)))
+
+-- CROSS JOIN table_ref | [INNER] JOIN table_ref ON expr
+unfoldable pub join : Rule Join
+join = either (made cross_join (after (is k.Cross) (after (is k.Join) table_ref))) (either (after (is k.Inner) plain_join) plain_join)
+
+unfoldable pub join_list : Rule (List Join)
+join_list = many false join
+
+-- from_item := table_ref { [INNER] JOIN table_ref ON expr | CROSS JOIN table_ref }
+unfoldable pub from_item : Rule FromItem
+from_item = made (λ p. record { first = p.0; joins = p.1 }) (both table_ref join_list)
+
+unfoldable pub next_from_item : Rule FromItem
+next_from_item = after (is k.Comma) from_item
+
+-- from := from_item {, from_item}
+unfoldable pub from : Rule (List FromItem)
+from = listed from_item next_from_item
+
+-- ---- the clauses after it
+
+unfoldable pub filter : Rule (Option Condition)
+filter = maybe (after (is k.Where) condition)
+
+-- [GROUP BY col {, col}]
+unfoldable pub group_by : Rule (List ColumnRef)
+group_by = either (after (is k.Group) (after (is k.By) columns)) (nothing [])
+
+unfoldable pub having : Rule (Option Condition)
+having = maybe (after (is k.Having) condition)
+
+-- name | number
+unfoldable pub sort_target : Rule (ℕ × SortTarget)
+sort_target = either (made (λ w. (w.at, place w.number)) (word (is k.Number))) (made (λ w. (w.at, heading (name_of w))) (word (of c.Name)))
+
+-- [ASC | DESC]
+unfoldable pub direction : Rule Bool
+direction = either (made (λ w. true) (word (is k.Desc))) (either (made (λ w. false) (word (is k.Asc))) (nothing false))
+
+-- sort_key := (name | number) [ASC | DESC]
+unfoldable pub sort_key : Rule SortKey
+sort_key = made (λ p. record { sort_target = p.0.1; descending = p.1; at = p.0.0 }) (both sort_target direction)
+
+unfoldable pub next_sort_key : Rule SortKey
+next_sort_key = after (is k.Comma) sort_key
+
+unfoldable pub sort_keys : Rule (List SortKey)
+sort_keys = listed sort_key next_sort_key
+
+-- [ORDER BY sort_key {, sort_key}]
+unfoldable pub order_by : Rule (List SortKey)
+order_by = either (after (is k.Order) (after (is k.By) sort_keys)) (nothing [])
+
+-- [LIMIT number]
+unfoldable pub limit : Rule (Option ℕ)
+limit = maybe (made (λ w. w.number) (after (is k.Limit) (word (is k.Number))))
+
+-- [WHERE expr] [GROUP BY col {, col}] [HAVING expr] [ORDER BY sort_key {, sort_key}] [LIMIT number]
+unfoldable pub clauses : Rule Clauses
+clauses = made (λ p. record { filter = p.0; group_by = p.1.0; having = p.1.1.0; order_by = p.1.1.1.0; limit = p.1.1.1.1 })
+    (both filter (both group_by (both having (both order_by limit))))
+
+-- query := SELECT items FROM from clauses
+unfoldable pub query : Rule Query
+query = made (λ p. question p.0 p.1.0 p.1.1) (after (is k.Select) (both select_list (after (is k.From) (both from clauses))))

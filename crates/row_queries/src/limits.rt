@@ -1,0 +1,148 @@
+//! How large a query may be.
+
+ghost use Rattle.std.specs.Prelude.{◌≡◌, ◌≤◌, ◌-◌, nat_le, length, map, option_map, SomeIff};
+ghost use Rattle.std.specs.List.{sum};
+ghost use Rattle.row_queries.specs.Limits as sizes;
+ghost use Rattle.row_queries.specs.Limits.{entries, join_members, filter_members, from_members, conjuncts, item_count, within_joined, within_lists, within_columns, most_entries, most_conjuncts, most_items};
+ghost use Rattle.row_ast.specs.Ast as tree;
+ghost use Rattle.row_ast.specs.View.{expr_of, condition_of, select_list_of, join_of, from_item_of, query_of};
+
+use crate::tree::{FromItem, Condition, Expr, Join, Query, SelectList};
+use memory::Heap;
+
+// How many entries FROM may have.
+const MOST_ENTRIES: usize = 8;
+
+// How many conjuncts ON and WHERE may have together.
+const MOST_CONJUNCTS: usize = 64;
+
+// How many items SELECT may have.
+const MOST_ITEMS: usize = 64;
+
+// How many columns GROUP BY may have.
+const MOST_GROUPS: usize = 64;
+
+// How many sort_keys ORDER BY may have.
+const MOST_KEYS: usize = 64;
+
+// How many conjuncts an expression is.
+fn members<A: Heap>(expr: &Expr<A>) -> usize
+    ensures { result ≡ length (tree.and_members (expr_of expr.now)) }
+{
+    match expr {
+        Expr::And(_, members) => members.len(),
+        Expr::Column(_)
+        | Expr::Literal(_)
+        | Expr::CurrentUser
+        | Expr::Opposite(..)
+        | Expr::Arithmetic(..)
+        | Expr::Comparison(..)
+        | Expr::Between(..)
+        | Expr::In(..)
+        | Expr::IsNull(..)
+        | Expr::Not(..)
+        | Expr::Or(..)
+        | Expr::Cast(..)
+        | Expr::Case(..)
+        | Expr::CountRows(_)
+        | Expr::Call(..) => 1,
+    }
+}
+
+fn join_members<A: Heap>(join: &Join<A>) -> usize
+    ensures { result ≡ join_members (join_of join.now) }
+{
+    match join {
+        Join::Inner(_, condition) => members(&condition.holds),
+        Join::Cross(_) => 0,
+    }
+}
+
+fn filter_members<A: Heap>(filter: &Option<Condition<A>>) -> usize
+    ensures { result ≡ filter_members (option_map (λ c. condition_of c) filter.now) }
+{
+    match filter {
+        Some(condition) => members(&condition.holds),
+        None => 0,
+    }
+}
+
+// How many of so many conjuncts are left after those of joins; none where they are more.
+fn left_by_joins<A: Heap>(joins: &[Join<A>], room: usize) -> Option<usize>
+    ensures { SomeIff result (sum (map join_members (map (λ j. join_of j) joins.now)) ≤ room) (room - sum (map join_members (map (λ j. join_of j) joins.now))) }
+{
+    let mut left = room;
+    for join in joins {
+        left = left.checked_sub(join_members(join))?;
+    }
+    Some(left)
+}
+
+// The same after those of all joins of FROM.
+fn left_by_chains<A: Heap>(chains: &[FromItem<A>], room: usize) -> Option<usize>
+    ensures { SomeIff result (from_members (map (λ c. from_item_of c) chains.now) ≤ room) (room - from_members (map (λ c. from_item_of c) chains.now)) }
+{
+    let mut left = room;
+    for from_item in chains {
+        left = left_by_joins(from_item.joins.as_slice(), left)?;
+    }
+    Some(left)
+}
+
+fn within_entries<A: Heap>(chains: &[FromItem<A>]) -> bool
+    ensures { result ≡ nat_le (entries (map (λ c. from_item_of c) chains.now)) most_entries }
+{
+    let mut left = MOST_ENTRIES;
+    for from_item in chains {
+        let joins = from_item.joins.len();
+        if joins >= left {
+            return false;
+        }
+        left -= 1 + joins;
+    }
+    true
+}
+
+fn within_conjuncts<A: Heap>(query: &Query<A>) -> bool
+    ensures { result ≡ nat_le (conjuncts (query_of query.now)) most_conjuncts }
+{
+    match left_by_chains(query.from.as_slice(), MOST_CONJUNCTS) {
+        Some(left) => filter_members(&query.filter) <= left,
+        None => false,
+    }
+}
+
+fn within_items<A: Heap>(select_list: &SelectList<A>) -> bool
+    ensures { result ≡ nat_le (item_count (select_list_of select_list.now)) most_items }
+{
+    match select_list {
+        SelectList::Items(items) => items.len() <= MOST_ITEMS,
+        SelectList::All(_) => true,
+    }
+}
+
+fn within_joined<A: Heap>(query: &Query<A>) -> bool
+    ensures { result ≡ within_joined (query_of query.now) }
+{
+    within_entries(query.from.as_slice()) && within_conjuncts(query)
+}
+
+fn within_lists<A: Heap>(query: &Query<A>) -> bool
+    ensures { result ≡ within_lists (query_of query.now) }
+{
+    query.group_by.len() <= MOST_GROUPS && query.order_by.len() <= MOST_KEYS
+}
+
+fn within_columns<A: Heap>(query: &Query<A>) -> bool
+    ensures { result ≡ within_columns (query_of query.now) }
+{
+    within_items(&query.select_list) && within_lists(query)
+}
+
+/// Whether a query is within the limits: at most 8 entries of FROM, 64 conjuncts of ON and WHERE together, 64 items,
+/// 64 columns of GROUP BY and 64 sort_keys of ORDER BY.
+pub fn is_small<A: Heap>(query: &Query<A>) -> bool
+    ensures { result ≡ sizes.is_small (query_of query.now) }
+{
+    within_joined(query) && within_columns(query)
+}

@@ -1,0 +1,491 @@
+//! Queries, from tokens.
+
+ghost use Rattle.std.specs.Prelude.{◌≡◌, map, option_map};
+ghost use Rattle.row_grammar.specs.Decoder.{head_in, first};
+ghost use Rattle.row_grammar.specs.Grammar.{both};
+ghost use Rattle.row_grammar.specs.Limits.{reads};
+ghost use Rattle.row_tokens.specs.View.{words_of};
+ghost use Rattle.row_reader.specs.Expressions.{grammar, nested_first};
+ghost use Rattle.row_reader.specs.Language.{language, kind_of};
+ghost use Rattle.row_queries.specs.Queries as rules;
+ghost use Rattle.row_reader.specs.Reading.{Parses};
+ghost use Rattle.row_ast.specs.View.{column_ref_of, condition_of, select_item_of, select_list_of, table_ref_of, join_of, from_item_of, sort_target_of, sort_key_of, query_of};
+ghost use Rattle.row_queries.specs.View.{clauses_of};
+
+use crate::expressions::expression;
+use crate::names::{columns, name};
+use crate::reader::{Class, Parsed, Reader, before, expect, expect_any, sees, sees_any};
+use crate::tree::{FromItem, ColumnRef, Condition, TableRef, SelectItem, Join, SortKey, Query, SelectList, SortTarget};
+use memory::Heap;
+use row_tokens::{Token, TokenKind, folded};
+use text::{Items, Text};
+
+// What follows FROM.
+#[derive(Drop)]
+struct Following<A: Heap> {
+    filter: Option<Condition<A>>,
+    group_by: Items<ColumnRef<A>, A>,
+    having: Option<Condition<A>>,
+    order_by: Items<SortKey<A>, A>,
+    limit: Option<u64>,
+}
+
+// An expression and where it begins.
+#[tactic(auto, unfolding(crate::specs::Queries::condition))]
+fn condition<'t, A: Heap>(reader: Reader<A>, tokens: &'t [Token<'t>]) -> Parsed<'t, Condition<A>>
+    ensures { Parses (λ t. condition_of t) rules.condition reader tokens.now result }
+{
+    let ((offset, holds), rest) = expression(reader, tokens)?;
+    Ok((Condition { holds, offset }, rest))
+}
+
+// `[AS name]`.
+#[tactic(auto, unfolding(crate::specs::Queries::select_alias))]
+fn select_alias<'t, A: Heap>(
+    reader: Reader<A>,
+    tokens: &'t [Token<'t>],
+) -> Parsed<'t, Option<Text<A>>>
+    ensures { Parses (λ t. t) rules.select_alias reader tokens.now result }
+{
+    if !sees(TokenKind::As, tokens) {
+        return Ok((None, tokens));
+    }
+    let (_, rest) = expect(TokenKind::As, tokens)?;
+    let (name, rest) = name(reader, rest)?;
+    Ok((Some(name), rest))
+}
+
+// `expression [AS name]`.
+#[tactic(auto, unfolding(crate::specs::Queries::select_item))]
+fn select_item<'t, A: Heap>(reader: Reader<A>, tokens: &'t [Token<'t>]) -> Parsed<'t, SelectItem<A>>
+    ensures { Parses (λ t. select_item_of t) rules.select_item reader tokens.now result }
+{
+    let ((_, value), rest) = expression(reader, tokens)?;
+    let ((value, alias), rest) = before(value, select_alias(reader, rest))?;
+    Ok((SelectItem { value, alias }, rest))
+}
+
+// `, select_item`.
+#[tactic(auto, unfolding(crate::specs::Queries::next_select_item))]
+fn next_select_item<'t, A: Heap>(reader: Reader<A>, tokens: &'t [Token<'t>]) -> Parsed<'t, SelectItem<A>>
+    ensures { Parses (λ t. select_item_of t) rules.next_select_item reader tokens.now result }
+{
+    let (_, rest) = expect(TokenKind::Comma, tokens)?;
+    select_item(reader, rest)
+}
+
+// `select_item {, select_item}`.
+fn select_items<'t, A: Heap>(
+    reader: Reader<A>,
+    tokens: &'t [Token<'t>],
+) -> Parsed<'t, Items<SelectItem<A>, A>>
+    ensures { Parses (λ t. map (λ i. select_item_of i) t) rules.select_items reader tokens.now result }
+{
+    let (first, mut rest) = select_item(reader, tokens)?;
+    let mut all = Items::new(reader.alloc);
+    all.push(first)?;
+    let most = rest.len();
+    for _ in 0..most {
+        if !sees(TokenKind::Comma, rest) {
+            return Ok((all, rest));
+        }
+        let (next, after) = next_select_item(reader, rest)?;
+        all.push(next)?;
+        rest = after;
+    }
+    Ok((all, rest))
+}
+
+// `*` or items.
+#[tactic(auto, unfolding(crate::specs::Queries::select_list))]
+fn select_list<'t, A: Heap>(reader: Reader<A>, tokens: &'t [Token<'t>]) -> Parsed<'t, SelectList<A>>
+    ensures { Parses (λ t. select_list_of t) rules.select_list reader tokens.now result }
+{
+    if sees(TokenKind::Star, tokens) {
+        let (word, rest) = expect(TokenKind::Star, tokens)?;
+        Ok((SelectList::All(word.offset), rest))
+    } else {
+        let (items, rest) = select_items(reader, tokens)?;
+        Ok((SelectList::Items(items), rest))
+    }
+}
+
+// `[[AS] name]`.
+#[tactic(auto, unfolding(crate::specs::Queries::table_alias, crate::specs::Expressions::name))]
+fn table_alias<'t, A: Heap>(
+    reader: Reader<A>,
+    tokens: &'t [Token<'t>],
+) -> Parsed<'t, Option<Text<A>>>
+    ensures { Parses (λ t. t) rules.table_alias reader tokens.now result }
+{
+    if sees(TokenKind::As, tokens) {
+        let (_, rest) = expect(TokenKind::As, tokens)?;
+        let (name, rest) = name(reader, rest)?;
+        Ok((Some(name), rest))
+    } else if sees_any(Class::Name, tokens) {
+        let (name, rest) = name(reader, tokens)?;
+        Ok((Some(name), rest))
+    } else {
+        Ok((None, tokens))
+    }
+}
+
+// `name [[AS] name]`.
+#[tactic(auto, unfolding(crate::specs::Queries::table_ref))]
+fn table_ref<'t, A: Heap>(reader: Reader<A>, tokens: &'t [Token<'t>]) -> Parsed<'t, TableRef<A>>
+    ensures { Parses (λ t. table_ref_of t) rules.table_ref reader tokens.now result }
+{
+    let (word, rest) = expect_any(Class::Name, tokens)?;
+    let (alias, rest) = table_alias(reader, rest)?;
+    let table = folded(reader.alloc, word.text)?;
+    let offset = word.offset;
+    Ok((
+        TableRef {
+            table,
+            alias,
+            offset,
+        },
+        rest,
+    ))
+}
+
+// `JOIN table_ref ON expression`.
+#[tactic(auto, unfolding(crate::specs::Queries::plain_join))]
+fn plain_join<'t, A: Heap>(reader: Reader<A>, tokens: &'t [Token<'t>]) -> Parsed<'t, Join<A>>
+    ensures { Parses (λ t. join_of t) rules.plain_join reader tokens.now result }
+{
+    let (_, rest) = expect(TokenKind::Join, tokens)?;
+    let (table_ref, rest) = table_ref(reader, rest)?;
+    let ((table_ref, _), rest) = before(table_ref, expect(TokenKind::On, rest))?;
+    let ((table_ref, condition), rest) = before(table_ref, condition(reader, rest))?;
+    Ok((Join::Inner(table_ref, condition), rest))
+}
+
+// `CROSS JOIN table_ref` or `[INNER] JOIN table_ref ON expression`.
+#[tactic(auto, unfolding(crate::specs::Queries::join))]
+fn join<'t, A: Heap>(reader: Reader<A>, tokens: &'t [Token<'t>]) -> Parsed<'t, Join<A>>
+    ensures { Parses (λ t. join_of t) rules.join reader tokens.now result }
+{
+    if sees(TokenKind::Cross, tokens) {
+        let (_, rest) = expect(TokenKind::Cross, tokens)?;
+        let (_, rest) = expect(TokenKind::Join, rest)?;
+        let (table_ref, rest) = table_ref(reader, rest)?;
+        Ok((Join::Cross(table_ref), rest))
+    } else if sees(TokenKind::Inner, tokens) {
+        let (_, rest) = expect(TokenKind::Inner, tokens)?;
+        plain_join(reader, rest)
+    } else {
+        plain_join(reader, tokens)
+    }
+}
+
+// Whether a join comes next.
+#[tactic(auto, unfolding(crate::specs::Queries::join, crate::specs::Queries::plain_join))]
+fn sees_join(tokens: &[Token<'_>]) -> bool
+    ensures { result ≡ head_in kind_of (first language nested_first rules.join) (words_of tokens.now) }
+{
+    sees(TokenKind::Cross, tokens) || sees(TokenKind::Inner, tokens) || sees(TokenKind::Join, tokens)
+}
+
+// `{join}`.
+fn join_list<'t, A: Heap>(
+    reader: Reader<A>,
+    tokens: &'t [Token<'t>],
+) -> Parsed<'t, Items<Join<A>, A>>
+    ensures { Parses (λ t. map (λ j. join_of j) t) rules.join_list reader tokens.now result }
+{
+    let mut all = Items::new(reader.alloc);
+    let (_, mut rest) = tokens.split_at(0);
+    let most = rest.len();
+    for _ in 0..most {
+        if !sees_join(rest) {
+            return Ok((all, rest));
+        }
+        let (next, after) = join(reader, rest)?;
+        all.push(next)?;
+        rest = after;
+    }
+    Ok((all, rest))
+}
+
+// `table_ref {join}`.
+#[tactic(auto, unfolding(crate::specs::Queries::from_item))]
+fn from_item<'t, A: Heap>(reader: Reader<A>, tokens: &'t [Token<'t>]) -> Parsed<'t, FromItem<A>>
+    ensures { Parses (λ t. from_item_of t) rules.from_item reader tokens.now result }
+{
+    let (first, rest) = table_ref(reader, tokens)?;
+    let (joins, rest) = join_list(reader, rest)?;
+    Ok((FromItem { first, joins }, rest))
+}
+
+// `, from_item`.
+#[tactic(auto, unfolding(crate::specs::Queries::next_from_item))]
+fn next_from_item<'t, A: Heap>(reader: Reader<A>, tokens: &'t [Token<'t>]) -> Parsed<'t, FromItem<A>>
+    ensures { Parses (λ t. from_item_of t) rules.next_from_item reader tokens.now result }
+{
+    let (_, rest) = expect(TokenKind::Comma, tokens)?;
+    from_item(reader, rest)
+}
+
+// `from_item {, from_item}`.
+fn from<'t, A: Heap>(reader: Reader<A>, tokens: &'t [Token<'t>]) -> Parsed<'t, Items<FromItem<A>, A>>
+    ensures { Parses (λ t. map (λ c. from_item_of c) t) rules.from reader tokens.now result }
+{
+    let (first, mut rest) = from_item(reader, tokens)?;
+    let mut all = Items::new(reader.alloc);
+    all.push(first)?;
+    let most = rest.len();
+    for _ in 0..most {
+        if !sees(TokenKind::Comma, rest) {
+            return Ok((all, rest));
+        }
+        let (next, after) = next_from_item(reader, rest)?;
+        all.push(next)?;
+        rest = after;
+    }
+    Ok((all, rest))
+}
+
+// `[WHERE expression]`.
+#[tactic(auto, unfolding(crate::specs::Queries::filter))]
+fn filter<'t, A: Heap>(
+    reader: Reader<A>,
+    tokens: &'t [Token<'t>],
+) -> Parsed<'t, Option<Condition<A>>>
+    ensures { Parses (λ t. option_map (λ c. condition_of c) t) rules.filter reader tokens.now result }
+{
+    if !sees(TokenKind::Where, tokens) {
+        return Ok((None, tokens));
+    }
+    let (_, rest) = expect(TokenKind::Where, tokens)?;
+    let (condition, rest) = condition(reader, rest)?;
+    Ok((Some(condition), rest))
+}
+
+// `[GROUP BY columns]`.
+#[tactic(auto, unfolding(crate::specs::Queries::group_by))]
+fn group_by<'t, A: Heap>(
+    reader: Reader<A>,
+    tokens: &'t [Token<'t>],
+) -> Parsed<'t, Items<ColumnRef<A>, A>>
+    ensures { Parses (λ t. map (λ c. column_ref_of c) t) rules.group_by reader tokens.now result }
+{
+    if sees(TokenKind::Group, tokens) {
+        let (_, rest) = expect(TokenKind::Group, tokens)?;
+        let (_, rest) = expect(TokenKind::By, rest)?;
+        columns(reader, rest)
+    } else {
+        Ok((Items::new(reader.alloc), tokens))
+    }
+}
+
+// `[HAVING expression]`.
+#[tactic(auto, unfolding(crate::specs::Queries::having))]
+fn having<'t, A: Heap>(
+    reader: Reader<A>,
+    tokens: &'t [Token<'t>],
+) -> Parsed<'t, Option<Condition<A>>>
+    ensures { Parses (λ t. option_map (λ c. condition_of c) t) rules.having reader tokens.now result }
+{
+    if !sees(TokenKind::Having, tokens) {
+        return Ok((None, tokens));
+    }
+    let (_, rest) = expect(TokenKind::Having, tokens)?;
+    let (condition, rest) = condition(reader, rest)?;
+    Ok((Some(condition), rest))
+}
+
+// A heading or a number, and where it stands.
+#[tactic(auto, unfolding(crate::specs::Queries::sort_target))]
+fn sort_target<'t, A: Heap>(reader: Reader<A>, tokens: &'t [Token<'t>]) -> Parsed<'t, (u32, SortTarget<A>)>
+    ensures { Parses (λ t. (t.0, sort_target_of t.1)) rules.sort_target reader tokens.now result }
+{
+    if sees(TokenKind::Number, tokens) {
+        let (word, rest) = expect(TokenKind::Number, tokens)?;
+        Ok(((word.offset, SortTarget::Place(word.number)), rest))
+    } else {
+        let (word, rest) = expect_any(Class::Name, tokens)?;
+        let heading = folded(reader.alloc, word.text)?;
+        Ok(((word.offset, SortTarget::Heading(heading)), rest))
+    }
+}
+
+// `[ASC | DESC]`: whether `DESC`.
+#[tactic(auto, unfolding(crate::specs::Queries::direction))]
+fn direction<'t, A: Heap>(reader: Reader<A>, tokens: &'t [Token<'t>]) -> Parsed<'t, bool>
+    ensures { Parses (λ t. t) rules.direction reader tokens.now result }
+{
+    if sees(TokenKind::Desc, tokens) {
+        let (_, rest) = expect(TokenKind::Desc, tokens)?;
+        Ok((true, rest))
+    } else if sees(TokenKind::Asc, tokens) {
+        let (_, rest) = expect(TokenKind::Asc, tokens)?;
+        Ok((false, rest))
+    } else {
+        Ok((false, tokens))
+    }
+}
+
+// `sort_target [ASC | DESC]`.
+#[tactic(auto, unfolding(crate::specs::Queries::sort_key))]
+fn sort_key<'t, A: Heap>(reader: Reader<A>, tokens: &'t [Token<'t>]) -> Parsed<'t, SortKey<A>>
+    ensures { Parses (λ t. sort_key_of t) rules.sort_key reader tokens.now result }
+{
+    let ((offset, sort_target), rest) = sort_target(reader, tokens)?;
+    let (descending, rest) = direction(reader, rest)?;
+    Ok((
+        SortKey {
+            sort_target,
+            descending,
+            offset,
+        },
+        rest,
+    ))
+}
+
+// `, sort_key`.
+#[tactic(auto, unfolding(crate::specs::Queries::next_sort_key))]
+fn next_sort_key<'t, A: Heap>(reader: Reader<A>, tokens: &'t [Token<'t>]) -> Parsed<'t, SortKey<A>>
+    ensures { Parses (λ t. sort_key_of t) rules.next_sort_key reader tokens.now result }
+{
+    let (_, rest) = expect(TokenKind::Comma, tokens)?;
+    sort_key(reader, rest)
+}
+
+// `sort_key {, sort_key}`.
+fn sort_keys<'t, A: Heap>(reader: Reader<A>, tokens: &'t [Token<'t>]) -> Parsed<'t, Items<SortKey<A>, A>>
+    ensures { Parses (λ t. map (λ k. sort_key_of k) t) rules.sort_keys reader tokens.now result }
+{
+    let (first, mut rest) = sort_key(reader, tokens)?;
+    let mut all = Items::new(reader.alloc);
+    all.push(first)?;
+    let most = rest.len();
+    for _ in 0..most {
+        if !sees(TokenKind::Comma, rest) {
+            return Ok((all, rest));
+        }
+        let (next, after) = next_sort_key(reader, rest)?;
+        all.push(next)?;
+        rest = after;
+    }
+    Ok((all, rest))
+}
+
+// `[ORDER BY sort_keys]`.
+#[tactic(auto, unfolding(crate::specs::Queries::order_by))]
+fn order_by<'t, A: Heap>(reader: Reader<A>, tokens: &'t [Token<'t>]) -> Parsed<'t, Items<SortKey<A>, A>>
+    ensures { Parses (λ t. map (λ k. sort_key_of k) t) rules.order_by reader tokens.now result }
+{
+    if sees(TokenKind::Order, tokens) {
+        let (_, rest) = expect(TokenKind::Order, tokens)?;
+        let (_, rest) = expect(TokenKind::By, rest)?;
+        sort_keys(reader, rest)
+    } else {
+        Ok((Items::new(reader.alloc), tokens))
+    }
+}
+
+// `[LIMIT number]`.
+#[tactic(auto, unfolding(crate::specs::Queries::limit))]
+fn limit<'t, A: Heap>(reader: Reader<A>, tokens: &'t [Token<'t>]) -> Parsed<'t, Option<u64>>
+    ensures { Parses (λ t. t) rules.limit reader tokens.now result }
+{
+    if !sees(TokenKind::Limit, tokens) {
+        return Ok((None, tokens));
+    }
+    let (_, rest) = expect(TokenKind::Limit, tokens)?;
+    let (word, rest) = expect(TokenKind::Number, rest)?;
+    Ok((Some(word.number), rest))
+}
+
+// `[ORDER BY sort_keys] [LIMIT number]`.
+fn ordered<'t, A: Heap>(
+    reader: Reader<A>,
+    tokens: &'t [Token<'t>],
+) -> Parsed<'t, (Items<SortKey<A>, A>, Option<u64>)>
+    ensures { Parses (λ t. (map (λ k. sort_key_of k) t.0, t.1)) (both rules.order_by rules.limit) reader tokens.now result }
+{
+    let (order_by, rest) = order_by(reader, tokens)?;
+    let (limit, rest) = limit(reader, rest)?;
+    Ok(((order_by, limit), rest))
+}
+
+// `[HAVING expression]` and what may follow.
+fn from_having<'t, A: Heap>(
+    reader: Reader<A>,
+    tokens: &'t [Token<'t>],
+) -> Parsed<'t, (Option<Condition<A>>, (Items<SortKey<A>, A>, Option<u64>))>
+    ensures { Parses (λ t. (option_map (λ c. condition_of c) t.0, (map (λ k. sort_key_of k) t.1.0, t.1.1))) (both rules.having (both rules.order_by rules.limit)) reader tokens.now result }
+{
+    let (having, rest) = having(reader, tokens)?;
+    let ((order_by, limit), rest) = ordered(reader, rest)?;
+    Ok(((having, (order_by, limit)), rest))
+}
+
+// `[GROUP BY columns]` and what may follow.
+fn from_group_by<'t, A: Heap>(
+    reader: Reader<A>,
+    tokens: &'t [Token<'t>],
+) -> Parsed<
+    't,
+    (
+        Items<ColumnRef<A>, A>,
+        (Option<Condition<A>>, (Items<SortKey<A>, A>, Option<u64>)),
+    ),
+>
+    ensures { Parses (λ t. (map (λ c. column_ref_of c) t.0, (option_map (λ c. condition_of c) t.1.0, (map (λ k. sort_key_of k) t.1.1.0, t.1.1.1)))) (both rules.group_by (both rules.having (both rules.order_by rules.limit))) reader tokens.now result }
+{
+    let (group_by, rest) = group_by(reader, tokens)?;
+    let ((having, (order_by, limit)), rest) = from_having(reader, rest)?;
+    Ok(((group_by, (having, (order_by, limit))), rest))
+}
+
+// What may follow FROM.
+#[tactic(auto, unfolding(crate::specs::Queries::clauses))]
+fn clauses<'t, A: Heap>(reader: Reader<A>, tokens: &'t [Token<'t>]) -> Parsed<'t, Following<A>>
+    ensures { Parses (λ t. clauses_of t) rules.clauses reader tokens.now result }
+{
+    let (filter, rest) = filter(reader, tokens)?;
+    let ((group_by, (having, (order_by, limit))), rest) = from_group_by(reader, rest)?;
+    let following = Following {
+        filter,
+        group_by,
+        having,
+        order_by,
+        limit,
+    };
+    Ok((following, rest))
+}
+
+// The chains of FROM and what follows.
+fn chains<'t, A: Heap>(
+    reader: Reader<A>,
+    tokens: &'t [Token<'t>],
+) -> Parsed<'t, (Items<FromItem<A>, A>, Following<A>)>
+    ensures { Parses (λ t. (map (λ c. from_item_of c) t.0, clauses_of t.1)) (both rules.from rules.clauses) reader tokens.now result }
+{
+    let (chains, rest) = from(reader, tokens)?;
+    let (following, rest) = clauses(reader, rest)?;
+    Ok(((chains, following), rest))
+}
+
+/// `SELECT items FROM chains` and what may follow.
+#[tactic(auto, unfolding(crate::specs::Queries::query))]
+pub fn query<'t, A: Heap>(reader: Reader<A>, tokens: &'t [Token<'t>]) -> Parsed<'t, Query<A>>
+    ensures { Parses (λ t. query_of t) rules.query reader tokens.now result }
+{
+    let (_, rest) = expect(TokenKind::Select, tokens)?;
+    let (select_list, rest) = select_list(reader, rest)?;
+    let (_, rest) = expect(TokenKind::From, rest)?;
+    let ((from, following), rest) = chains(reader, rest)?;
+    let query = Query {
+        select_list,
+        from,
+        filter: following.filter,
+        group_by: following.group_by,
+        having: following.having,
+        order_by: following.order_by,
+        limit: following.limit,
+    };
+    Ok((query, rest))
+}

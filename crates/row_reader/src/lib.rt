@@ -1,0 +1,7 @@
+//! Reading one token ahead: the kinds of tokens, names, literals and operators. Its specs have the grammar of expressions.
+#![tactic(auto)]
+
+pub mod literals;
+pub mod names;
+pub mod operators;
+pub mod reader;

@@ -1,0 +1,132 @@
+//! Literals, from tokens.
+
+ghost use Rattle.std.specs.Prelude.{◌≡◌, pos, neg_ℤ, map};
+ghost use Rattle.row_grammar.specs.Limits.{reads};
+ghost use Rattle.row_tokens.specs.View.{words_of};
+ghost use Rattle.row_reader.specs.Expressions as rules;
+ghost use Rattle.row_reader.specs.Expressions.{grammar, number_of};
+ghost use Rattle.row_reader.specs.Reading.{Parses};
+ghost use Rattle.value.specs.Datum.{int, datum};
+
+use crate::reader::{Class, Parsed, Reader, expect, expect_any, sees, sees_any};
+use memory::Heap;
+use row_tokens::{Token, TokenKind, unquoted};
+use text::Items;
+use value::Value;
+
+// The number; no token is a greater one.
+fn positive(number: u64) -> i64
+    ensures { int result ≡ number_of (pos number) }
+{
+    i64::try_from(number).unwrap_or(0)
+}
+
+// The number behind a minus; no token is a greater one.
+fn negative(number: u64) -> i64
+    ensures { int result ≡ number_of (neg_ℤ (pos number)) }
+{
+    0i64.checked_sub_unsigned(number).unwrap_or(0)
+}
+
+// `TRUE`, `FALSE` or `NULL`.
+#[tactic(auto, unfolding(crate::specs::Expressions::word_literal))]
+fn word_literal<'t, A: Heap>(
+    reader: Reader<A>,
+    tokens: &'t [Token<'t>],
+) -> Parsed<'t, (u32, Value<A>)>
+    ensures { Parses (λ t. (t.0, datum t.1)) rules.word_literal reader tokens.now result }
+{
+    if sees(TokenKind::True, tokens) {
+        let (word, rest) = expect(TokenKind::True, tokens)?;
+        Ok(((word.offset, Value::Bool(true)), rest))
+    } else if sees(TokenKind::False, tokens) {
+        let (word, rest) = expect(TokenKind::False, tokens)?;
+        Ok(((word.offset, Value::Bool(false)), rest))
+    } else {
+        let (word, rest) = expect(TokenKind::Null, tokens)?;
+        Ok(((word.offset, Value::Null), rest))
+    }
+}
+
+// A number, a text in quotes, or one of these words, and where it begins.
+#[tactic(auto, unfolding(crate::specs::Expressions::unsigned_literal))]
+fn unsigned_literal<'t, A: Heap>(
+    reader: Reader<A>,
+    tokens: &'t [Token<'t>],
+) -> Parsed<'t, (u32, Value<A>)>
+    ensures { Parses (λ t. (t.0, datum t.1)) rules.unsigned_literal reader tokens.now result }
+{
+    if sees(TokenKind::Number, tokens) {
+        let (word, rest) = expect(TokenKind::Number, tokens)?;
+        Ok(((word.offset, Value::Int(positive(word.number))), rest))
+    } else if sees(TokenKind::Quoted, tokens) {
+        let (word, rest) = expect(TokenKind::Quoted, tokens)?;
+        let value = Value::Text(unquoted(reader.alloc, word.text)?);
+        Ok(((word.offset, value), rest))
+    } else {
+        word_literal(reader, tokens)
+    }
+}
+
+/// A literal in an expression, and where it begins.
+#[tactic(auto, unfolding(crate::specs::Expressions::literal))]
+pub fn literal<'t, A: Heap>(
+    reader: Reader<A>,
+    tokens: &'t [Token<'t>],
+) -> Parsed<'t, (u32, Value<A>)>
+    ensures { Parses (λ t. (t.0, datum t.1)) rules.literal reader tokens.now result }
+{
+    if sees(TokenKind::SignedMinus, tokens) {
+        let (sign, rest) = expect(TokenKind::SignedMinus, tokens)?;
+        let (word, rest) = expect_any(Class::Magnitude, rest)?;
+        Ok(((sign.offset, Value::Int(negative(word.number))), rest))
+    } else {
+        unsigned_literal(reader, tokens)
+    }
+}
+
+// A literal in a list of literals.
+#[tactic(auto, unfolding(crate::specs::Expressions::value))]
+fn value<'t, A: Heap>(reader: Reader<A>, tokens: &'t [Token<'t>]) -> Parsed<'t, Value<A>>
+    ensures { Parses (λ t. datum t) rules.value reader tokens.now result }
+{
+    if sees_any(Class::Sign, tokens) {
+        let (_, rest) = expect_any(Class::Sign, tokens)?;
+        let (word, rest) = expect_any(Class::Magnitude, rest)?;
+        Ok((Value::Int(negative(word.number)), rest))
+    } else {
+        let ((_, value), rest) = unsigned_literal(reader, tokens)?;
+        Ok((value, rest))
+    }
+}
+
+// `, literal`.
+#[tactic(auto, unfolding(crate::specs::Expressions::next_value))]
+fn next_value<'t, A: Heap>(reader: Reader<A>, tokens: &'t [Token<'t>]) -> Parsed<'t, Value<A>>
+    ensures { Parses (λ t. datum t) rules.next_value reader tokens.now result }
+{
+    let (_, rest) = expect(TokenKind::Comma, tokens)?;
+    value(reader, rest)
+}
+
+/// `literal {, literal}`.
+pub fn value_list<'t, A: Heap>(
+    reader: Reader<A>,
+    tokens: &'t [Token<'t>],
+) -> Parsed<'t, Items<Value<A>, A>>
+    ensures { Parses (λ t. map (λ v. datum v) t) rules.value_list reader tokens.now result }
+{
+    let (first, mut rest) = value(reader, tokens)?;
+    let mut all = Items::new(reader.alloc);
+    all.push(first)?;
+    let most = rest.len();
+    for _ in 0..most {
+        if !sees(TokenKind::Comma, rest) {
+            return Ok((all, rest));
+        }
+        let (next, after) = next_value(reader, rest)?;
+        all.push(next)?;
+        rest = after;
+    }
+    Ok((all, rest))
+}

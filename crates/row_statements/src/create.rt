@@ -1,0 +1,269 @@
+//! What CREATE makes, from tokens.
+
+ghost use Rattle.std.specs.Prelude.{◌≡◌, map, option_map};
+ghost use Rattle.row_grammar.specs.Limits.{reads};
+ghost use Rattle.row_tokens.specs.View.{word_of, words_of};
+ghost use Rattle.row_reader.specs.Expressions.{grammar};
+ghost use Rattle.row_reader.specs.Reading.{Parses};
+ghost use Rattle.row_statements.specs.Schemas as rules;
+ghost use Rattle.row_ast.specs.View.{statement_of};
+ghost use Rattle.value.specs.Columns.{column_of};
+ghost use Rattle.row_expressions.specs.View.{located};
+
+use crate::expressions::inner_expression;
+use crate::names::{name, names, type_name};
+use crate::build::Located;
+use crate::reader::{Parsed, Reader, before, expect, open, sees};
+use crate::tree::{Column, CreatePolicy, Statement};
+use memory::Heap;
+use row_tokens::{Token, TokenKind};
+use text::{Items, Text};
+use value::ColType;
+
+// `[SUPERUSER]`.
+#[tactic(auto, unfolding(crate::specs::Statements::superuser))]
+fn superuser<'t, A: Heap>(reader: Reader<A>, tokens: &'t [Token<'t>]) -> Parsed<'t, bool>
+    ensures { Parses (λ t. t) rules.superuser reader tokens.now result }
+{
+    if !sees(TokenKind::Superuser, tokens) {
+        return Ok((false, tokens));
+    }
+    let (_, rest) = expect(TokenKind::Superuser, tokens)?;
+    Ok((true, rest))
+}
+
+// `[BYPASSRLS]`.
+#[tactic(auto, unfolding(crate::specs::Statements::bypass_rls))]
+fn bypass_rls<'t, A: Heap>(reader: Reader<A>, tokens: &'t [Token<'t>]) -> Parsed<'t, bool>
+    ensures { Parses (λ t. t) rules.bypass_rls reader tokens.now result }
+{
+    if !sees(TokenKind::Bypassrls, tokens) {
+        return Ok((false, tokens));
+    }
+    let (_, rest) = expect(TokenKind::Bypassrls, tokens)?;
+    Ok((true, rest))
+}
+
+// `ROLE name [SUPERUSER] [BYPASSRLS]`.
+#[tactic(auto, unfolding(crate::specs::Statements::new_role))]
+fn new_role<'t, A: Heap>(reader: Reader<A>, tokens: &'t [Token<'t>]) -> Parsed<'t, Statement<A>>
+    ensures { Parses (λ t. statement_of t) rules.new_role reader tokens.now result }
+{
+    let (_, rest) = expect(TokenKind::Role, tokens)?;
+    let (role, rest) = name(reader, rest)?;
+    let (superuser, rest) = superuser(reader, rest)?;
+    let (bypass_rls, rest) = bypass_rls(reader, rest)?;
+    Ok((Statement::CreateRole(role, superuser, bypass_rls), rest))
+}
+
+// `bigint`, `text` or `boolean`.
+#[tactic(auto, unfolding(crate::specs::Statements::column_type))]
+fn column_type<'t, A: Heap>(reader: Reader<A>, tokens: &'t [Token<'t>]) -> Parsed<'t, ColType>
+    ensures { Parses (λ t. t) rules.column_type reader tokens.now result }
+{
+    if sees(TokenKind::Boolean, tokens) {
+        let (_, rest) = expect(TokenKind::Boolean, tokens)?;
+        Ok((ColType::Boolean, rest))
+    } else {
+        type_name(reader, tokens)
+    }
+}
+
+// `[NOT NULL]`.
+#[tactic(auto, unfolding(crate::specs::Statements::not_null))]
+fn not_null<'t, A: Heap>(reader: Reader<A>, tokens: &'t [Token<'t>]) -> Parsed<'t, bool>
+    ensures { Parses (λ t. t) rules.not_null reader tokens.now result }
+{
+    if !sees(TokenKind::Not, tokens) {
+        return Ok((false, tokens));
+    }
+    let (_, rest) = expect(TokenKind::Not, tokens)?;
+    let (_, rest) = expect(TokenKind::Null, rest)?;
+    Ok((true, rest))
+}
+
+// `name type [NOT NULL]`.
+#[tactic(auto, unfolding(crate::specs::Statements::column_def))]
+fn column_def<'t, A: Heap>(reader: Reader<A>, tokens: &'t [Token<'t>]) -> Parsed<'t, Column<A>>
+    ensures { Parses (λ t. column_of t) rules.column_def reader tokens.now result }
+{
+    let (name, rest) = name(reader, tokens)?;
+    let (kind, rest) = column_type(reader, rest)?;
+    let (not_null, rest) = not_null(reader, rest)?;
+    Ok((
+        Column {
+            name,
+            kind,
+            not_null,
+        },
+        rest,
+    ))
+}
+
+// `, name type [NOT NULL]`.
+#[tactic(auto, unfolding(crate::specs::Statements::next_column_def))]
+fn next_column_def<'t, A: Heap>(
+    reader: Reader<A>,
+    tokens: &'t [Token<'t>],
+) -> Parsed<'t, Column<A>>
+    ensures { Parses (λ t. column_of t) rules.next_column_def reader tokens.now result }
+{
+    let (_, rest) = expect(TokenKind::Comma, tokens)?;
+    column_def(reader, rest)
+}
+
+// `name type [NOT NULL] {, name type [NOT NULL]}`.
+fn column_defs<'t, A: Heap>(
+    reader: Reader<A>,
+    tokens: &'t [Token<'t>],
+) -> Parsed<'t, Items<Column<A>, A>>
+    ensures { Parses (λ t. map (λ c. column_of c) t) rules.column_defs reader tokens.now result }
+{
+    let (first, mut rest) = column_def(reader, tokens)?;
+    let mut all = Items::new(reader.alloc);
+    all.push(first)?;
+    let most = rest.len();
+    for _ in 0..most {
+        if !sees(TokenKind::Comma, rest) {
+            return Ok((all, rest));
+        }
+        let (next, after) = next_column_def(reader, rest)?;
+        all.push(next)?;
+        rest = after;
+    }
+    Ok((all, rest))
+}
+
+// `TABLE name ( columns )`.
+#[tactic(auto, unfolding(crate::specs::Statements::new_table))]
+fn new_table<'t, A: Heap>(reader: Reader<A>, tokens: &'t [Token<'t>]) -> Parsed<'t, Statement<A>>
+    ensures { Parses (λ t. statement_of t) rules.new_table reader tokens.now result }
+{
+    let (_, rest) = expect(TokenKind::Table, tokens)?;
+    let (table, rest) = name(reader, rest)?;
+    let (_, rest) = expect(TokenKind::Open, rest)?;
+    let (columns, rest) = column_defs(reader, rest)?;
+    let (_, rest) = expect(TokenKind::Close, rest)?;
+    Ok((Statement::CreateTable(table, columns), rest))
+}
+
+// `INDEX name ON table ( column )`.
+#[tactic(auto, unfolding(crate::specs::Statements::new_index))]
+fn new_index<'t, A: Heap>(reader: Reader<A>, tokens: &'t [Token<'t>]) -> Parsed<'t, Statement<A>>
+    ensures { Parses (λ t. statement_of t) rules.new_index reader tokens.now result }
+{
+    let (_, rest) = expect(TokenKind::Index, tokens)?;
+    let (index, rest) = name(reader, rest)?;
+    let (_, rest) = expect(TokenKind::On, rest)?;
+    let (table, rest) = name(reader, rest)?;
+    let (_, rest) = expect(TokenKind::Open, rest)?;
+    let (column, rest) = name(reader, rest)?;
+    let (_, rest) = expect(TokenKind::Close, rest)?;
+    Ok((Statement::CreateIndex(index, table, column), rest))
+}
+
+// `[AS PERMISSIVE | AS RESTRICTIVE]`; whether restrictive.
+#[tactic(auto, unfolding(crate::specs::Statements::strength))]
+fn strength<'t, A: Heap>(reader: Reader<A>, tokens: &'t [Token<'t>]) -> Parsed<'t, bool>
+    ensures { Parses (λ t. t) rules.strength reader tokens.now result }
+{
+    if !sees(TokenKind::As, tokens) {
+        return Ok((false, tokens));
+    }
+    let (_, rest) = expect(TokenKind::As, tokens)?;
+    if sees(TokenKind::Restrictive, rest) {
+        let (_, rest) = expect(TokenKind::Restrictive, rest)?;
+        Ok((true, rest))
+    } else {
+        let (_, rest) = expect(TokenKind::Permissive, rest)?;
+        Ok((false, rest))
+    }
+}
+
+// `[FOR ALL | FOR SELECT]`.
+#[tactic(auto, unfolding(crate::specs::Statements::command))]
+fn command<'t, A: Heap>(reader: Reader<A>, tokens: &'t [Token<'t>]) -> Parsed<'t, Option<Token<'t>>>
+    ensures { Parses (λ t. option_map (λ w. word_of w) t) rules.command reader tokens.now result }
+{
+    if !sees(TokenKind::For, tokens) {
+        return Ok((None, tokens));
+    }
+    let (_, rest) = expect(TokenKind::For, tokens)?;
+    if sees(TokenKind::All, rest) {
+        let (word, rest) = expect(TokenKind::All, rest)?;
+        Ok((Some(word), rest))
+    } else {
+        let (word, rest) = expect(TokenKind::Select, rest)?;
+        Ok((Some(word), rest))
+    }
+}
+
+// `[TO names]`, and everyone where no roles are named.
+#[tactic(auto, unfolding(crate::specs::Statements::policy_roles))]
+fn policy_roles<'t, A: Heap>(
+    reader: Reader<A>,
+    tokens: &'t [Token<'t>],
+) -> Parsed<'t, Items<Text<A>, A>>
+    ensures { Parses (λ t. t) rules.policy_roles reader tokens.now result }
+{
+    if sees(TokenKind::To, tokens) {
+        let (_, rest) = expect(TokenKind::To, tokens)?;
+        names(reader, rest)
+    } else {
+        let mut roles = Items::new(reader.alloc);
+        roles.push(Text::new(reader.alloc, "public")?)?;
+        Ok((roles, tokens))
+    }
+}
+
+// `USING ( condition )`.
+#[tactic(auto, unfolding(crate::specs::Statements::using))]
+fn using<'t, A: Heap>(reader: Reader<A>, tokens: &'t [Token<'t>]) -> Parsed<'t, Located<A>>
+    ensures { Parses (λ t. located t) rules.using reader tokens.now result }
+{
+    let (_, rest) = expect(TokenKind::Using, tokens)?;
+    let (_, rest) = open(TokenKind::Open, reader.depth_limit, rest)?;
+    let (condition, rest) = inner_expression(reader, rest)?;
+    let ((condition, _), rest) = before(condition, expect(TokenKind::Close, rest))?;
+    Ok((condition, rest))
+}
+
+// `POLICY name ON table [AS ..] [FOR ..] [TO roles] USING ( condition )`.
+#[tactic(auto, unfolding(crate::specs::Statements::new_policy))]
+fn new_policy<'t, A: Heap>(reader: Reader<A>, tokens: &'t [Token<'t>]) -> Parsed<'t, Statement<A>>
+    ensures { Parses (λ t. statement_of t) rules.new_policy reader tokens.now result }
+{
+    let (_, rest) = expect(TokenKind::Policy, tokens)?;
+    let (policy, rest) = name(reader, rest)?;
+    let (_, rest) = expect(TokenKind::On, rest)?;
+    let (table, rest) = name(reader, rest)?;
+    let (restrictive, rest) = strength(reader, rest)?;
+    let (_, rest) = command(reader, rest)?;
+    let (roles, rest) = policy_roles(reader, rest)?;
+    let ((_, holds), rest) = using(reader, rest)?;
+    let policy = CreatePolicy {
+        name: policy,
+        table,
+        restrictive,
+        roles,
+        holds,
+    };
+    Ok((Statement::CreatePolicy(policy), rest))
+}
+
+/// `CREATE` and a role, a table, an index or a policy.
+#[tactic(auto, unfolding(crate::specs::Statements::create, crate::specs::Statements::new_role, crate::specs::Statements::new_table, crate::specs::Statements::new_index))]
+pub fn create<'t, A: Heap>(reader: Reader<A>, tokens: &'t [Token<'t>]) -> Parsed<'t, Statement<A>>
+    ensures { Parses (λ t. statement_of t) rules.create reader tokens.now result }
+{
+    let (_, rest) = expect(TokenKind::Create, tokens)?;
+    if sees(TokenKind::Role, rest) {
+        new_role(reader, rest)
+    } else if sees(TokenKind::Table, rest) {
+        new_table(reader, rest)
+    } else if sees(TokenKind::Index, rest) {
+        new_index(reader, rest)
+    } else {
+        new_policy(reader, rest)
+    }
+}

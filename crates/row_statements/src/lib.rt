@@ -1,0 +1,7 @@
+//! Schema statements, from tokens.
+#![tactic(auto)]
+
+mod create;
+mod statements;
+
+pub use statements::{schema, statement};

@@ -1,0 +1,242 @@
+//! Schema statements, from tokens.
+
+ghost use Rattle.std.specs.Prelude.{◌≡◌, map};
+ghost use Rattle.row_grammar.specs.Decoder.{head_in, first};
+ghost use Rattle.row_grammar.specs.Limits.{reads};
+ghost use Rattle.row_tokens.specs.View.{words_of};
+ghost use Rattle.row_reader.specs.Expressions.{grammar, nested_first};
+ghost use Rattle.row_reader.specs.Language.{language, kind_of};
+ghost use Rattle.row_reader.specs.Reading.{Parses};
+ghost use Rattle.row_statements.specs.Schemas as rules;
+ghost use Rattle.row_ast.specs.View.{statement_of};
+
+use crate::create::create;
+use crate::names::{name, names};
+use crate::reader::{Parsed, Reader, before, expect, sees};
+use crate::tree::{Grant, RowSecurity, Statement};
+use memory::Heap;
+use row_tokens::{Token, TokenKind};
+use text::{Items, Text};
+
+// `OWNER TO name`.
+#[tactic(auto, unfolding(crate::specs::Statements::owner))]
+fn owner<'t, A: Heap>(reader: Reader<A>, tokens: &'t [Token<'t>]) -> Parsed<'t, Text<A>>
+    ensures { Parses (λ t. t) rules.owner reader tokens.now result }
+{
+    let (_, rest) = expect(TokenKind::Owner, tokens)?;
+    let (_, rest) = expect(TokenKind::To, rest)?;
+    name(reader, rest)
+}
+
+// `ENABLE`, `DISABLE`, `FORCE` or `NO FORCE`.
+#[tactic(auto, unfolding(crate::specs::Statements::security_setting))]
+fn security_setting<'t, A: Heap>(
+    reader: Reader<A>,
+    tokens: &'t [Token<'t>],
+) -> Parsed<'t, RowSecurity>
+    ensures { Parses (λ t. t) rules.security_setting reader tokens.now result }
+{
+    if sees(TokenKind::Enable, tokens) {
+        let (_, rest) = expect(TokenKind::Enable, tokens)?;
+        Ok((RowSecurity::Enable, rest))
+    } else if sees(TokenKind::Disable, tokens) {
+        let (_, rest) = expect(TokenKind::Disable, tokens)?;
+        Ok((RowSecurity::Disable, rest))
+    } else if sees(TokenKind::Force, tokens) {
+        let (_, rest) = expect(TokenKind::Force, tokens)?;
+        Ok((RowSecurity::Force, rest))
+    } else {
+        let (_, rest) = expect(TokenKind::No, tokens)?;
+        let (_, rest) = expect(TokenKind::Force, rest)?;
+        Ok((RowSecurity::NoForce, rest))
+    }
+}
+
+// A setting and `ROW LEVEL SECURITY`.
+#[tactic(auto, unfolding(crate::specs::Statements::security))]
+fn security<'t, A: Heap>(reader: Reader<A>, tokens: &'t [Token<'t>]) -> Parsed<'t, RowSecurity>
+    ensures { Parses (λ t. t) rules.security reader tokens.now result }
+{
+    let (setting, rest) = security_setting(reader, tokens)?;
+    let (_, rest) = expect(TokenKind::Row, rest)?;
+    let (_, rest) = expect(TokenKind::Level, rest)?;
+    let (_, rest) = expect(TokenKind::Security, rest)?;
+    Ok((setting, rest))
+}
+
+// `ALTER TABLE name` and a new owner, or row security.
+#[tactic(auto, unfolding(crate::specs::Statements::alter, crate::specs::Statements::owner))]
+fn alter<'t, A: Heap>(reader: Reader<A>, tokens: &'t [Token<'t>]) -> Parsed<'t, Statement<A>>
+    ensures { Parses (λ t. statement_of t) rules.alter reader tokens.now result }
+{
+    let (_, rest) = expect(TokenKind::Alter, tokens)?;
+    let (_, rest) = expect(TokenKind::Table, rest)?;
+    let (table, rest) = name(reader, rest)?;
+    if sees(TokenKind::Owner, rest) {
+        let (owner, rest) = owner(reader, rest)?;
+        Ok((Statement::SetOwner(table, owner), rest))
+    } else {
+        let (setting, rest) = security(reader, rest)?;
+        Ok((Statement::SetRowSecurity(table, setting), rest))
+    }
+}
+
+// `[( columns )]`.
+#[tactic(auto, unfolding(crate::specs::Statements::grant_columns))]
+fn grant_columns<'t, A: Heap>(
+    reader: Reader<A>,
+    tokens: &'t [Token<'t>],
+) -> Parsed<'t, Option<Items<Text<A>, A>>>
+    ensures { Parses (λ t. t) rules.grant_columns reader tokens.now result }
+{
+    if !sees(TokenKind::Open, tokens) {
+        return Ok((None, tokens));
+    }
+    let (_, rest) = expect(TokenKind::Open, tokens)?;
+    let (columns, rest) = names(reader, rest)?;
+    let (_, rest) = expect(TokenKind::Close, rest)?;
+    Ok((Some(columns), rest))
+}
+
+// `SELECT [( columns )] ON name`.
+#[tactic(auto, unfolding(crate::specs::Statements::granted))]
+fn granted<'t, A: Heap>(
+    reader: Reader<A>,
+    tokens: &'t [Token<'t>],
+) -> Parsed<'t, (Option<Items<Text<A>, A>>, Text<A>)>
+    ensures { Parses (λ t. t) rules.granted reader tokens.now result }
+{
+    let (_, rest) = expect(TokenKind::Select, tokens)?;
+    let (columns, rest) = grant_columns(reader, rest)?;
+    let (_, rest) = expect(TokenKind::On, rest)?;
+    let (table, rest) = name(reader, rest)?;
+    Ok(((columns, table), rest))
+}
+
+// `GRANT SELECT .. TO roles`, or `GRANT group TO member`.
+#[tactic(auto, unfolding(crate::specs::Statements::grant, crate::specs::Statements::granted))]
+fn grant<'t, A: Heap>(reader: Reader<A>, tokens: &'t [Token<'t>]) -> Parsed<'t, Statement<A>>
+    ensures { Parses (λ t. statement_of t) rules.grant reader tokens.now result }
+{
+    let (_, rest) = expect(TokenKind::Grant, tokens)?;
+    if sees(TokenKind::Select, rest) {
+        let ((columns, table), rest) = granted(reader, rest)?;
+        let (_, rest) = expect(TokenKind::To, rest)?;
+        let (roles, rest) = names(reader, rest)?;
+        let grant = Grant {
+            columns,
+            table,
+            roles,
+        };
+        Ok((Statement::GrantSelect(grant), rest))
+    } else {
+        let (group, rest) = name(reader, rest)?;
+        let (_, rest) = expect(TokenKind::To, rest)?;
+        let (member, rest) = name(reader, rest)?;
+        Ok((Statement::GrantRole(group, member), rest))
+    }
+}
+
+// `REVOKE SELECT .. FROM roles`, or `REVOKE group FROM member`.
+#[tactic(auto, unfolding(crate::specs::Statements::revoke, crate::specs::Statements::granted))]
+fn revoke<'t, A: Heap>(reader: Reader<A>, tokens: &'t [Token<'t>]) -> Parsed<'t, Statement<A>>
+    ensures { Parses (λ t. statement_of t) rules.revoke reader tokens.now result }
+{
+    let (_, rest) = expect(TokenKind::Revoke, tokens)?;
+    if sees(TokenKind::Select, rest) {
+        let ((columns, table), rest) = granted(reader, rest)?;
+        let (_, rest) = expect(TokenKind::From, rest)?;
+        let (roles, rest) = names(reader, rest)?;
+        let grant = Grant {
+            columns,
+            table,
+            roles,
+        };
+        Ok((Statement::RevokeSelect(grant), rest))
+    } else {
+        let (group, rest) = name(reader, rest)?;
+        let (_, rest) = expect(TokenKind::From, rest)?;
+        let (member, rest) = name(reader, rest)?;
+        Ok((Statement::RevokeRole(group, member), rest))
+    }
+}
+
+// `DROP POLICY name ON table`.
+#[tactic(auto, unfolding(crate::specs::Statements::drop))]
+fn drop_policy<'t, A: Heap>(reader: Reader<A>, tokens: &'t [Token<'t>]) -> Parsed<'t, Statement<A>>
+    ensures { Parses (λ t. statement_of t) rules.drop reader tokens.now result }
+{
+    let (_, rest) = expect(TokenKind::Drop, tokens)?;
+    let (_, rest) = expect(TokenKind::Policy, rest)?;
+    let (policy, rest) = name(reader, rest)?;
+    let (_, rest) = expect(TokenKind::On, rest)?;
+    let (table, rest) = name(reader, rest)?;
+    Ok((Statement::DropPolicy(policy, table), rest))
+}
+
+/// One of these statements.
+#[tactic(auto, unfolding(crate::specs::Statements::statement, crate::specs::Statements::create, crate::specs::Statements::alter, crate::specs::Statements::grant, crate::specs::Statements::revoke))]
+pub fn statement<'t, A: Heap>(
+    reader: Reader<A>,
+    tokens: &'t [Token<'t>],
+) -> Parsed<'t, Statement<A>>
+    ensures { Parses (λ t. statement_of t) rules.statement reader tokens.now result }
+{
+    if sees(TokenKind::Create, tokens) {
+        create(reader, tokens)
+    } else if sees(TokenKind::Alter, tokens) {
+        alter(reader, tokens)
+    } else if sees(TokenKind::Grant, tokens) {
+        grant(reader, tokens)
+    } else if sees(TokenKind::Revoke, tokens) {
+        revoke(reader, tokens)
+    } else {
+        drop_policy(reader, tokens)
+    }
+}
+
+// `statement ;`.
+#[tactic(auto, unfolding(crate::specs::Statements::ended_statement))]
+fn ended_statement<'t, A: Heap>(
+    reader: Reader<A>,
+    tokens: &'t [Token<'t>],
+) -> Parsed<'t, Statement<A>>
+    ensures { Parses (λ t. statement_of t) rules.ended_statement reader tokens.now result }
+{
+    let (statement, rest) = statement(reader, tokens)?;
+    let ((statement, _), rest) = before(statement, expect(TokenKind::Semicolon, rest))?;
+    Ok((statement, rest))
+}
+
+// Whether a statement comes next.
+#[tactic(auto, unfolding(crate::specs::Statements::ended_statement, crate::specs::Statements::statement, crate::specs::Statements::create, crate::specs::Statements::alter, crate::specs::Statements::grant, crate::specs::Statements::revoke, crate::specs::Statements::drop))]
+fn sees_statement(tokens: &[Token<'_>]) -> bool
+    ensures { result ≡ head_in kind_of (first language nested_first rules.ended_statement) (words_of tokens.now) }
+{
+    sees(TokenKind::Create, tokens)
+        || sees(TokenKind::Alter, tokens)
+        || sees(TokenKind::Grant, tokens)
+        || sees(TokenKind::Revoke, tokens)
+        || sees(TokenKind::Drop, tokens)
+}
+
+/// `{statement ;}`.
+pub fn schema<'t, A: Heap>(
+    reader: Reader<A>,
+    tokens: &'t [Token<'t>],
+) -> Parsed<'t, Items<Statement<A>, A>>
+    ensures { Parses (λ t. map (λ s. statement_of s) t) rules.schema reader tokens.now result }
+{
+    let mut all = Items::new(reader.alloc);
+    let (_, mut rest) = tokens.split_at(0);
+    let most = rest.len();
+    for _ in 0..most {
+        if !sees_statement(rest) {
+            return Ok((all, rest));
+        }
+        let (next, after) = ended_statement(reader, rest)?;
+        all.push(next)?;
+        rest = after;
+    }
+    Ok((all, rest))
+}
