@@ -1,32 +1,39 @@
-//! Expressions, made of their build.
+//! Expressions, built of their parts.
 
 ghost use Rattle.std.specs.Prelude.{◌≡◌, ◌∷◌, [], Some, map, option_map, IfOk};
 ghost use Rattle.row_tokens.specs.View.{word_of};
 ghost use Rattle.row_reader.specs.Expressions as rules;
 ghost use Rattle.row_reader.specs.Reading.{kept};
-ghost use Rattle.row_ast.specs.Ast as tree;
+ghost use Rattle.row_ast.specs.Ast as ast;
 ghost use Rattle.row_ast.specs.Ast.{arms_of};
 ghost use Rattle.row_ast.specs.View.{expr_of, arm_pair};
 ghost use Rattle.row_expressions.specs.View.{located, signed_of, suffix_of, otherwise_of};
 
-use crate::names::column_ref;
-use crate::tree::{Arithmetic, Arm, Comparison, Expr, Aggregate};
 use memory::Heap;
+use row_ast::{Arm, Expr};
+use row_reader::names::column_ref;
 use row_tokens::Token;
 use std::alloc::AllocError;
 use text::{Items, Text};
-use value::Value;
+use value::{Aggregate, Arithmetic, Comparison, Value};
 
-/// An expression, and where its first token begins.
+/// An expression, and where its first token starts.
 pub type Located<A> = (u32, Expr<A>);
 
 /// What follows in BETWEEN or IN.
 #[derive(Drop)]
 pub enum Range<A: Heap> {
-    /// Where BETWEEN stands, and its bounds.
-    Bounds(u32, Expr<A>, Expr<A>),
-    /// Where IN stands, and its values.
-    Values(u32, Items<Value<A>, A>),
+    /// The bounds of BETWEEN.
+    Bounds {
+        offset: u32,
+        low: Expr<A>,
+        high: Expr<A>,
+    },
+    /// The values of IN.
+    Values {
+        offset: u32,
+        values: Items<Value<A>, A>,
+    },
 }
 
 /// What follows a word that is a function's name or a column's.
@@ -66,14 +73,22 @@ pub fn combined<A: Heap>(
     sign: (u32, Arithmetic),
     right: Located<A>,
 ) -> Result<Located<A>, AllocError>
-    ensures { IfOk result (λ p. located p ≡ (left.0, tree.arithmetic sign.1 sign.0 (expr_of left.1) (expr_of right.1))) }
+    ensures { IfOk result (λ p. located p ≡ (left.0, ast.Arithmetic sign.1 sign.0 (expr_of left.1) (expr_of right.1))) }
 {
     let (start, left) = left;
     let (_, right) = right;
     let (right, left) = keep(right, Box::new(alloc, left))?;
     let right = Box::new(alloc, right)?;
     let (offset, operator) = sign;
-    Ok((start, Expr::Arithmetic(operator, offset, left, right)))
+    Ok((
+        start,
+        Expr::Arithmetic {
+            operator,
+            offset,
+            left,
+            right,
+        },
+    ))
 }
 
 /// A comparison.
@@ -83,14 +98,22 @@ pub fn compared<A: Heap>(
     sign: (u32, Comparison),
     right: Located<A>,
 ) -> Result<Located<A>, AllocError>
-    ensures { IfOk result (λ p. located p ≡ (left.0, tree.comparison sign.1 sign.0 (expr_of left.1) (expr_of right.1))) }
+    ensures { IfOk result (λ p. located p ≡ (left.0, ast.Comparison sign.1 sign.0 (expr_of left.1) (expr_of right.1))) }
 {
     let (start, left) = left;
     let (_, right) = right;
     let (right, left) = keep(right, Box::new(alloc, left))?;
     let right = Box::new(alloc, right)?;
     let (offset, operator) = sign;
-    Ok((start, Expr::Comparison(operator, offset, left, right)))
+    Ok((
+        start,
+        Expr::Comparison {
+            operator,
+            offset,
+            left,
+            right,
+        },
+    ))
 }
 
 fn between<A: Heap>(
@@ -100,16 +123,22 @@ fn between<A: Heap>(
     operand: Expr<A>,
     bounds: (Expr<A>, Expr<A>),
 ) -> Result<Expr<A>, AllocError>
-    ensures { IfOk result (λ e. expr_of e ≡ tree.between negated offset (expr_of operand) (expr_of bounds.0) (expr_of bounds.1)) }
+    ensures { IfOk result (λ e. expr_of e ≡ ast.Between negated offset (expr_of operand) (expr_of bounds.0) (expr_of bounds.1)) }
 {
     let (low, high) = bounds;
     let ((low, high), operand) = keep((low, high), Box::new(alloc, operand))?;
     let (high, low) = keep(high, Box::new(alloc, low))?;
     let high = Box::new(alloc, high)?;
-    Ok(Expr::Between(negated, offset, operand, low, high))
+    Ok(Expr::Between {
+        negated,
+        offset,
+        operand,
+        low,
+        high,
+    })
 }
 
-// A range behind its operand; `not` is where a NOT before it stands.
+// A range after its operand; `not` is the offset of a NOT before it.
 fn in_range<A: Heap>(
     alloc: A,
     operand: Located<A>,
@@ -121,22 +150,30 @@ fn in_range<A: Heap>(
     let (start, operand) = operand;
     let negated = not.is_some();
     match range {
-        Range::Bounds(offset, low, high) => {
+        Range::Bounds { offset, low, high } => {
             let offset = not.unwrap_or(offset);
             Ok((
                 start,
                 between(alloc, negated, offset, operand, (low, high))?,
             ))
         }
-        Range::Values(offset, values) => {
+        Range::Values { offset, values } => {
             let offset = not.unwrap_or(offset);
             let operand = Box::new(alloc, operand)?;
-            Ok((start, Expr::In(negated, offset, values, operand)))
+            Ok((
+                start,
+                Expr::In {
+                    negated,
+                    offset,
+                    values,
+                    operand,
+                },
+            ))
         }
     }
 }
 
-/// An operand and the range after it, if there is one, with where a NOT before it stands.
+/// An operand and the range after it, if there is one, with the offset of a NOT before it.
 pub fn ranged<A: Heap>(
     alloc: A,
     operand: Located<A>,
@@ -151,46 +188,64 @@ pub fn ranged<A: Heap>(
 }
 
 /// A CASE.
-#[tactic(auto, using(crate::proofs::Trees::tree_lemmas))]
+#[tactic(auto, using(row_ast::proofs::Trees::tree_lemmas))]
 pub fn case_of<A: Heap>(
     alloc: A,
     offset: u32,
     arms: Vec<Arm<A>, A>,
     other: Otherwise<A>,
 ) -> Result<Expr<A>, AllocError>
-    ensures { IfOk result (λ e. expr_of e ≡ tree.choice offset (arms_of (map (λ a. arm_pair a) arms.items)) (otherwise_of other)) }
+    ensures { IfOk result (λ e. expr_of e ≡ ast.Case offset (arms_of (map (λ a. arm_pair a) arms.items)) (otherwise_of other)) }
 {
     match other {
         Otherwise::Value(value) => {
             let value = Box::new(alloc, value)?;
-            Ok(Expr::Case(offset, arms, Some(value)))
+            Ok(Expr::Case {
+                offset,
+                arms,
+                otherwise: Some(value),
+            })
         }
-        Otherwise::Nothing => Ok(Expr::Case(offset, arms, None)),
+        Otherwise::Nothing => Ok(Expr::Case {
+            offset,
+            arms,
+            otherwise: None,
+        }),
     }
 }
 
 /// A column.
-pub fn column_at<A: Heap>(
+pub fn column_expr<A: Heap>(
     alloc: A,
     word: &Token<'_>,
     dotted: Option<Text<A>>,
 ) -> Result<Expr<A>, AllocError>
-    ensures { IfOk result (λ e. expr_of e ≡ rules.column_at (word_of word.now) dotted) }
+    ensures { IfOk result (λ e. expr_of e ≡ rules.column_expr (word_of word.now) dotted) }
 {
     Ok(Expr::Column(column_ref(alloc, word, dotted)?))
 }
 
 /// `count` and what follows it.
-pub fn counted<A: Heap>(alloc: A, word: &Token<'_>, tail: CallSuffix<A>) -> Result<Expr<A>, AllocError>
+pub fn counted<A: Heap>(
+    alloc: A,
+    word: &Token<'_>,
+    tail: CallSuffix<A>,
+) -> Result<Expr<A>, AllocError>
     ensures { IfOk result (λ e. expr_of e ≡ rules.counted (word_of word.now) (suffix_of tail)) }
 {
     match tail {
-        CallSuffix::Star => Ok(Expr::CountRows(word.offset)),
+        CallSuffix::Star => Ok(Expr::CountStar {
+            offset: word.offset,
+        }),
         CallSuffix::Argument(argument) => {
             let argument = Box::new(alloc, argument)?;
-            Ok(Expr::Call(Aggregate::Count, word.offset, argument))
+            Ok(Expr::Call {
+                aggregate: Aggregate::Count,
+                offset: word.offset,
+                argument,
+            })
         }
-        CallSuffix::Dotted(name) => column_at(alloc, word, name),
+        CallSuffix::Dotted(name) => column_expr(alloc, word, name),
     }
 }
 
@@ -198,18 +253,24 @@ pub fn counted<A: Heap>(alloc: A, word: &Token<'_>, tail: CallSuffix<A>) -> Resu
 pub fn called<A: Heap>(
     alloc: A,
     word: &Token<'_>,
-    function: Aggregate,
+    aggregate: Aggregate,
     tail: CallSuffix<A>,
 ) -> Result<Expr<A>, AllocError>
-    ensures { IfOk result (λ e. expr_of e ≡ rules.called (word_of word.now, function) (suffix_of tail)) }
+    ensures { IfOk result (λ e. expr_of e ≡ rules.called (word_of word.now, aggregate) (suffix_of tail)) }
 {
     match tail {
-        CallSuffix::Star => Ok(Expr::CountRows(word.offset)),
+        CallSuffix::Star => Ok(Expr::CountStar {
+            offset: word.offset,
+        }),
         CallSuffix::Argument(argument) => {
             let argument = Box::new(alloc, argument)?;
-            Ok(Expr::Call(function, word.offset, argument))
+            Ok(Expr::Call {
+                aggregate,
+                offset: word.offset,
+                argument,
+            })
         }
-        CallSuffix::Dotted(name) => column_at(alloc, word, name),
+        CallSuffix::Dotted(name) => column_expr(alloc, word, name),
     }
 }
 
@@ -222,51 +283,51 @@ fn alone<A: Heap>(alloc: A, member: Expr<A>) -> Result<Vec<Expr<A>, A>, AllocErr
 }
 
 /// The members of an expression that stands in an AND: its own where it is one.
-#[tactic(auto, using(crate::proofs::Trees::tree_lemmas))]
+#[tactic(auto, using(row_ast::proofs::Trees::tree_lemmas))]
 pub fn and_members<A: Heap>(alloc: A, member: Expr<A>) -> Result<Vec<Expr<A>, A>, AllocError>
-    ensures { IfOk result (λ v. map (λ e. expr_of e) v.items ≡ tree.and_members (expr_of member)) }
+    ensures { IfOk result (λ v. map (λ e. expr_of e) v.items ≡ ast.and_members (expr_of member)) }
 {
     match member {
-        Expr::And(_, members) => Ok(members),
+        Expr::And { members, .. } => Ok(members),
         member @ (Expr::Column(_)
         | Expr::Literal(_)
         | Expr::CurrentUser
-        | Expr::Opposite(..)
-        | Expr::Arithmetic(..)
-        | Expr::Comparison(..)
-        | Expr::Between(..)
-        | Expr::In(..)
-        | Expr::IsNull(..)
-        | Expr::Not(..)
-        | Expr::Or(..)
-        | Expr::Cast(..)
-        | Expr::Case(..)
-        | Expr::CountRows(_)
-        | Expr::Call(..)) => alone(alloc, member),
+        | Expr::Negate { .. }
+        | Expr::Arithmetic { .. }
+        | Expr::Comparison { .. }
+        | Expr::Between { .. }
+        | Expr::In { .. }
+        | Expr::IsNull { .. }
+        | Expr::Not { .. }
+        | Expr::Or { .. }
+        | Expr::Cast { .. }
+        | Expr::Case { .. }
+        | Expr::CountStar { .. }
+        | Expr::Call { .. }) => alone(alloc, member),
     }
 }
 
 /// The members of an expression that stands in an OR: its own where it is one.
-#[tactic(auto, using(crate::proofs::Trees::tree_lemmas))]
+#[tactic(auto, using(row_ast::proofs::Trees::tree_lemmas))]
 pub fn or_members<A: Heap>(alloc: A, member: Expr<A>) -> Result<Vec<Expr<A>, A>, AllocError>
-    ensures { IfOk result (λ v. map (λ e. expr_of e) v.items ≡ tree.or_members (expr_of member)) }
+    ensures { IfOk result (λ v. map (λ e. expr_of e) v.items ≡ ast.or_members (expr_of member)) }
 {
     match member {
-        Expr::Or(_, members) => Ok(members),
+        Expr::Or { members, .. } => Ok(members),
         member @ (Expr::Column(_)
         | Expr::Literal(_)
         | Expr::CurrentUser
-        | Expr::Opposite(..)
-        | Expr::Arithmetic(..)
-        | Expr::Comparison(..)
-        | Expr::Between(..)
-        | Expr::In(..)
-        | Expr::IsNull(..)
-        | Expr::Not(..)
-        | Expr::And(..)
-        | Expr::Cast(..)
-        | Expr::Case(..)
-        | Expr::CountRows(_)
-        | Expr::Call(..)) => alone(alloc, member),
+        | Expr::Negate { .. }
+        | Expr::Arithmetic { .. }
+        | Expr::Comparison { .. }
+        | Expr::Between { .. }
+        | Expr::In { .. }
+        | Expr::IsNull { .. }
+        | Expr::Not { .. }
+        | Expr::And { .. }
+        | Expr::Cast { .. }
+        | Expr::Case { .. }
+        | Expr::CountStar { .. }
+        | Expr::Call { .. }) => alone(alloc, member),
     }
 }

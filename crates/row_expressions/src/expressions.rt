@@ -11,19 +11,21 @@ ghost use Rattle.row_reader.specs.Reading.{Parses};
 ghost use Rattle.row_ast.specs.View.{expr_of, arm_pair};
 ghost use Rattle.row_expressions.specs.View.{located, range_of, signed_of, suffix_of, otherwise_of};
 
-use crate::literals::{literal, value_list};
-use crate::names::{dot_name, type_name};
-use crate::operators::{addition, aggregate_name, comparison_sign, multiplication};
 use crate::build::{
-    Otherwise, Located, Range, CallSuffix, and_members, called, case_of, column_at, combined, compared,
-    counted, or_members, ranged,
+    CallSuffix, Located, Otherwise, Range, and_members, called, case_of, column_expr, combined,
+    compared, counted, or_members, ranged,
 };
-use crate::reader::{
-    Class, Parsed, ReadError, Reader, before, expect, expect_any, next_offset, open, sees, sees_any,
+use memory::{Failure, Heap};
+use row_ast::{Arm, Expr};
+use row_grammar::ReadError;
+use row_reader::literals::{literal, value_list};
+use row_reader::names::{dot_name, type_name};
+use row_reader::operators::{addition, aggregate_name, comparison_sign, multiplication};
+use row_reader::reader::{
+    Class, Parsed, Reader, before, expect, expect_any, next_offset, open, sees, sees_any,
 };
-use crate::tree::{Arithmetic, Arm, Expr};
-use memory::Heap;
 use row_tokens::{Token, TokenKind};
+use value::Arithmetic;
 
 /// An expression a level deeper.
 #[cycle(expression)]
@@ -60,7 +62,7 @@ fn inner_unary<'t, A: Heap>(reader: Reader<A>, tokens: &'t [Token<'t>]) -> Parse
 
 // `( expr )`.
 #[cycle(expression)]
-#[tactic(auto, unfolding(crate::specs::Expressions::parenthesized))]
+#[tactic(auto, unfolding(row_reader::specs::Expressions::parenthesized))]
 fn parenthesized<'t, A: Heap>(reader: Reader<A>, tokens: &'t [Token<'t>]) -> Parsed<'t, Located<A>>
     ensures { Parses (λ t. located t) rules.parenthesized reader tokens.now result }
 {
@@ -72,23 +74,29 @@ fn parenthesized<'t, A: Heap>(reader: Reader<A>, tokens: &'t [Token<'t>]) -> Par
 
 // `CAST ( expr AS type )`.
 #[cycle(expression)]
-#[tactic(auto, unfolding(crate::specs::Expressions::cast))]
+#[tactic(auto, unfolding(row_reader::specs::Expressions::cast))]
 fn cast<'t, A: Heap>(reader: Reader<A>, tokens: &'t [Token<'t>]) -> Parsed<'t, Located<A>>
     ensures { Parses (λ t. located t) rules.cast reader tokens.now result }
 {
     let (word, rest) = expect(TokenKind::Cast, tokens)?;
     let (_, rest) = open(TokenKind::Open, reader.depth_limit, rest)?;
-    let ((_, value), rest) = inner_expression(reader, rest)?;
-    let value = Box::new(reader.alloc, value)?;
+    let ((_, operand), rest) = inner_expression(reader, rest)?;
+    let operand = Box::new(reader.alloc, operand)?;
     let (_, rest) = expect(TokenKind::As, rest)?;
     let (to, rest) = type_name(reader, rest)?;
     let (_, rest) = expect(TokenKind::Close, rest)?;
-    Ok(((word.offset, Expr::Cast(word.offset, to, value)), rest))
+    let offset = word.offset;
+    let cast = Expr::Cast {
+        offset,
+        to,
+        operand,
+    };
+    Ok(((offset, cast), rest))
 }
 
 // `WHEN expr THEN expr`.
 #[cycle(expression)]
-#[tactic(auto, unfolding(crate::specs::Expressions::arm))]
+#[tactic(auto, unfolding(row_reader::specs::Expressions::arm))]
 fn arm<'t, A: Heap>(reader: Reader<A>, tokens: &'t [Token<'t>]) -> Parsed<'t, Arm<A>>
     requires { 0 < reader.depth_limit }
     ensures { Parses (λ t. arm_pair t) rules.arm reader tokens.now result }
@@ -96,8 +104,12 @@ fn arm<'t, A: Heap>(reader: Reader<A>, tokens: &'t [Token<'t>]) -> Parsed<'t, Ar
     let (_, rest) = expect(TokenKind::When, tokens)?;
     let ((_, when), rest) = inner_expression(reader, rest)?;
     let ((when, _), rest) = before(when, expect(TokenKind::Then, rest))?;
-    let ((when, (_, gives)), rest) = before(when, inner_expression(reader, rest))?;
-    Ok((Arm { when, gives }, rest))
+    let ((when, (_, value)), rest) = before(when, inner_expression(reader, rest))?;
+    let arm = Arm {
+        when,
+        result: value,
+    };
+    Ok((arm, rest))
 }
 
 // The arms of a CASE.
@@ -123,7 +135,7 @@ fn arms<'t, A: Heap>(reader: Reader<A>, tokens: &'t [Token<'t>]) -> Parsed<'t, V
 
 // `[ELSE expr]`.
 #[cycle(expression)]
-#[tactic(auto, unfolding(crate::specs::Expressions::otherwise))]
+#[tactic(auto, unfolding(row_reader::specs::Expressions::otherwise))]
 fn otherwise<'t, A: Heap>(reader: Reader<A>, tokens: &'t [Token<'t>]) -> Parsed<'t, Otherwise<A>>
     requires { 0 < reader.depth_limit }
     ensures { Parses (λ t. otherwise_of t) rules.otherwise reader tokens.now result }
@@ -138,7 +150,7 @@ fn otherwise<'t, A: Heap>(reader: Reader<A>, tokens: &'t [Token<'t>]) -> Parsed<
 
 // `CASE arms [ELSE expr] END`.
 #[cycle(expression)]
-#[tactic(auto, unfolding(crate::specs::Expressions::case))]
+#[tactic(auto, unfolding(row_reader::specs::Expressions::case))]
 fn case<'t, A: Heap>(reader: Reader<A>, tokens: &'t [Token<'t>]) -> Parsed<'t, Located<A>>
     ensures { Parses (λ t. located t) rules.case reader tokens.now result }
 {
@@ -153,8 +165,11 @@ fn case<'t, A: Heap>(reader: Reader<A>, tokens: &'t [Token<'t>]) -> Parsed<'t, L
 
 // `* | expr`.
 #[cycle(expression)]
-#[tactic(auto, unfolding(crate::specs::Expressions::counted_rows))]
-fn counted_rows<'t, A: Heap>(reader: Reader<A>, tokens: &'t [Token<'t>]) -> Parsed<'t, CallSuffix<A>>
+#[tactic(auto, unfolding(row_reader::specs::Expressions::counted_rows))]
+fn counted_rows<'t, A: Heap>(
+    reader: Reader<A>,
+    tokens: &'t [Token<'t>],
+) -> Parsed<'t, CallSuffix<A>>
     requires { 0 < reader.depth_limit }
     ensures { Parses (λ t. suffix_of t) rules.counted_rows reader tokens.now result }
 {
@@ -169,15 +184,15 @@ fn counted_rows<'t, A: Heap>(reader: Reader<A>, tokens: &'t [Token<'t>]) -> Pars
 
 // What follows `count`.
 #[cycle(expression)]
-#[tactic(auto, unfolding(crate::specs::Expressions::count_tail))]
+#[tactic(auto, unfolding(row_reader::specs::Expressions::count_tail))]
 fn count_tail<'t, A: Heap>(reader: Reader<A>, tokens: &'t [Token<'t>]) -> Parsed<'t, CallSuffix<A>>
     ensures { Parses (λ t. suffix_of t) rules.count_tail reader tokens.now result }
 {
     if sees(TokenKind::Open, tokens) {
         let (_, rest) = open(TokenKind::Open, reader.depth_limit, tokens)?;
-        let (tail, rest) = counted_rows(reader, rest)?;
-        let ((tail, _), rest) = before(tail, expect(TokenKind::Close, rest))?;
-        Ok((tail, rest))
+        let (suffix, rest) = counted_rows(reader, rest)?;
+        let ((suffix, _), rest) = before(suffix, expect(TokenKind::Close, rest))?;
+        Ok((suffix, rest))
     } else {
         let (name, rest) = dot_name(reader, tokens)?;
         Ok((CallSuffix::Dotted(name), rest))
@@ -186,20 +201,23 @@ fn count_tail<'t, A: Heap>(reader: Reader<A>, tokens: &'t [Token<'t>]) -> Parsed
 
 // `count` and what follows it.
 #[cycle(expression)]
-#[tactic(auto, unfolding(crate::specs::Expressions::count))]
+#[tactic(auto, unfolding(row_reader::specs::Expressions::count))]
 fn count<'t, A: Heap>(reader: Reader<A>, tokens: &'t [Token<'t>]) -> Parsed<'t, Located<A>>
     ensures { Parses (λ t. located t) rules.count reader tokens.now result }
 {
     let (word, rest) = expect(TokenKind::Count, tokens)?;
-    let (tail, rest) = count_tail(reader, rest)?;
-    let value = counted(reader.alloc, &word, tail)?;
+    let (suffix, rest) = count_tail(reader, rest)?;
+    let value = counted(reader.alloc, &word, suffix)?;
     Ok(((word.offset, value), rest))
 }
 
 // What follows another function's name.
 #[cycle(expression)]
-#[tactic(auto, unfolding(crate::specs::Expressions::aggregate_tail))]
-fn aggregate_tail<'t, A: Heap>(reader: Reader<A>, tokens: &'t [Token<'t>]) -> Parsed<'t, CallSuffix<A>>
+#[tactic(auto, unfolding(row_reader::specs::Expressions::aggregate_tail))]
+fn aggregate_tail<'t, A: Heap>(
+    reader: Reader<A>,
+    tokens: &'t [Token<'t>],
+) -> Parsed<'t, CallSuffix<A>>
     ensures { Parses (λ t. suffix_of t) rules.aggregate_tail reader tokens.now result }
 {
     if sees(TokenKind::Open, tokens) {
@@ -215,18 +233,18 @@ fn aggregate_tail<'t, A: Heap>(reader: Reader<A>, tokens: &'t [Token<'t>]) -> Pa
 
 // Another function's name and what follows it.
 #[cycle(expression)]
-#[tactic(auto, unfolding(crate::specs::Expressions::aggregate))]
+#[tactic(auto, unfolding(row_reader::specs::Expressions::aggregate))]
 fn aggregate<'t, A: Heap>(reader: Reader<A>, tokens: &'t [Token<'t>]) -> Parsed<'t, Located<A>>
     ensures { Parses (λ t. located t) rules.aggregate reader tokens.now result }
 {
-    let ((word, function), rest) = aggregate_name(reader, tokens)?;
-    let (tail, rest) = aggregate_tail(reader, rest)?;
-    let value = called(reader.alloc, &word, function, tail)?;
+    let ((word, name), rest) = aggregate_name(reader, tokens)?;
+    let (suffix, rest) = aggregate_tail(reader, rest)?;
+    let value = called(reader.alloc, &word, name, suffix)?;
     Ok(((word.offset, value), rest))
 }
 
 // `CURRENT_USER` or a literal.
-#[tactic(auto, unfolding(crate::specs::Expressions::constant))]
+#[tactic(auto, unfolding(row_reader::specs::Expressions::constant))]
 fn constant<'t, A: Heap>(reader: Reader<A>, tokens: &'t [Token<'t>]) -> Parsed<'t, Located<A>>
     ensures { Parses (λ t. located t) rules.constant reader tokens.now result }
 {
@@ -240,19 +258,19 @@ fn constant<'t, A: Heap>(reader: Reader<A>, tokens: &'t [Token<'t>]) -> Parsed<'
 }
 
 // A column whose first word is no function's name.
-#[tactic(auto, unfolding(crate::specs::Expressions::plain_column))]
+#[tactic(auto, unfolding(row_reader::specs::Expressions::plain_column))]
 fn plain_column<'t, A: Heap>(reader: Reader<A>, tokens: &'t [Token<'t>]) -> Parsed<'t, Located<A>>
     ensures { Parses (λ t. located t) rules.plain_column reader tokens.now result }
 {
     let (word, rest) = expect_any(Class::PlainName, tokens)?;
     let (name, rest) = dot_name(reader, rest)?;
-    let column = column_at(reader.alloc, &word, name)?;
+    let column = column_expr(reader.alloc, &word, name)?;
     Ok(((word.offset, column), rest))
 }
 
 // An expression without an operator outside parentheses.
 #[cycle(expression)]
-#[tactic(auto, unfolding(crate::specs::Expressions::primary, crate::specs::Expressions::parenthesized, crate::specs::Expressions::cast, crate::specs::Expressions::case, crate::specs::Expressions::plain_column, crate::specs::Expressions::count, crate::specs::Expressions::aggregate, crate::specs::Expressions::aggregate_name, crate::specs::Language::of))]
+#[tactic(auto, unfolding(row_reader::specs::Expressions::primary, row_reader::specs::Expressions::parenthesized, row_reader::specs::Expressions::cast, row_reader::specs::Expressions::case, row_reader::specs::Expressions::plain_column, row_reader::specs::Expressions::count, row_reader::specs::Expressions::aggregate, row_reader::specs::Expressions::aggregate_name, row_reader::specs::Language::of))]
 fn primary<'t, A: Heap>(reader: Reader<A>, tokens: &'t [Token<'t>]) -> Parsed<'t, Located<A>>
     ensures { Parses (λ t. located t) rules.primary reader tokens.now result }
 {
@@ -275,15 +293,16 @@ fn primary<'t, A: Heap>(reader: Reader<A>, tokens: &'t [Token<'t>]) -> Parsed<'t
 
 // `- unary | primary`.
 #[cycle(expression)]
-#[tactic(auto, unfolding(crate::specs::Expressions::unary))]
+#[tactic(auto, unfolding(row_reader::specs::Expressions::unary))]
 fn unary<'t, A: Heap>(reader: Reader<A>, tokens: &'t [Token<'t>]) -> Parsed<'t, Located<A>>
     ensures { Parses (λ t. located t) rules.unary reader tokens.now result }
 {
     if sees(TokenKind::Minus, tokens) {
         let (sign, rest) = open(TokenKind::Minus, reader.depth_limit, tokens)?;
         let ((_, inner), rest) = inner_unary(reader, rest)?;
-        let inner = Box::new(reader.alloc, inner)?;
-        Ok(((sign.offset, Expr::Opposite(sign.offset, inner)), rest))
+        let operand = Box::new(reader.alloc, inner)?;
+        let offset = sign.offset;
+        Ok(((offset, Expr::Negate { offset, operand }), rest))
     } else {
         primary(reader, tokens)
     }
@@ -291,7 +310,7 @@ fn unary<'t, A: Heap>(reader: Reader<A>, tokens: &'t [Token<'t>]) -> Parsed<'t, 
 
 // `* unary` and the like.
 #[cycle(expression)]
-#[tactic(auto, unfolding(crate::specs::Expressions::factor))]
+#[tactic(auto, unfolding(row_reader::specs::Expressions::factor))]
 fn factor<'t, A: Heap>(
     reader: Reader<A>,
     tokens: &'t [Token<'t>],
@@ -326,7 +345,7 @@ fn product<'t, A: Heap>(reader: Reader<A>, tokens: &'t [Token<'t>]) -> Parsed<'t
 
 // `+ product` and the like.
 #[cycle(expression)]
-#[tactic(auto, unfolding(crate::specs::Expressions::addend))]
+#[tactic(auto, unfolding(row_reader::specs::Expressions::addend))]
 fn addend<'t, A: Heap>(
     reader: Reader<A>,
     tokens: &'t [Token<'t>],
@@ -361,7 +380,7 @@ fn sum<'t, A: Heap>(reader: Reader<A>, tokens: &'t [Token<'t>]) -> Parsed<'t, Lo
 
 // `BETWEEN sum AND sum`.
 #[cycle(expression)]
-#[tactic(auto, unfolding(crate::specs::Expressions::between))]
+#[tactic(auto, unfolding(row_reader::specs::Expressions::between))]
 fn between<'t, A: Heap>(reader: Reader<A>, tokens: &'t [Token<'t>]) -> Parsed<'t, Range<A>>
     ensures { Parses (λ t. range_of t) rules.between reader tokens.now result }
 {
@@ -369,11 +388,12 @@ fn between<'t, A: Heap>(reader: Reader<A>, tokens: &'t [Token<'t>]) -> Parsed<'t
     let ((_, low), rest) = sum(reader, rest)?;
     let ((low, _), rest) = before(low, expect(TokenKind::And, rest))?;
     let ((low, (_, high)), rest) = before(low, sum(reader, rest))?;
-    Ok((Range::Bounds(word.offset, low, high), rest))
+    let offset = word.offset;
+    Ok((Range::Bounds { offset, low, high }, rest))
 }
 
 // `IN ( literal {, literal} )`.
-#[tactic(auto, unfolding(crate::specs::Expressions::in_list))]
+#[tactic(auto, unfolding(row_reader::specs::Expressions::in_list))]
 fn in_list<'t, A: Heap>(reader: Reader<A>, tokens: &'t [Token<'t>]) -> Parsed<'t, Range<A>>
     ensures { Parses (λ t. range_of t) rules.in_list reader tokens.now result }
 {
@@ -381,12 +401,13 @@ fn in_list<'t, A: Heap>(reader: Reader<A>, tokens: &'t [Token<'t>]) -> Parsed<'t
     let (_, rest) = open(TokenKind::Open, reader.depth_limit, rest)?;
     let (values, rest) = value_list(reader, rest)?;
     let (_, rest) = expect(TokenKind::Close, rest)?;
-    Ok((Range::Values(word.offset, values), rest))
+    let offset = word.offset;
+    Ok((Range::Values { offset, values }, rest))
 }
 
 // `NOT` and a range.
 #[cycle(expression)]
-#[tactic(auto, unfolding(crate::specs::Expressions::negated_range, crate::specs::Expressions::range, crate::specs::Expressions::between))]
+#[tactic(auto, unfolding(row_reader::specs::Expressions::negated_range, row_reader::specs::Expressions::range, row_reader::specs::Expressions::between))]
 fn negated_range<'t, A: Heap>(
     reader: Reader<A>,
     tokens: &'t [Token<'t>],
@@ -403,9 +424,9 @@ fn negated_range<'t, A: Heap>(
     }
 }
 
-// A range behind its operand, if there is one, and where a NOT before it stands.
+// A range after its operand, if there is one, and the offset of a NOT before it.
 #[cycle(expression)]
-#[tactic(auto, unfolding(crate::specs::Expressions::range_tail, crate::specs::Expressions::negated_range, crate::specs::Expressions::between, crate::specs::Expressions::in_list))]
+#[tactic(auto, unfolding(row_reader::specs::Expressions::range_tail, row_reader::specs::Expressions::negated_range, row_reader::specs::Expressions::between, row_reader::specs::Expressions::in_list))]
 fn range_tail<'t, A: Heap>(
     reader: Reader<A>,
     tokens: &'t [Token<'t>],
@@ -428,7 +449,7 @@ fn range_tail<'t, A: Heap>(
 
 // `sum [[NOT] BETWEEN sum AND sum | [NOT] IN (..)]`.
 #[cycle(expression)]
-#[tactic(auto, unfolding(crate::specs::Expressions::ranged_sum))]
+#[tactic(auto, unfolding(row_reader::specs::Expressions::ranged_sum))]
 fn ranged_sum<'t, A: Heap>(reader: Reader<A>, tokens: &'t [Token<'t>]) -> Parsed<'t, Located<A>>
     ensures { Parses (λ t. located t) rules.ranged_sum reader tokens.now result }
 {
@@ -439,7 +460,7 @@ fn ranged_sum<'t, A: Heap>(reader: Reader<A>, tokens: &'t [Token<'t>]) -> Parsed
 
 // A comparison, of which there is at most one.
 #[cycle(expression)]
-#[tactic(auto, unfolding(crate::specs::Expressions::comparison, crate::specs::Expressions::compared_with, crate::specs::Expressions::comparison_sign, crate::specs::Language::of))]
+#[tactic(auto, unfolding(row_reader::specs::Expressions::comparison, row_reader::specs::Expressions::compared_with, row_reader::specs::Expressions::comparison_sign, row_reader::specs::Language::of))]
 fn comparison<'t, A: Heap>(reader: Reader<A>, tokens: &'t [Token<'t>]) -> Parsed<'t, Located<A>>
     ensures { Parses (λ t. located t) rules.comparison reader tokens.now result }
 {
@@ -453,7 +474,7 @@ fn comparison<'t, A: Heap>(reader: Reader<A>, tokens: &'t [Token<'t>]) -> Parsed
 }
 
 // `IS [NOT] NULL`, and whether with NOT.
-#[tactic(auto, unfolding(crate::specs::Expressions::is_null, crate::specs::Expressions::null_word))]
+#[tactic(auto, unfolding(row_reader::specs::Expressions::is_null, row_reader::specs::Expressions::null_word))]
 fn is_null<'t, A: Heap>(reader: Reader<A>, tokens: &'t [Token<'t>]) -> Parsed<'t, (u32, bool)>
     ensures { Parses (λ t. t) rules.is_null reader tokens.now result }
 {
@@ -470,7 +491,7 @@ fn is_null<'t, A: Heap>(reader: Reader<A>, tokens: &'t [Token<'t>]) -> Parsed<'t
 
 // `comparison [IS [NOT] NULL]`.
 #[cycle(expression)]
-#[tactic(auto, unfolding(crate::specs::Expressions::null_test, crate::specs::Expressions::is_null))]
+#[tactic(auto, unfolding(row_reader::specs::Expressions::null_test, row_reader::specs::Expressions::is_null))]
 fn null_test<'t, A: Heap>(reader: Reader<A>, tokens: &'t [Token<'t>]) -> Parsed<'t, Located<A>>
     ensures { Parses (λ t. located t) rules.null_test reader tokens.now result }
 {
@@ -479,21 +500,32 @@ fn null_test<'t, A: Heap>(reader: Reader<A>, tokens: &'t [Token<'t>]) -> Parsed<
         return Ok(((start, left), rest));
     }
     let ((left, (offset, negated)), rest) = before(left, is_null(reader, rest))?;
-    let left = Box::new(reader.alloc, left)?;
-    Ok(((start, Expr::IsNull(negated, offset, left)), rest))
+    let operand = Box::new(reader.alloc, left)?;
+    Ok((
+        (
+            start,
+            Expr::IsNull {
+                negated,
+                offset,
+                operand,
+            },
+        ),
+        rest,
+    ))
 }
 
 // `NOT negation | null test`.
 #[cycle(expression)]
-#[tactic(auto, unfolding(crate::specs::Expressions::negation))]
+#[tactic(auto, unfolding(row_reader::specs::Expressions::negation))]
 fn negation<'t, A: Heap>(reader: Reader<A>, tokens: &'t [Token<'t>]) -> Parsed<'t, Located<A>>
     ensures { Parses (λ t. located t) rules.negation reader tokens.now result }
 {
     if sees(TokenKind::Not, tokens) {
         let (word, rest) = open(TokenKind::Not, reader.depth_limit, tokens)?;
         let ((_, inner), rest) = inner_negation(reader, rest)?;
-        let inner = Box::new(reader.alloc, inner)?;
-        Ok(((word.offset, Expr::Not(word.offset, inner)), rest))
+        let operand = Box::new(reader.alloc, inner)?;
+        let offset = word.offset;
+        Ok(((offset, Expr::Not { offset, operand }), rest))
     } else {
         null_test(reader, tokens)
     }
@@ -501,7 +533,7 @@ fn negation<'t, A: Heap>(reader: Reader<A>, tokens: &'t [Token<'t>]) -> Parsed<'
 
 // `AND negation`.
 #[cycle(expression)]
-#[tactic(auto, unfolding(crate::specs::Expressions::and_operand))]
+#[tactic(auto, unfolding(row_reader::specs::Expressions::and_operand))]
 fn and_operand<'t, A: Heap>(
     reader: Reader<A>,
     tokens: &'t [Token<'t>],
@@ -526,7 +558,7 @@ fn conjunction<'t, A: Heap>(reader: Reader<A>, tokens: &'t [Token<'t>]) -> Parse
     let mut members = and_members(reader.alloc, first)?;
     for _ in 0..reader.run_limit {
         if !sees(TokenKind::And, rest) {
-            return Ok(((start, Expr::And(offset, members)), rest));
+            return Ok(((start, Expr::And { offset, members }), rest));
         }
         let ((_, (_, next)), after) = and_operand(reader, rest)?;
         let mut more = and_members(reader.alloc, next)?;
@@ -536,12 +568,12 @@ fn conjunction<'t, A: Heap>(reader: Reader<A>, tokens: &'t [Token<'t>]) -> Parse
     if sees(TokenKind::And, rest) {
         return Err(Failure::Fault(ReadError::Limit { left: rest.len() }));
     }
-    Ok(((start, Expr::And(offset, members)), rest))
+    Ok(((start, Expr::And { offset, members }), rest))
 }
 
 // `OR conjunction`.
 #[cycle(expression)]
-#[tactic(auto, unfolding(crate::specs::Expressions::or_operand))]
+#[tactic(auto, unfolding(row_reader::specs::Expressions::or_operand))]
 fn or_operand<'t, A: Heap>(
     reader: Reader<A>,
     tokens: &'t [Token<'t>],
@@ -566,7 +598,7 @@ pub fn expression<'t, A: Heap>(reader: Reader<A>, tokens: &'t [Token<'t>]) -> Pa
     let mut members = or_members(reader.alloc, first)?;
     for _ in 0..reader.run_limit {
         if !sees(TokenKind::Or, rest) {
-            return Ok(((start, Expr::Or(offset, members)), rest));
+            return Ok(((start, Expr::Or { offset, members }), rest));
         }
         let ((_, (_, next)), after) = or_operand(reader, rest)?;
         let mut more = or_members(reader.alloc, next)?;
@@ -576,5 +608,5 @@ pub fn expression<'t, A: Heap>(reader: Reader<A>, tokens: &'t [Token<'t>]) -> Pa
     if sees(TokenKind::Or, rest) {
         return Err(Failure::Fault(ReadError::Limit { left: rest.len() }));
     }
-    Ok(((start, Expr::Or(offset, members)), rest))
+    Ok(((start, Expr::Or { offset, members }), rest))
 }

@@ -111,7 +111,7 @@ fn select_list<'t, A: Heap>(reader: Reader<A>, tokens: &'t [Token<'t>]) -> Parse
 }
 
 // `[[AS] name]`.
-#[tactic(auto, unfolding(crate::specs::Queries::table_alias, crate::specs::Expressions::name))]
+#[tactic(auto, unfolding(crate::specs::Queries::table_alias, row_reader::specs::Expressions::name))]
 fn table_alias<'t, A: Heap>(
     reader: Reader<A>,
     tokens: &'t [Token<'t>],

@@ -21,7 +21,7 @@ use text::{Items, Text};
 use value::ColType;
 
 // `[SUPERUSER]`.
-#[tactic(auto, unfolding(crate::specs::Statements::superuser))]
+#[tactic(auto, unfolding(crate::specs::Schemas::superuser))]
 fn superuser<'t, A: Heap>(reader: Reader<A>, tokens: &'t [Token<'t>]) -> Parsed<'t, bool>
     ensures { Parses (λ t. t) rules.superuser reader tokens.now result }
 {
@@ -33,7 +33,7 @@ fn superuser<'t, A: Heap>(reader: Reader<A>, tokens: &'t [Token<'t>]) -> Parsed<
 }
 
 // `[BYPASSRLS]`.
-#[tactic(auto, unfolding(crate::specs::Statements::bypass_rls))]
+#[tactic(auto, unfolding(crate::specs::Schemas::bypass_rls))]
 fn bypass_rls<'t, A: Heap>(reader: Reader<A>, tokens: &'t [Token<'t>]) -> Parsed<'t, bool>
     ensures { Parses (λ t. t) rules.bypass_rls reader tokens.now result }
 {
@@ -45,7 +45,7 @@ fn bypass_rls<'t, A: Heap>(reader: Reader<A>, tokens: &'t [Token<'t>]) -> Parsed
 }
 
 // `ROLE name [SUPERUSER] [BYPASSRLS]`.
-#[tactic(auto, unfolding(crate::specs::Statements::new_role))]
+#[tactic(auto, unfolding(crate::specs::Schemas::new_role))]
 fn new_role<'t, A: Heap>(reader: Reader<A>, tokens: &'t [Token<'t>]) -> Parsed<'t, Statement<A>>
     ensures { Parses (λ t. statement_of t) rules.new_role reader tokens.now result }
 {
@@ -57,7 +57,7 @@ fn new_role<'t, A: Heap>(reader: Reader<A>, tokens: &'t [Token<'t>]) -> Parsed<'
 }
 
 // `bigint`, `text` or `boolean`.
-#[tactic(auto, unfolding(crate::specs::Statements::column_type))]
+#[tactic(auto, unfolding(crate::specs::Schemas::column_type))]
 fn column_type<'t, A: Heap>(reader: Reader<A>, tokens: &'t [Token<'t>]) -> Parsed<'t, ColType>
     ensures { Parses (λ t. t) rules.column_type reader tokens.now result }
 {
@@ -70,7 +70,7 @@ fn column_type<'t, A: Heap>(reader: Reader<A>, tokens: &'t [Token<'t>]) -> Parse
 }
 
 // `[NOT NULL]`.
-#[tactic(auto, unfolding(crate::specs::Statements::not_null))]
+#[tactic(auto, unfolding(crate::specs::Schemas::not_null))]
 fn not_null<'t, A: Heap>(reader: Reader<A>, tokens: &'t [Token<'t>]) -> Parsed<'t, bool>
     ensures { Parses (λ t. t) rules.not_null reader tokens.now result }
 {
@@ -83,7 +83,7 @@ fn not_null<'t, A: Heap>(reader: Reader<A>, tokens: &'t [Token<'t>]) -> Parsed<'
 }
 
 // `name type [NOT NULL]`.
-#[tactic(auto, unfolding(crate::specs::Statements::column_def))]
+#[tactic(auto, unfolding(crate::specs::Schemas::column_def))]
 fn column_def<'t, A: Heap>(reader: Reader<A>, tokens: &'t [Token<'t>]) -> Parsed<'t, Column<A>>
     ensures { Parses (λ t. column_of t) rules.column_def reader tokens.now result }
 {
@@ -101,7 +101,7 @@ fn column_def<'t, A: Heap>(reader: Reader<A>, tokens: &'t [Token<'t>]) -> Parsed
 }
 
 // `, name type [NOT NULL]`.
-#[tactic(auto, unfolding(crate::specs::Statements::next_column_def))]
+#[tactic(auto, unfolding(crate::specs::Schemas::next_column_def))]
 fn next_column_def<'t, A: Heap>(
     reader: Reader<A>,
     tokens: &'t [Token<'t>],
@@ -135,7 +135,7 @@ fn column_defs<'t, A: Heap>(
 }
 
 // `TABLE name ( columns )`.
-#[tactic(auto, unfolding(crate::specs::Statements::new_table))]
+#[tactic(auto, unfolding(crate::specs::Schemas::new_table))]
 fn new_table<'t, A: Heap>(reader: Reader<A>, tokens: &'t [Token<'t>]) -> Parsed<'t, Statement<A>>
     ensures { Parses (λ t. statement_of t) rules.new_table reader tokens.now result }
 {
@@ -148,7 +148,7 @@ fn new_table<'t, A: Heap>(reader: Reader<A>, tokens: &'t [Token<'t>]) -> Parsed<
 }
 
 // `INDEX name ON table ( column )`.
-#[tactic(auto, unfolding(crate::specs::Statements::new_index))]
+#[tactic(auto, unfolding(crate::specs::Schemas::new_index))]
 fn new_index<'t, A: Heap>(reader: Reader<A>, tokens: &'t [Token<'t>]) -> Parsed<'t, Statement<A>>
     ensures { Parses (λ t. statement_of t) rules.new_index reader tokens.now result }
 {
@@ -163,7 +163,7 @@ fn new_index<'t, A: Heap>(reader: Reader<A>, tokens: &'t [Token<'t>]) -> Parsed<
 }
 
 // `[AS PERMISSIVE | AS RESTRICTIVE]`; whether restrictive.
-#[tactic(auto, unfolding(crate::specs::Statements::strength))]
+#[tactic(auto, unfolding(crate::specs::Schemas::strength))]
 fn strength<'t, A: Heap>(reader: Reader<A>, tokens: &'t [Token<'t>]) -> Parsed<'t, bool>
     ensures { Parses (λ t. t) rules.strength reader tokens.now result }
 {
@@ -181,7 +181,7 @@ fn strength<'t, A: Heap>(reader: Reader<A>, tokens: &'t [Token<'t>]) -> Parsed<'
 }
 
 // `[FOR ALL | FOR SELECT]`.
-#[tactic(auto, unfolding(crate::specs::Statements::command))]
+#[tactic(auto, unfolding(crate::specs::Schemas::command))]
 fn command<'t, A: Heap>(reader: Reader<A>, tokens: &'t [Token<'t>]) -> Parsed<'t, Option<Token<'t>>>
     ensures { Parses (λ t. option_map (λ w. word_of w) t) rules.command reader tokens.now result }
 {
@@ -199,7 +199,7 @@ fn command<'t, A: Heap>(reader: Reader<A>, tokens: &'t [Token<'t>]) -> Parsed<'t
 }
 
 // `[TO names]`, and everyone where no roles are named.
-#[tactic(auto, unfolding(crate::specs::Statements::policy_roles))]
+#[tactic(auto, unfolding(crate::specs::Schemas::policy_roles))]
 fn policy_roles<'t, A: Heap>(
     reader: Reader<A>,
     tokens: &'t [Token<'t>],
@@ -217,7 +217,7 @@ fn policy_roles<'t, A: Heap>(
 }
 
 // `USING ( condition )`.
-#[tactic(auto, unfolding(crate::specs::Statements::using))]
+#[tactic(auto, unfolding(crate::specs::Schemas::using))]
 fn using<'t, A: Heap>(reader: Reader<A>, tokens: &'t [Token<'t>]) -> Parsed<'t, Located<A>>
     ensures { Parses (λ t. located t) rules.using reader tokens.now result }
 {
@@ -229,7 +229,7 @@ fn using<'t, A: Heap>(reader: Reader<A>, tokens: &'t [Token<'t>]) -> Parsed<'t, 
 }
 
 // `POLICY name ON table [AS ..] [FOR ..] [TO roles] USING ( condition )`.
-#[tactic(auto, unfolding(crate::specs::Statements::new_policy))]
+#[tactic(auto, unfolding(crate::specs::Schemas::new_policy))]
 fn new_policy<'t, A: Heap>(reader: Reader<A>, tokens: &'t [Token<'t>]) -> Parsed<'t, Statement<A>>
     ensures { Parses (λ t. statement_of t) rules.new_policy reader tokens.now result }
 {
@@ -252,7 +252,7 @@ fn new_policy<'t, A: Heap>(reader: Reader<A>, tokens: &'t [Token<'t>]) -> Parsed
 }
 
 /// `CREATE` and a role, a table, an index or a policy.
-#[tactic(auto, unfolding(crate::specs::Statements::create, crate::specs::Statements::new_role, crate::specs::Statements::new_table, crate::specs::Statements::new_index))]
+#[tactic(auto, unfolding(crate::specs::Schemas::create, crate::specs::Schemas::new_role, crate::specs::Schemas::new_table, crate::specs::Schemas::new_index))]
 pub fn create<'t, A: Heap>(reader: Reader<A>, tokens: &'t [Token<'t>]) -> Parsed<'t, Statement<A>>
     ensures { Parses (λ t. statement_of t) rules.create reader tokens.now result }
 {

@@ -19,7 +19,7 @@ use row_tokens::{Token, TokenKind};
 use text::{Items, Text};
 
 // `OWNER TO name`.
-#[tactic(auto, unfolding(crate::specs::Statements::owner))]
+#[tactic(auto, unfolding(crate::specs::Schemas::owner))]
 fn owner<'t, A: Heap>(reader: Reader<A>, tokens: &'t [Token<'t>]) -> Parsed<'t, Text<A>>
     ensures { Parses (λ t. t) rules.owner reader tokens.now result }
 {
@@ -29,7 +29,7 @@ fn owner<'t, A: Heap>(reader: Reader<A>, tokens: &'t [Token<'t>]) -> Parsed<'t, 
 }
 
 // `ENABLE`, `DISABLE`, `FORCE` or `NO FORCE`.
-#[tactic(auto, unfolding(crate::specs::Statements::security_setting))]
+#[tactic(auto, unfolding(crate::specs::Schemas::security_setting))]
 fn security_setting<'t, A: Heap>(
     reader: Reader<A>,
     tokens: &'t [Token<'t>],
@@ -53,7 +53,7 @@ fn security_setting<'t, A: Heap>(
 }
 
 // A setting and `ROW LEVEL SECURITY`.
-#[tactic(auto, unfolding(crate::specs::Statements::security))]
+#[tactic(auto, unfolding(crate::specs::Schemas::security))]
 fn security<'t, A: Heap>(reader: Reader<A>, tokens: &'t [Token<'t>]) -> Parsed<'t, RowSecurity>
     ensures { Parses (λ t. t) rules.security reader tokens.now result }
 {
@@ -65,7 +65,7 @@ fn security<'t, A: Heap>(reader: Reader<A>, tokens: &'t [Token<'t>]) -> Parsed<'
 }
 
 // `ALTER TABLE name` and a new owner, or row security.
-#[tactic(auto, unfolding(crate::specs::Statements::alter, crate::specs::Statements::owner))]
+#[tactic(auto, unfolding(crate::specs::Schemas::alter, crate::specs::Schemas::owner))]
 fn alter<'t, A: Heap>(reader: Reader<A>, tokens: &'t [Token<'t>]) -> Parsed<'t, Statement<A>>
     ensures { Parses (λ t. statement_of t) rules.alter reader tokens.now result }
 {
@@ -82,7 +82,7 @@ fn alter<'t, A: Heap>(reader: Reader<A>, tokens: &'t [Token<'t>]) -> Parsed<'t, 
 }
 
 // `[( columns )]`.
-#[tactic(auto, unfolding(crate::specs::Statements::grant_columns))]
+#[tactic(auto, unfolding(crate::specs::Schemas::grant_columns))]
 fn grant_columns<'t, A: Heap>(
     reader: Reader<A>,
     tokens: &'t [Token<'t>],
@@ -99,7 +99,7 @@ fn grant_columns<'t, A: Heap>(
 }
 
 // `SELECT [( columns )] ON name`.
-#[tactic(auto, unfolding(crate::specs::Statements::granted))]
+#[tactic(auto, unfolding(crate::specs::Schemas::granted))]
 fn granted<'t, A: Heap>(
     reader: Reader<A>,
     tokens: &'t [Token<'t>],
@@ -114,7 +114,7 @@ fn granted<'t, A: Heap>(
 }
 
 // `GRANT SELECT .. TO roles`, or `GRANT group TO member`.
-#[tactic(auto, unfolding(crate::specs::Statements::grant, crate::specs::Statements::granted))]
+#[tactic(auto, unfolding(crate::specs::Schemas::grant, crate::specs::Schemas::granted))]
 fn grant<'t, A: Heap>(reader: Reader<A>, tokens: &'t [Token<'t>]) -> Parsed<'t, Statement<A>>
     ensures { Parses (λ t. statement_of t) rules.grant reader tokens.now result }
 {
@@ -138,7 +138,7 @@ fn grant<'t, A: Heap>(reader: Reader<A>, tokens: &'t [Token<'t>]) -> Parsed<'t, 
 }
 
 // `REVOKE SELECT .. FROM roles`, or `REVOKE group FROM member`.
-#[tactic(auto, unfolding(crate::specs::Statements::revoke, crate::specs::Statements::granted))]
+#[tactic(auto, unfolding(crate::specs::Schemas::revoke, crate::specs::Schemas::granted))]
 fn revoke<'t, A: Heap>(reader: Reader<A>, tokens: &'t [Token<'t>]) -> Parsed<'t, Statement<A>>
     ensures { Parses (λ t. statement_of t) rules.revoke reader tokens.now result }
 {
@@ -162,7 +162,7 @@ fn revoke<'t, A: Heap>(reader: Reader<A>, tokens: &'t [Token<'t>]) -> Parsed<'t,
 }
 
 // `DROP POLICY name ON table`.
-#[tactic(auto, unfolding(crate::specs::Statements::drop))]
+#[tactic(auto, unfolding(crate::specs::Schemas::drop))]
 fn drop_policy<'t, A: Heap>(reader: Reader<A>, tokens: &'t [Token<'t>]) -> Parsed<'t, Statement<A>>
     ensures { Parses (λ t. statement_of t) rules.drop reader tokens.now result }
 {
@@ -175,7 +175,7 @@ fn drop_policy<'t, A: Heap>(reader: Reader<A>, tokens: &'t [Token<'t>]) -> Parse
 }
 
 /// One of these statements.
-#[tactic(auto, unfolding(crate::specs::Statements::statement, crate::specs::Statements::create, crate::specs::Statements::alter, crate::specs::Statements::grant, crate::specs::Statements::revoke))]
+#[tactic(auto, unfolding(crate::specs::Schemas::statement, crate::specs::Schemas::create, crate::specs::Schemas::alter, crate::specs::Schemas::grant, crate::specs::Schemas::revoke))]
 pub fn statement<'t, A: Heap>(
     reader: Reader<A>,
     tokens: &'t [Token<'t>],
@@ -196,7 +196,7 @@ pub fn statement<'t, A: Heap>(
 }
 
 // `statement ;`.
-#[tactic(auto, unfolding(crate::specs::Statements::ended_statement))]
+#[tactic(auto, unfolding(crate::specs::Schemas::ended_statement))]
 fn ended_statement<'t, A: Heap>(
     reader: Reader<A>,
     tokens: &'t [Token<'t>],
@@ -209,7 +209,7 @@ fn ended_statement<'t, A: Heap>(
 }
 
 // Whether a statement comes next.
-#[tactic(auto, unfolding(crate::specs::Statements::ended_statement, crate::specs::Statements::statement, crate::specs::Statements::create, crate::specs::Statements::alter, crate::specs::Statements::grant, crate::specs::Statements::revoke, crate::specs::Statements::drop))]
+#[tactic(auto, unfolding(crate::specs::Schemas::ended_statement, crate::specs::Schemas::statement, crate::specs::Schemas::create, crate::specs::Schemas::alter, crate::specs::Schemas::grant, crate::specs::Schemas::revoke, crate::specs::Schemas::drop))]
 fn sees_statement(tokens: &[Token<'_>]) -> bool
     ensures { result ≡ head_in kind_of (first language nested_first rules.ended_statement) (words_of tokens.now) }
 {

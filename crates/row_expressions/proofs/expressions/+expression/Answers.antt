@@ -9,7 +9,7 @@ use Rattle.row_grammar.proofs.Steps.{fault_along, run_start, run_err}
 use Rattle.row_tokens.specs.declared.token.TokenKind.TheVariants as k
 use Rattle.row_tokens.specs.Words.{Word}
 use Rattle.row_tokens.specs.View.{word_of}
-use Rattle.row_ast.specs.Ast.{Expr, Other, choice, arms_of, all_of, any_of, exprs_of, and_members, or_members}
+use Rattle.row_ast.specs.Ast.{Expr, Otherwise, Case, arms_of, And, Or, exprs_of, and_members, or_members}
 use Rattle.row_reader.specs.Language.{language, Located, is, of, next_at, kind_of}
 use Rattle.row_reader.specs.declared.reader.Class.TheVariants as class
 use Rattle.row_reader.specs.Expressions as rules
@@ -152,11 +152,11 @@ alone_conjunction w d ts x us e n =
     (rw (← begins_and_operand) (run_start grammar w d (λ x ys. and_of x ys) rules.negation true rules.and_operand ts x us e)) n
 
 start_conjunction : (w d n : _) (ts : List Word) (x : Located) (us : List Word) (at : _) (ms : List Expr) → reads grammar w d rules.negation ts ≡ Ok (x, us) → head_in kind_of (is k.And) us ≡ true → at ≡ next_at us → ms ≡ and_members x.1 → n ≡ w
-    → run_on w d rules.and_operand (is k.And) (joined (λ ms. all_of at (exprs_of ms)) and_members x.0 ms) n us ≡ reads grammar w d rules.conjunction ts
+    → run_on w d rules.and_operand (is k.And) (joined (λ ms. And at (exprs_of ms)) and_members x.0 ms) n us ≡ reads grammar w d rules.conjunction ts
 unfolding rules.conjunction
 start_conjunction w d n ts x us at ms e h a m j =
-    rw (a, m, j) (run_more w d rules.and_operand (is k.And) (joined (λ ms. all_of (next_at us) (exprs_of ms)) and_members x.0 (and_members x.1)) (and_of x) w us h
-    (λ y vs ys r. ap (λ n. (x.0, all_of n (exprs_of (and_members x.1 ++ flat_map and_members (map (λ z. z.1.1) (y ∷ ys)))))) (sym (next_and_operand w d us y vs r)))
+    rw (a, m, j) (run_more w d rules.and_operand (is k.And) (joined (λ ms. And (next_at us) (exprs_of ms)) and_members x.0 (and_members x.1)) (and_of x) w us h
+    (λ y vs ys r. ap (λ n. (x.0, And n (exprs_of (and_members x.1 ++ flat_map and_members (map (λ z. z.1.1) (y ∷ ys)))))) (sym (next_and_operand w d us y vs r)))
     ∙ rw (← begins_and_operand) (run_start grammar w d (λ x ys. and_of x ys) rules.negation true rules.and_operand ts x us e))
 
 pub conjunction-returns-in_err-start : goal.conjunction-returns-in_err-start
@@ -174,25 +174,25 @@ conjunction-loop-init g t c = start_conjunction c.args.reader.run_limit c.args.r
     c.in_ok-start.ensures (cc) c.next_offset-offset.ensures c.in_ok-members.ensures (omega arith)
 
 pub conjunction-returns-then-not-sees-2 : goal.conjunction-returns-then-not-sees-2
-conjunction-returns-then-not-sees-2 g t c = run_stop c.args.reader.run_limit c.args.reader.depth_limit rules.and_operand (is k.And) (joined (λ ms. all_of c.next_offset-offset.result (exprs_of ms)) and_members c.in_ok-start.start (map (λ e. expr_of e) c.loop.members.items)) _ _ (map word_of c.loop.rest.now) c.loop.invariant (cc) ∙ ap (λ (p : Located). let o : Outcome Word Located = Ok (p, map word_of c.loop.rest.now) in o) (and_made c.in_ok-start.start c.next_offset-offset.result c.loop.members)
+conjunction-returns-then-not-sees-2 g t c = run_stop c.args.reader.run_limit c.args.reader.depth_limit rules.and_operand (is k.And) (joined (λ ms. And c.next_offset-offset.result (exprs_of ms)) and_members c.in_ok-start.start (map (λ e. expr_of e) c.loop.members.items)) _ _ (map word_of c.loop.rest.now) c.loop.invariant (cc) ∙ ap (λ (p : Located). let o : Outcome Word Located = Ok (p, map word_of c.loop.rest.now) in o) (and_made c.in_ok-start.start c.next_offset-offset.result c.loop.members)
 
 pub conjunction-returns : goal.conjunction-returns
-conjunction-returns g t c = run_stop c.args.reader.run_limit c.args.reader.depth_limit rules.and_operand (is k.And) (joined (λ ms. all_of c.next_offset-offset.result (exprs_of ms)) and_members c.in_ok-start.start (map (λ e. expr_of e) c.loop.members.items)) _ _ (map word_of c.loop.rest.now) c.loop.invariant (cc) ∙ ap (λ (p : Located). let o : Outcome Word Located = Ok (p, map word_of c.loop.rest.now) in o) (and_made c.in_ok-start.start c.next_offset-offset.result c.loop.members)
+conjunction-returns g t c = run_stop c.args.reader.run_limit c.args.reader.depth_limit rules.and_operand (is k.And) (joined (λ ms. And c.next_offset-offset.result (exprs_of ms)) and_members c.in_ok-start.start (map (λ e. expr_of e) c.loop.members.items)) _ _ (map word_of c.loop.rest.now) c.loop.invariant (cc) ∙ ap (λ (p : Located). let o : Outcome Word Located = Ok (p, map word_of c.loop.rest.now) in o) (and_made c.in_ok-start.start c.next_offset-offset.result c.loop.members)
 
 pub conjunction-returns-then-sees : goal.conjunction-returns-then-sees
-conjunction-returns-then-sees g t c = rw (← length-map c.loop.rest.now word_of) (run_full c.args.reader.run_limit c.args.reader.depth_limit rules.and_operand (is k.And) (joined (λ ms. all_of c.next_offset-offset.result (exprs_of ms)) and_members c.in_ok-start.start (map (λ e. expr_of e) c.loop.members.items)) _ _ (map word_of c.loop.rest.now) c.loop.invariant (omega arith) (cc))
+conjunction-returns-then-sees g t c = rw (← length-map c.loop.rest.now word_of) (run_full c.args.reader.run_limit c.args.reader.depth_limit rules.and_operand (is k.And) (joined (λ ms. And c.next_offset-offset.result (exprs_of ms)) and_members c.in_ok-start.start (map (λ e. expr_of e) c.loop.members.items)) _ _ (map word_of c.loop.rest.now) c.loop.invariant (omega arith) (cc))
 
 pub conjunction-returns-in_err-next : goal.conjunction-returns-in_err-next
 conjunction-returns-in_err-next g t c =
     let p = err_from_is_err_and c.from_residual-in_err-next.result c.from_residual-in_err-next.ensures.1 in
-    rw (p.1, p.2) (run_fail c.args.reader.run_limit c.args.reader.depth_limit rules.and_operand (is k.And) (joined (λ ms. all_of c.next_offset-offset.result (exprs_of ms)) and_members c.in_ok-start.start (map (λ e. expr_of e) c.loop.members.items)) _ _ (map word_of c.loop.rest.now) c.loop.invariant _ (omega arith) (cc) c.in_err-next.ensures)
+    rw (p.1, p.2) (run_fail c.args.reader.run_limit c.args.reader.depth_limit rules.and_operand (is k.And) (joined (λ ms. And c.next_offset-offset.result (exprs_of ms)) and_members c.in_ok-start.start (map (λ e. expr_of e) c.loop.members.items)) _ _ (map word_of c.loop.rest.now) c.loop.invariant _ (omega arith) (cc) c.in_err-next.ensures)
 
 pub conjunction-loop-preserved : goal.conjunction-loop-preserved
 conjunction-loop-preserved g t c =
-    run_go c.args.reader.run_limit c.args.reader.depth_limit rules.and_operand (is k.And) (joined (λ ms. all_of c.next_offset-offset.result (exprs_of ms)) and_members c.in_ok-start.start (map (λ e. expr_of e) c.loop.members.items)) _ _ (map word_of c.loop.rest.now) c.loop.invariant
+    run_go c.args.reader.run_limit c.args.reader.depth_limit rules.and_operand (is k.And) (joined (λ ms. And c.next_offset-offset.result (exprs_of ms)) and_members c.in_ok-start.start (map (λ e. expr_of e) c.loop.members.items)) _ _ (map word_of c.loop.rest.now) c.loop.invariant
     (word_of c.in_ok-next.field-0-0-0, (c.in_ok-next.field-0-0-1-0, expr_of c.in_ok-next.next)) (map word_of c.in_ok-next.after.now) _ _ (omega arith) (cc) c.in_ok-next.ensures
-    (λ xs. joined_go (λ ms. all_of c.next_offset-offset.result (exprs_of ms)) and_members c.in_ok-start.start (map (λ e. expr_of e) c.loop.members.items) (word_of c.in_ok-next.field-0-0-0, (c.in_ok-next.field-0-0-1-0, expr_of c.in_ok-next.next)) xs
-    ∙ ap (λ l. joined (λ ms. all_of c.next_offset-offset.result (exprs_of ms)) and_members c.in_ok-start.start l xs) (appended c.loop.members.items c.in_ok-more.more.items c.append.new.self.items _ c.in_ok-append.ensures.items c.in_ok-more.ensures))
+    (λ xs. joined_go (λ ms. And c.next_offset-offset.result (exprs_of ms)) and_members c.in_ok-start.start (map (λ e. expr_of e) c.loop.members.items) (word_of c.in_ok-next.field-0-0-0, (c.in_ok-next.field-0-0-1-0, expr_of c.in_ok-next.next)) xs
+    ∙ ap (λ l. joined (λ ms. And c.next_offset-offset.result (exprs_of ms)) and_members c.in_ok-start.start l xs) (appended c.loop.members.items c.in_ok-more.more.items c.append.new.self.items _ c.in_ok-append.ensures.items c.in_ok-more.ensures))
     (omega arith)
 
 -- ---- expression
@@ -212,11 +212,11 @@ alone_expression w d ts x us e n =
     (rw (← begins_or_operand) (run_start grammar w d (λ x ys. or_of x ys) rules.conjunction true rules.or_operand ts x us e)) n
 
 start_expression : (w d n : _) (ts : List Word) (x : Located) (us : List Word) (at : _) (ms : List Expr) → reads grammar w d rules.conjunction ts ≡ Ok (x, us) → head_in kind_of (is k.Or) us ≡ true → at ≡ next_at us → ms ≡ or_members x.1 → n ≡ w
-    → run_on w d rules.or_operand (is k.Or) (joined (λ ms. any_of at (exprs_of ms)) or_members x.0 ms) n us ≡ reads grammar w d rules.expression ts
+    → run_on w d rules.or_operand (is k.Or) (joined (λ ms. Or at (exprs_of ms)) or_members x.0 ms) n us ≡ reads grammar w d rules.expression ts
 unfolding rules.expression
 start_expression w d n ts x us at ms e h a m j =
-    rw (a, m, j) (run_more w d rules.or_operand (is k.Or) (joined (λ ms. any_of (next_at us) (exprs_of ms)) or_members x.0 (or_members x.1)) (or_of x) w us h
-    (λ y vs ys r. ap (λ n. (x.0, any_of n (exprs_of (or_members x.1 ++ flat_map or_members (map (λ z. z.1.1) (y ∷ ys)))))) (sym (next_or_operand w d us y vs r)))
+    rw (a, m, j) (run_more w d rules.or_operand (is k.Or) (joined (λ ms. Or (next_at us) (exprs_of ms)) or_members x.0 (or_members x.1)) (or_of x) w us h
+    (λ y vs ys r. ap (λ n. (x.0, Or n (exprs_of (or_members x.1 ++ flat_map or_members (map (λ z. z.1.1) (y ∷ ys)))))) (sym (next_or_operand w d us y vs r)))
     ∙ rw (← begins_or_operand) (run_start grammar w d (λ x ys. or_of x ys) rules.conjunction true rules.or_operand ts x us e))
 
 pub expression-returns-in_err-start : goal.expression-returns-in_err-start
@@ -234,25 +234,25 @@ expression-loop-init g t c = start_expression c.args.reader.run_limit c.args.rea
     c.in_ok-start.ensures (cc) c.next_offset-offset.ensures c.in_ok-members.ensures (omega arith)
 
 pub expression-returns-then-not-sees-2 : goal.expression-returns-then-not-sees-2
-expression-returns-then-not-sees-2 g t c = run_stop c.args.reader.run_limit c.args.reader.depth_limit rules.or_operand (is k.Or) (joined (λ ms. any_of c.next_offset-offset.result (exprs_of ms)) or_members c.in_ok-start.start (map (λ e. expr_of e) c.loop.members.items)) _ _ (map word_of c.loop.rest.now) c.loop.invariant (cc) ∙ ap (λ (p : Located). let o : Outcome Word Located = Ok (p, map word_of c.loop.rest.now) in o) (or_made c.in_ok-start.start c.next_offset-offset.result c.loop.members)
+expression-returns-then-not-sees-2 g t c = run_stop c.args.reader.run_limit c.args.reader.depth_limit rules.or_operand (is k.Or) (joined (λ ms. Or c.next_offset-offset.result (exprs_of ms)) or_members c.in_ok-start.start (map (λ e. expr_of e) c.loop.members.items)) _ _ (map word_of c.loop.rest.now) c.loop.invariant (cc) ∙ ap (λ (p : Located). let o : Outcome Word Located = Ok (p, map word_of c.loop.rest.now) in o) (or_made c.in_ok-start.start c.next_offset-offset.result c.loop.members)
 
 pub expression-returns : goal.expression-returns
-expression-returns g t c = run_stop c.args.reader.run_limit c.args.reader.depth_limit rules.or_operand (is k.Or) (joined (λ ms. any_of c.next_offset-offset.result (exprs_of ms)) or_members c.in_ok-start.start (map (λ e. expr_of e) c.loop.members.items)) _ _ (map word_of c.loop.rest.now) c.loop.invariant (cc) ∙ ap (λ (p : Located). let o : Outcome Word Located = Ok (p, map word_of c.loop.rest.now) in o) (or_made c.in_ok-start.start c.next_offset-offset.result c.loop.members)
+expression-returns g t c = run_stop c.args.reader.run_limit c.args.reader.depth_limit rules.or_operand (is k.Or) (joined (λ ms. Or c.next_offset-offset.result (exprs_of ms)) or_members c.in_ok-start.start (map (λ e. expr_of e) c.loop.members.items)) _ _ (map word_of c.loop.rest.now) c.loop.invariant (cc) ∙ ap (λ (p : Located). let o : Outcome Word Located = Ok (p, map word_of c.loop.rest.now) in o) (or_made c.in_ok-start.start c.next_offset-offset.result c.loop.members)
 
 pub expression-returns-then-sees : goal.expression-returns-then-sees
-expression-returns-then-sees g t c = rw (← length-map c.loop.rest.now word_of) (run_full c.args.reader.run_limit c.args.reader.depth_limit rules.or_operand (is k.Or) (joined (λ ms. any_of c.next_offset-offset.result (exprs_of ms)) or_members c.in_ok-start.start (map (λ e. expr_of e) c.loop.members.items)) _ _ (map word_of c.loop.rest.now) c.loop.invariant (omega arith) (cc))
+expression-returns-then-sees g t c = rw (← length-map c.loop.rest.now word_of) (run_full c.args.reader.run_limit c.args.reader.depth_limit rules.or_operand (is k.Or) (joined (λ ms. Or c.next_offset-offset.result (exprs_of ms)) or_members c.in_ok-start.start (map (λ e. expr_of e) c.loop.members.items)) _ _ (map word_of c.loop.rest.now) c.loop.invariant (omega arith) (cc))
 
 pub expression-returns-in_err-next : goal.expression-returns-in_err-next
 expression-returns-in_err-next g t c =
     let p = err_from_is_err_and c.from_residual-in_err-next.result c.from_residual-in_err-next.ensures.1 in
-    rw (p.1, p.2) (run_fail c.args.reader.run_limit c.args.reader.depth_limit rules.or_operand (is k.Or) (joined (λ ms. any_of c.next_offset-offset.result (exprs_of ms)) or_members c.in_ok-start.start (map (λ e. expr_of e) c.loop.members.items)) _ _ (map word_of c.loop.rest.now) c.loop.invariant _ (omega arith) (cc) c.in_err-next.ensures)
+    rw (p.1, p.2) (run_fail c.args.reader.run_limit c.args.reader.depth_limit rules.or_operand (is k.Or) (joined (λ ms. Or c.next_offset-offset.result (exprs_of ms)) or_members c.in_ok-start.start (map (λ e. expr_of e) c.loop.members.items)) _ _ (map word_of c.loop.rest.now) c.loop.invariant _ (omega arith) (cc) c.in_err-next.ensures)
 
 pub expression-loop-preserved : goal.expression-loop-preserved
 expression-loop-preserved g t c =
-    run_go c.args.reader.run_limit c.args.reader.depth_limit rules.or_operand (is k.Or) (joined (λ ms. any_of c.next_offset-offset.result (exprs_of ms)) or_members c.in_ok-start.start (map (λ e. expr_of e) c.loop.members.items)) _ _ (map word_of c.loop.rest.now) c.loop.invariant
+    run_go c.args.reader.run_limit c.args.reader.depth_limit rules.or_operand (is k.Or) (joined (λ ms. Or c.next_offset-offset.result (exprs_of ms)) or_members c.in_ok-start.start (map (λ e. expr_of e) c.loop.members.items)) _ _ (map word_of c.loop.rest.now) c.loop.invariant
     (word_of c.in_ok-next.field-0-0-0, (c.in_ok-next.field-0-0-1-0, expr_of c.in_ok-next.next)) (map word_of c.in_ok-next.after.now) _ _ (omega arith) (cc) c.in_ok-next.ensures
-    (λ xs. joined_go (λ ms. any_of c.next_offset-offset.result (exprs_of ms)) or_members c.in_ok-start.start (map (λ e. expr_of e) c.loop.members.items) (word_of c.in_ok-next.field-0-0-0, (c.in_ok-next.field-0-0-1-0, expr_of c.in_ok-next.next)) xs
-    ∙ ap (λ l. joined (λ ms. any_of c.next_offset-offset.result (exprs_of ms)) or_members c.in_ok-start.start l xs) (appended c.loop.members.items c.in_ok-more.more.items c.append.new.self.items _ c.in_ok-append.ensures.items c.in_ok-more.ensures))
+    (λ xs. joined_go (λ ms. Or c.next_offset-offset.result (exprs_of ms)) or_members c.in_ok-start.start (map (λ e. expr_of e) c.loop.members.items) (word_of c.in_ok-next.field-0-0-0, (c.in_ok-next.field-0-0-1-0, expr_of c.in_ok-next.next)) xs
+    ∙ ap (λ l. joined (λ ms. Or c.next_offset-offset.result (exprs_of ms)) or_members c.in_ok-start.start l xs) (appended c.loop.members.items c.in_ok-more.more.items c.append.new.self.items _ c.in_ok-append.ensures.items c.in_ok-more.ensures))
     (omega arith)
 
 -- ---- CASE
@@ -262,12 +262,12 @@ module _ (w d : _) (ts : List Word) (u : Word) (us : List Word) (opened : opened
   unfolding rules.case
   case_no_other stop r = rw opened (rw arms (rw r refl))
 
-  module _ (o : Other) (xs : List Word) (otherwise : reads grammar w d rules.otherwise vs ≡ Ok (o, xs)) where
+  module _ (o : Otherwise) (xs : List Word) (otherwise : reads grammar w d rules.otherwise vs ≡ Ok (o, xs)) where
     case_no_end : (stop : ReadError) → word_at kind_of (is k.End) xs ≡ Err stop → reads grammar w d rules.case ts ≡ Err stop
     unfolding rules.case
     case_no_end stop r = rw opened (rw arms (rw otherwise (rw r refl)))
 
-    case_read : (v : Word) (ys : List Word) → word_at kind_of (is k.End) xs ≡ Ok (v, ys) → reads grammar w d rules.case ts ≡ Ok ((u.at, choice u.at (arms_of as_) o), ys)
+    case_read : (v : Word) (ys : List Word) → word_at kind_of (is k.End) xs ≡ Ok (v, ys) → reads grammar w d rules.case ts ≡ Ok ((u.at, Case u.at (arms_of as_) o), ys)
     unfolding rules.case
     case_read v ys r = rw opened (rw arms (rw otherwise (rw r refl)))
 

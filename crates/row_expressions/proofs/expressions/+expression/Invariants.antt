@@ -2,7 +2,7 @@ use Rattle.std.proofs.Common.{◌≡◌, ◌+◌, ◌-◌, ◌*◌, map}
 use Rattle.row_grammar.specs.Limits.{reads}
 use Rattle.row_tokens.specs.declared.token.TokenKind.TheVariants as k
 use Rattle.row_tokens.specs.View.{word_of}
-use Rattle.row_ast.specs.Ast.{all_of, any_of, exprs_of, and_members, or_members}
+use Rattle.row_ast.specs.Ast.{And, Or, exprs_of, and_members, or_members}
 use Rattle.row_reader.specs.Language.{is, of}
 use Rattle.row_reader.specs.declared.reader.Class.TheVariants as c
 use Rattle.row_reader.specs.Expressions as rules
@@ -113,10 +113,10 @@ abbrev pub invariant-sum-loop : goal.invariant-sum-loop
 invariant-sum-loop g l = run_on l.reader.run_limit l.reader.depth_limit rules.addend (of c.Addition) (folded_left (located l.left)) (l.reader.run_limit - l.counter) (map word_of l.rest) ≡ reads grammar l.reader.run_limit l.reader.depth_limit rules.sum (map word_of l.tokens)
 
 abbrev pub invariant-conjunction-loop : goal.invariant-conjunction-loop
-invariant-conjunction-loop g l = run_on l.reader.run_limit l.reader.depth_limit rules.and_operand (is k.And) (joined (λ ms. all_of l.offset (exprs_of ms)) and_members l.start (map (λ e. expr_of e) l.members.items)) (l.reader.run_limit - l.counter) (map word_of l.rest) ≡ reads grammar l.reader.run_limit l.reader.depth_limit rules.conjunction (map word_of l.tokens)
+invariant-conjunction-loop g l = run_on l.reader.run_limit l.reader.depth_limit rules.and_operand (is k.And) (joined (λ ms. And l.offset (exprs_of ms)) and_members l.start (map (λ e. expr_of e) l.members.items)) (l.reader.run_limit - l.counter) (map word_of l.rest) ≡ reads grammar l.reader.run_limit l.reader.depth_limit rules.conjunction (map word_of l.tokens)
 
 abbrev pub invariant-expression-loop : goal.invariant-expression-loop
-invariant-expression-loop g l = run_on l.reader.run_limit l.reader.depth_limit rules.or_operand (is k.Or) (joined (λ ms. any_of l.offset (exprs_of ms)) or_members l.start (map (λ e. expr_of e) l.members.items)) (l.reader.run_limit - l.counter) (map word_of l.rest) ≡ reads grammar l.reader.run_limit l.reader.depth_limit rules.expression (map word_of l.tokens)
+invariant-expression-loop g l = run_on l.reader.run_limit l.reader.depth_limit rules.or_operand (is k.Or) (joined (λ ms. Or l.offset (exprs_of ms)) or_members l.start (map (λ e. expr_of e) l.members.items)) (l.reader.run_limit - l.counter) (map word_of l.rest) ≡ reads grammar l.reader.run_limit l.reader.depth_limit rules.expression (map word_of l.tokens)
 
 abbrev pub invariant-arms-loop : goal.invariant-arms-loop
 invariant-arms-loop g l = listed l.reader.run_limit l.reader.depth_limit (λ a. arm_pair a) rules.arm (is k.When) l.all.items (l.most - l.counter) (map word_of l.rest) ≡ reads grammar l.reader.run_limit l.reader.depth_limit rules.arms (map word_of l.tokens)
