@@ -7,7 +7,9 @@ use Rattle.csv.specs.Reading.{Ready, has_failed, source_of, records, records_fro
 use Rattle.csv.specs.declared.parser.State.{State}
 use Rattle.csv.specs.declared.reader.Trim.TheVariants as trim
 use Rattle.csv_records.specs.declared.RecordError.{RecordError}
-use Rattle.csv_records.specs.declared.RecordError.TheVariants.{Uneven, Failed, OutOfMemory}
+use Rattle.csv_records.specs.declared.RecordError.TheVariants.{Uneven, Failed}
+use Rattle.memory.specs.declared.failure.Failure.{Failure}
+use Rattle.memory.specs.declared.failure.Failure.TheVariants.{Fault, OutOfMemory}
 use Rattle.csv_records.specs.declared.Records.TheInside.{Inside}
 
 -- the records of a text; a byte order mark at its start is no part of them
@@ -20,7 +22,7 @@ pub record Left : Type 0 where
   pub records : Option (List (List (List ℕ)))
   pub expected : Option ℕ
   pub given : ℕ
-  pub failure : Option RecordError
+  pub failure : Option (Failure RecordError)
 
 -- the records of a text that is read from a state on
 abbrev pub records_after : State → List ℕ → List (List (List ℕ))
@@ -39,18 +41,18 @@ abbrev pub KeepsFailure : {R : Type 0} → Inside R → Type 0
 KeepsFailure a = MatchOption a.failure ((has_failed a.inner ≡ false) × IsPlain a.inner) (λ why. has_failed a.inner ≡ true)
 
 -- why a read failed: out of memory, or else the reader underneath
-abbrev pub reason_of : ErrorKind → RecordError
+abbrev pub reason_of : ErrorKind → Failure RecordError
 reason_of kind.OutOfMemory = OutOfMemory
-reason_of (kind.Io e) = Failed
-reason_of (kind.UnequalLengths pos expected len) = Failed
-reason_of (kind.Utf8 pos err) = Failed
-reason_of (kind.Serialize text) = Failed
-reason_of (kind.Deserialize pos err) = Failed
+reason_of (kind.Io e) = Fault Failed
+reason_of (kind.UnequalLengths pos expected len) = Fault Failed
+reason_of (kind.Utf8 pos err) = Fault Failed
+reason_of (kind.Serialize text) = Fault Failed
+reason_of (kind.Deserialize pos err) = Fault Failed
 
 -- the failure that is kept after an error: a record of another length is none
-abbrev pub failure_after : RecordError → Option RecordError
-failure_after Uneven = None
-failure_after Failed = Some Failed
+abbrev pub failure_after : Failure RecordError → Option (Failure RecordError)
+failure_after (Fault Uneven) = None
+failure_after (Fault Failed) = Some (Fault Failed)
 failure_after OutOfMemory = Some OutOfMemory
 
 -- the number of fields is the expected one, if one is
@@ -58,14 +60,14 @@ abbrev pub Fits_length : Option ℕ → ℕ → Type 0
 Fits_length expected n = IfSome expected (λ e. n ≡ e)
 
 -- a read took the first of the records, or found that there is none
-abbrev pub GivesOf : Option (List (List (List ℕ))) → Option (List (List (List ℕ))) → Bool → List (List ℕ) → Type 0
-GivesOf None after found fields = ⊤
-GivesOf (Some []) after found fields = found ≡ false
-GivesOf (Some (r ∷ rs)) after found fields = (found ≡ true) × (fields ≡ r) × (after ≡ Some rs)
+abbrev pub TakesFirst : Option (List (List (List ℕ))) → Option (List (List (List ℕ))) → Bool → List (List ℕ) → Type 0
+TakesFirst None after found fields = ⊤
+TakesFirst (Some []) after found fields = found ≡ false
+TakesFirst (Some (r ∷ rs)) after found fields = (found ≡ true) × (fields ≡ r) × (after ≡ Some rs)
 
 -- the same, and the record has the expected number of fields, which the later ones must have too
-abbrev pub Gives : Left → Left → Bool → List (List ℕ) → Type 0
-Gives old new found fields = GivesOf old.records new.records found fields
+abbrev pub TakesNext : Left → Left → Bool → List (List ℕ) → Type 0
+TakesNext old new found fields = TakesFirst old.records new.records found fields
     × (found ≡ true → Fits_length old.expected (length fields) × (new.expected ≡ Some (length fields)))
 
 -- how many records were given, after a read that gave one or found none; it stays at the greatest number of 64 bits

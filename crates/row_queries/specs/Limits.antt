@@ -1,9 +1,9 @@
 -- How large a query may be.
 use Rattle.std.specs.Prelude.{ℕ, ◌+◌, Bool, ◌&&◌, nat_le, List, length, map, Option, Some, None}
 use Rattle.std.specs.List.{sum}
-use Rattle.row_ast.specs.Ast.{and_members, Condition, SelectList, every_column, items, Join, inner_join, cross_join, FromItem, Query}
+use Rattle.row_ast.specs.Ast.{and_members, Condition, SelectList, All, Items, Join, Inner, Cross, FromItem, Query}
 
--- how many entries FROM may have
+-- how many tables FROM may have
 abbrev pub most_entries : ℕ
 most_entries = 8
 
@@ -19,21 +19,21 @@ most_items = 64
 abbrev pub most_groups : ℕ
 most_groups = 64
 
--- how many sort_keys ORDER BY may have
+-- how many keys ORDER BY may have
 abbrev pub most_keys : ℕ
 most_keys = 64
 
--- the entries of FROM
+-- the tables of FROM
 abbrev pub entries : List FromItem → ℕ
-entries chains = sum (map (λ c. 1 + length c.joins) chains)
+entries items = sum (map (λ c. 1 + length c.joins) items)
 
 -- the conjuncts of a condition: the members of an AND, or itself
 abbrev pub members : Condition → ℕ
-members c = length (and_members c.holds)
+members c = length (and_members c.predicate)
 
 abbrev pub join_members : Join → ℕ
-join_members (inner_join e on_) = members on_
-join_members (cross_join e) = 0
+join_members (Inner table on_) = members on_
+join_members (Cross table) = 0
 
 abbrev pub filter_members : Option Condition → ℕ
 filter_members None = 0
@@ -41,15 +41,15 @@ filter_members (Some c) = members c
 
 -- the conjuncts of all ON conditions
 abbrev pub from_members : List FromItem → ℕ
-from_members chains = sum (map (λ c. sum (map join_members c.joins)) chains)
+from_members items = sum (map (λ c. sum (map join_members c.joins)) items)
 
 -- those of ON and WHERE together
 abbrev pub conjuncts : Query → ℕ
 conjuncts q = from_members q.from + filter_members q.filter
 
 abbrev pub item_count : SelectList → ℕ
-item_count (every_column at) = 0
-item_count (items list) = length list
+item_count (All offset) = 0
+item_count (Items list) = length list
 
 -- FROM and the conditions
 abbrev pub within_joined : Query → Bool
@@ -60,7 +60,7 @@ within_lists q = nat_le (length q.group_by) most_groups && nat_le (length q.orde
 
 -- the items, and the columns of GROUP BY and ORDER BY
 abbrev pub within_columns : Query → Bool
-within_columns q = nat_le (item_count q.select_list) most_items && within_lists q
+within_columns q = nat_le (item_count q.select) most_items && within_lists q
 
 abbrev pub is_small : Query → Bool
 is_small q = within_joined q && within_columns q

@@ -3,15 +3,16 @@ use Rattle.std.specs.Prelude.{ℕ, Bool, true, false, List, [], Option, Some}
 use Rattle.row_grammar.specs.Grammar.{word, nothing, both, either, made, many}
 use Rattle.row_tokens.specs.declared.token.TokenKind.TheVariants as k
 use Rattle.row_tokens.specs.Words.{Word}
-use Rattle.row_ast.specs.Ast.{Name, ColumnRef, Condition, SelectItem, SelectList, every_column, items as items_of, TableRef, Join, inner_join, cross_join, FromItem, SortTarget, heading, place, SortKey, Query}
+use Rattle.row_ast.specs.Ast as ast
+use Rattle.row_ast.specs.Ast.{Name, ColumnRef, Condition, SelectItem, SelectList, TableRef, Join, FromItem, SortTarget, SortKey, Query}
 use Rattle.row_reader.specs.Language.{Rule, is, of, maybe, after, listed, name_of}
 use Rattle.row_reader.specs.Expressions.{name, columns, expression}
 use Rattle.row_reader.specs.declared.reader.Class.TheVariants as c
 
 -- ---- trees
 
-abbrev pub table_ref_of : Word → Option Name → TableRef
-table_ref_of w alias = record { table = name_of w; alias = alias; at = w.at }
+abbrev pub table_ref_at : Word → Option Name → TableRef
+table_ref_at w alias = record { table = name_of w; alias = alias; offset = w.at }
 
 -- what follows FROM
 pub record Clauses : Type 0 where
@@ -21,13 +22,13 @@ pub record Clauses : Type 0 where
   pub order_by : List SortKey
   pub limit : Option ℕ
 
-abbrev pub question : SelectList → List FromItem → Clauses → Query
-question s chains rest = record { select_list = s; from = chains; filter = rest.filter; group_by = rest.group_by; having = rest.having; order_by = rest.order_by; limit = rest.limit }
+abbrev pub query_with : SelectList → List FromItem → Clauses → Query
+query_with s items rest = record { select = s; from = items; filter = rest.filter; group_by = rest.group_by; having = rest.having; order_by = rest.order_by; limit = rest.limit }
 
 -- ---- items
 
 unfoldable pub condition : Rule Condition
-condition = made (λ p. record { at = p.0; holds = p.1 }) expression
+condition = made (λ p. record { predicate = p.1; offset = p.0 }) expression
 
 -- [AS name]
 unfoldable pub select_alias : Rule (Option Name)
@@ -45,7 +46,7 @@ select_items = listed select_item next_select_item
 
 -- items := * | select_item {, select_item}
 unfoldable pub select_list : Rule SelectList
-select_list = either (made (λ w. every_column w.at) (word (is k.Star))) (made items_of select_items)
+select_list = either (made (λ w. ast.All w.at) (word (is k.Star))) (made ast.Items select_items)
 
 -- ---- FROM
 
@@ -55,15 +56,19 @@ table_alias = either (made Some (after (is k.As) name)) (maybe name)
 
 -- table_ref := name [[AS] name]
 unfoldable pub table_ref : Rule TableRef
-table_ref = made (λ p. table_ref_of p.0 p.1) (both (word (of c.Name)) table_alias)
+table_ref = made (λ p. table_ref_at p.0 p.1) (both (word (of c.Name)) table_alias)
+
+-- ON expr
+unfoldable pub on_condition : Rule Condition
+on_condition = after (is k.On) condition
 
 -- JOIN table_ref ON expr
 unfoldable pub plain_join : Rule Join
-plain_join = made (λ p. inner_join p.0 p.1) (after (is k.Join) (both table_ref (after (is k.On) condition)))
+plain_join = made (λ p. ast.Inner p.0 p.1) (after (is k.Join) (both table_ref on_condition))
 
 -- CROSS JOIN table_ref | [INNER] JOIN table_ref ON expr
 unfoldable pub join : Rule Join
-join = either (made cross_join (after (is k.Cross) (after (is k.Join) table_ref))) (either (after (is k.Inner) plain_join) plain_join)
+join = either (made ast.Cross (after (is k.Cross) (after (is k.Join) table_ref))) (either (after (is k.Inner) plain_join) plain_join)
 
 unfoldable pub join_list : Rule (List Join)
 join_list = many false join
@@ -93,7 +98,7 @@ having = maybe (after (is k.Having) condition)
 
 -- name | number
 unfoldable pub sort_target : Rule (ℕ × SortTarget)
-sort_target = either (made (λ w. (w.at, place w.number)) (word (is k.Number))) (made (λ w. (w.at, heading (name_of w))) (word (of c.Name)))
+sort_target = either (made (λ w. (w.at, ast.Place w.number)) (word (is k.Number))) (made (λ w. (w.at, ast.Heading (name_of w))) (word (of c.Name)))
 
 -- [ASC | DESC]
 unfoldable pub direction : Rule Bool
@@ -101,7 +106,7 @@ direction = either (made (λ w. true) (word (is k.Desc))) (either (made (λ w. f
 
 -- sort_key := (name | number) [ASC | DESC]
 unfoldable pub sort_key : Rule SortKey
-sort_key = made (λ p. record { sort_target = p.0.1; descending = p.1; at = p.0.0 }) (both sort_target direction)
+sort_key = made (λ p. record { target = p.0.1; descending = p.1; offset = p.0.0 }) (both sort_target direction)
 
 unfoldable pub next_sort_key : Rule SortKey
 next_sort_key = after (is k.Comma) sort_key
@@ -124,4 +129,4 @@ clauses = made (λ p. record { filter = p.0; group_by = p.1.0; having = p.1.1.0;
 
 -- query := SELECT items FROM from clauses
 unfoldable pub query : Rule Query
-query = made (λ p. question p.0 p.1.0 p.1.1) (after (is k.Select) (both select_list (after (is k.From) (both from clauses))))
+query = made (λ p. query_with p.0 p.1.0 p.1.1) (after (is k.Select) (both select_list (after (is k.From) (both from clauses))))

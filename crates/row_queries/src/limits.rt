@@ -4,13 +4,13 @@ ghost use Rattle.std.specs.Prelude.{◌≡◌, ◌≤◌, ◌-◌, nat_le, lengt
 ghost use Rattle.std.specs.List.{sum};
 ghost use Rattle.row_queries.specs.Limits as sizes;
 ghost use Rattle.row_queries.specs.Limits.{entries, join_members, filter_members, from_members, conjuncts, item_count, within_joined, within_lists, within_columns, most_entries, most_conjuncts, most_items};
-ghost use Rattle.row_ast.specs.Ast as tree;
+ghost use Rattle.row_ast.specs.Ast as ast;
 ghost use Rattle.row_ast.specs.View.{expr_of, condition_of, select_list_of, join_of, from_item_of, query_of};
 
-use crate::tree::{FromItem, Condition, Expr, Join, Query, SelectList};
 use memory::Heap;
+use row_ast::{Condition, Expr, FromItem, Join, Query, SelectList};
 
-// How many entries FROM may have.
+// How many tables FROM may have.
 const MOST_ENTRIES: usize = 8;
 
 // How many conjuncts ON and WHERE may have together.
@@ -22,30 +22,30 @@ const MOST_ITEMS: usize = 64;
 // How many columns GROUP BY may have.
 const MOST_GROUPS: usize = 64;
 
-// How many sort_keys ORDER BY may have.
+// How many keys ORDER BY may have.
 const MOST_KEYS: usize = 64;
 
 // How many conjuncts an expression is.
 fn members<A: Heap>(expr: &Expr<A>) -> usize
-    ensures { result ≡ length (tree.and_members (expr_of expr.now)) }
+    ensures { result ≡ length (ast.and_members (expr_of expr.now)) }
 {
     match expr {
-        Expr::And(_, members) => members.len(),
+        Expr::And { members, .. } => members.len(),
         Expr::Column(_)
         | Expr::Literal(_)
         | Expr::CurrentUser
-        | Expr::Opposite(..)
-        | Expr::Arithmetic(..)
-        | Expr::Comparison(..)
-        | Expr::Between(..)
-        | Expr::In(..)
-        | Expr::IsNull(..)
-        | Expr::Not(..)
-        | Expr::Or(..)
-        | Expr::Cast(..)
-        | Expr::Case(..)
-        | Expr::CountRows(_)
-        | Expr::Call(..) => 1,
+        | Expr::Negate { .. }
+        | Expr::Arithmetic { .. }
+        | Expr::Comparison { .. }
+        | Expr::Between { .. }
+        | Expr::In { .. }
+        | Expr::IsNull { .. }
+        | Expr::Not { .. }
+        | Expr::Or { .. }
+        | Expr::Cast { .. }
+        | Expr::Case { .. }
+        | Expr::CountStar { .. }
+        | Expr::Call { .. } => 1,
     }
 }
 
@@ -53,8 +53,8 @@ fn join_members<A: Heap>(join: &Join<A>) -> usize
     ensures { result ≡ join_members (join_of join.now) }
 {
     match join {
-        Join::Inner(_, condition) => members(&condition.holds),
-        Join::Cross(_) => 0,
+        Join::Inner { on, .. } => members(&on.predicate),
+        Join::Cross { .. } => 0,
     }
 }
 
@@ -62,7 +62,7 @@ fn filter_members<A: Heap>(filter: &Option<Condition<A>>) -> usize
     ensures { result ≡ filter_members (option_map (λ c. condition_of c) filter.now) }
 {
     match filter {
-        Some(condition) => members(&condition.holds),
+        Some(condition) => members(&condition.predicate),
         None => 0,
     }
 }
@@ -117,7 +117,7 @@ fn within_items<A: Heap>(select_list: &SelectList<A>) -> bool
 {
     match select_list {
         SelectList::Items(items) => items.len() <= MOST_ITEMS,
-        SelectList::All(_) => true,
+        SelectList::All { .. } => true,
     }
 }
 
@@ -136,11 +136,11 @@ fn within_lists<A: Heap>(query: &Query<A>) -> bool
 fn within_columns<A: Heap>(query: &Query<A>) -> bool
     ensures { result ≡ within_columns (query_of query.now) }
 {
-    within_items(&query.select_list) && within_lists(query)
+    within_items(&query.select) && within_lists(query)
 }
 
-/// Whether a query is within the limits: at most 8 entries of FROM, 64 conjuncts of ON and WHERE together, 64 items,
-/// 64 columns of GROUP BY and 64 sort_keys of ORDER BY.
+/// Whether a query is within the limits: at most 8 tables of FROM, 64 conjuncts of ON and WHERE together, 64 items,
+/// 64 columns of GROUP BY and 64 keys of ORDER BY.
 pub fn is_small<A: Heap>(query: &Query<A>) -> bool
     ensures { result ≡ sizes.is_small (query_of query.now) }
 {

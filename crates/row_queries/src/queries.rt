@@ -12,11 +12,14 @@ ghost use Rattle.row_reader.specs.Reading.{Parses};
 ghost use Rattle.row_ast.specs.View.{column_ref_of, condition_of, select_item_of, select_list_of, table_ref_of, join_of, from_item_of, sort_target_of, sort_key_of, query_of};
 ghost use Rattle.row_queries.specs.View.{clauses_of};
 
-use crate::expressions::expression;
-use crate::names::{columns, name};
-use crate::reader::{Class, Parsed, Reader, before, expect, expect_any, sees, sees_any};
-use crate::tree::{FromItem, ColumnRef, Condition, TableRef, SelectItem, Join, SortKey, Query, SelectList, SortTarget};
 use memory::Heap;
+use row_ast::{
+    ColumnRef, Condition, FromItem, Join, Query, SelectItem, SelectList, SortKey, SortTarget,
+    TableRef,
+};
+use row_expressions::expression;
+use row_reader::names::{columns, name};
+use row_reader::reader::{Class, Parsed, Reader, before, expect, expect_any, sees, sees_any};
 use row_tokens::{Token, TokenKind, folded};
 use text::{Items, Text};
 
@@ -30,13 +33,13 @@ struct Following<A: Heap> {
     limit: Option<u64>,
 }
 
-// An expression and where it begins.
+// An expression and where it starts.
 #[tactic(auto, unfolding(crate::specs::Queries::condition))]
 fn condition<'t, A: Heap>(reader: Reader<A>, tokens: &'t [Token<'t>]) -> Parsed<'t, Condition<A>>
     ensures { Parses (λ t. condition_of t) rules.condition reader tokens.now result }
 {
-    let ((offset, holds), rest) = expression(reader, tokens)?;
-    Ok((Condition { holds, offset }, rest))
+    let ((offset, predicate), rest) = expression(reader, tokens)?;
+    Ok((Condition { predicate, offset }, rest))
 }
 
 // `[AS name]`.
@@ -67,7 +70,10 @@ fn select_item<'t, A: Heap>(reader: Reader<A>, tokens: &'t [Token<'t>]) -> Parse
 
 // `, select_item`.
 #[tactic(auto, unfolding(crate::specs::Queries::next_select_item))]
-fn next_select_item<'t, A: Heap>(reader: Reader<A>, tokens: &'t [Token<'t>]) -> Parsed<'t, SelectItem<A>>
+fn next_select_item<'t, A: Heap>(
+    reader: Reader<A>,
+    tokens: &'t [Token<'t>],
+) -> Parsed<'t, SelectItem<A>>
     ensures { Parses (λ t. select_item_of t) rules.next_select_item reader tokens.now result }
 {
     let (_, rest) = expect(TokenKind::Comma, tokens)?;
@@ -103,7 +109,8 @@ fn select_list<'t, A: Heap>(reader: Reader<A>, tokens: &'t [Token<'t>]) -> Parse
 {
     if sees(TokenKind::Star, tokens) {
         let (word, rest) = expect(TokenKind::Star, tokens)?;
-        Ok((SelectList::All(word.offset), rest))
+        let offset = word.offset;
+        Ok((SelectList::All { offset }, rest))
     } else {
         let (items, rest) = select_items(reader, tokens)?;
         Ok((SelectList::Items(items), rest))
@@ -149,16 +156,24 @@ fn table_ref<'t, A: Heap>(reader: Reader<A>, tokens: &'t [Token<'t>]) -> Parsed<
     ))
 }
 
+// `ON expression`.
+#[tactic(auto, unfolding(crate::specs::Queries::on_condition))]
+fn on_condition<'t, A: Heap>(reader: Reader<A>, tokens: &'t [Token<'t>]) -> Parsed<'t, Condition<A>>
+    ensures { Parses (λ t. condition_of t) rules.on_condition reader tokens.now result }
+{
+    let (_, rest) = expect(TokenKind::On, tokens)?;
+    condition(reader, rest)
+}
+
 // `JOIN table_ref ON expression`.
 #[tactic(auto, unfolding(crate::specs::Queries::plain_join))]
 fn plain_join<'t, A: Heap>(reader: Reader<A>, tokens: &'t [Token<'t>]) -> Parsed<'t, Join<A>>
     ensures { Parses (λ t. join_of t) rules.plain_join reader tokens.now result }
 {
     let (_, rest) = expect(TokenKind::Join, tokens)?;
-    let (table_ref, rest) = table_ref(reader, rest)?;
-    let ((table_ref, _), rest) = before(table_ref, expect(TokenKind::On, rest))?;
-    let ((table_ref, condition), rest) = before(table_ref, condition(reader, rest))?;
-    Ok((Join::Inner(table_ref, condition), rest))
+    let (table, rest) = table_ref(reader, rest)?;
+    let (on, rest) = on_condition(reader, rest)?;
+    Ok((Join::Inner { table, on }, rest))
 }
 
 // `CROSS JOIN table_ref` or `[INNER] JOIN table_ref ON expression`.
@@ -169,8 +184,8 @@ fn join<'t, A: Heap>(reader: Reader<A>, tokens: &'t [Token<'t>]) -> Parsed<'t, J
     if sees(TokenKind::Cross, tokens) {
         let (_, rest) = expect(TokenKind::Cross, tokens)?;
         let (_, rest) = expect(TokenKind::Join, rest)?;
-        let (table_ref, rest) = table_ref(reader, rest)?;
-        Ok((Join::Cross(table_ref), rest))
+        let (table, rest) = table_ref(reader, rest)?;
+        Ok((Join::Cross { table }, rest))
     } else if sees(TokenKind::Inner, tokens) {
         let (_, rest) = expect(TokenKind::Inner, tokens)?;
         plain_join(reader, rest)
@@ -184,7 +199,9 @@ fn join<'t, A: Heap>(reader: Reader<A>, tokens: &'t [Token<'t>]) -> Parsed<'t, J
 fn sees_join(tokens: &[Token<'_>]) -> bool
     ensures { result ≡ head_in kind_of (first language nested_first rules.join) (words_of tokens.now) }
 {
-    sees(TokenKind::Cross, tokens) || sees(TokenKind::Inner, tokens) || sees(TokenKind::Join, tokens)
+    sees(TokenKind::Cross, tokens)
+        || sees(TokenKind::Inner, tokens)
+        || sees(TokenKind::Join, tokens)
 }
 
 // `{join}`.
@@ -220,7 +237,10 @@ fn from_item<'t, A: Heap>(reader: Reader<A>, tokens: &'t [Token<'t>]) -> Parsed<
 
 // `, from_item`.
 #[tactic(auto, unfolding(crate::specs::Queries::next_from_item))]
-fn next_from_item<'t, A: Heap>(reader: Reader<A>, tokens: &'t [Token<'t>]) -> Parsed<'t, FromItem<A>>
+fn next_from_item<'t, A: Heap>(
+    reader: Reader<A>,
+    tokens: &'t [Token<'t>],
+) -> Parsed<'t, FromItem<A>>
     ensures { Parses (λ t. from_item_of t) rules.next_from_item reader tokens.now result }
 {
     let (_, rest) = expect(TokenKind::Comma, tokens)?;
@@ -228,7 +248,10 @@ fn next_from_item<'t, A: Heap>(reader: Reader<A>, tokens: &'t [Token<'t>]) -> Pa
 }
 
 // `from_item {, from_item}`.
-fn from<'t, A: Heap>(reader: Reader<A>, tokens: &'t [Token<'t>]) -> Parsed<'t, Items<FromItem<A>, A>>
+fn from<'t, A: Heap>(
+    reader: Reader<A>,
+    tokens: &'t [Token<'t>],
+) -> Parsed<'t, Items<FromItem<A>, A>>
     ensures { Parses (λ t. map (λ c. from_item_of c) t) rules.from reader tokens.now result }
 {
     let (first, mut rest) = from_item(reader, tokens)?;
@@ -295,9 +318,12 @@ fn having<'t, A: Heap>(
     Ok((Some(condition), rest))
 }
 
-// A heading or a number, and where it stands.
+// A heading or a number, and its offset.
 #[tactic(auto, unfolding(crate::specs::Queries::sort_target))]
-fn sort_target<'t, A: Heap>(reader: Reader<A>, tokens: &'t [Token<'t>]) -> Parsed<'t, (u32, SortTarget<A>)>
+fn sort_target<'t, A: Heap>(
+    reader: Reader<A>,
+    tokens: &'t [Token<'t>],
+) -> Parsed<'t, (u32, SortTarget<A>)>
     ensures { Parses (λ t. (t.0, sort_target_of t.1)) rules.sort_target reader tokens.now result }
 {
     if sees(TokenKind::Number, tokens) {
@@ -331,11 +357,11 @@ fn direction<'t, A: Heap>(reader: Reader<A>, tokens: &'t [Token<'t>]) -> Parsed<
 fn sort_key<'t, A: Heap>(reader: Reader<A>, tokens: &'t [Token<'t>]) -> Parsed<'t, SortKey<A>>
     ensures { Parses (λ t. sort_key_of t) rules.sort_key reader tokens.now result }
 {
-    let ((offset, sort_target), rest) = sort_target(reader, tokens)?;
+    let ((offset, target), rest) = sort_target(reader, tokens)?;
     let (descending, rest) = direction(reader, rest)?;
     Ok((
         SortKey {
-            sort_target,
+            target,
             descending,
             offset,
         },
@@ -353,7 +379,10 @@ fn next_sort_key<'t, A: Heap>(reader: Reader<A>, tokens: &'t [Token<'t>]) -> Par
 }
 
 // `sort_key {, sort_key}`.
-fn sort_keys<'t, A: Heap>(reader: Reader<A>, tokens: &'t [Token<'t>]) -> Parsed<'t, Items<SortKey<A>, A>>
+fn sort_keys<'t, A: Heap>(
+    reader: Reader<A>,
+    tokens: &'t [Token<'t>],
+) -> Parsed<'t, Items<SortKey<A>, A>>
     ensures { Parses (λ t. map (λ k. sort_key_of k) t) rules.sort_keys reader tokens.now result }
 {
     let (first, mut rest) = sort_key(reader, tokens)?;
@@ -373,7 +402,10 @@ fn sort_keys<'t, A: Heap>(reader: Reader<A>, tokens: &'t [Token<'t>]) -> Parsed<
 
 // `[ORDER BY sort_keys]`.
 #[tactic(auto, unfolding(crate::specs::Queries::order_by))]
-fn order_by<'t, A: Heap>(reader: Reader<A>, tokens: &'t [Token<'t>]) -> Parsed<'t, Items<SortKey<A>, A>>
+fn order_by<'t, A: Heap>(
+    reader: Reader<A>,
+    tokens: &'t [Token<'t>],
+) -> Parsed<'t, Items<SortKey<A>, A>>
     ensures { Parses (λ t. map (λ k. sort_key_of k) t) rules.order_by reader tokens.now result }
 {
     if sees(TokenKind::Order, tokens) {
@@ -457,29 +489,29 @@ fn clauses<'t, A: Heap>(reader: Reader<A>, tokens: &'t [Token<'t>]) -> Parsed<'t
     Ok((following, rest))
 }
 
-// The chains of FROM and what follows.
-fn chains<'t, A: Heap>(
+// The items of FROM and what follows.
+fn from_clauses<'t, A: Heap>(
     reader: Reader<A>,
     tokens: &'t [Token<'t>],
 ) -> Parsed<'t, (Items<FromItem<A>, A>, Following<A>)>
     ensures { Parses (λ t. (map (λ c. from_item_of c) t.0, clauses_of t.1)) (both rules.from rules.clauses) reader tokens.now result }
 {
-    let (chains, rest) = from(reader, tokens)?;
+    let (items, rest) = from(reader, tokens)?;
     let (following, rest) = clauses(reader, rest)?;
-    Ok(((chains, following), rest))
+    Ok(((items, following), rest))
 }
 
-/// `SELECT items FROM chains` and what may follow.
+/// `SELECT list FROM items` and what may follow.
 #[tactic(auto, unfolding(crate::specs::Queries::query))]
 pub fn query<'t, A: Heap>(reader: Reader<A>, tokens: &'t [Token<'t>]) -> Parsed<'t, Query<A>>
     ensures { Parses (λ t. query_of t) rules.query reader tokens.now result }
 {
     let (_, rest) = expect(TokenKind::Select, tokens)?;
-    let (select_list, rest) = select_list(reader, rest)?;
+    let (select, rest) = select_list(reader, rest)?;
     let (_, rest) = expect(TokenKind::From, rest)?;
-    let ((from, following), rest) = chains(reader, rest)?;
+    let ((from, following), rest) = from_clauses(reader, rest)?;
     let query = Query {
-        select_list,
+        select,
         from,
         filter: following.filter,
         group_by: following.group_by,

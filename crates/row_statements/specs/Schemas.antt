@@ -5,7 +5,9 @@ use Rattle.row_tokens.specs.declared.token.TokenKind.TheVariants as k
 use Rattle.row_tokens.specs.Words.{Word}
 use Rattle.value.specs.declared.types.ColType.{ColType}
 use Rattle.value.specs.declared.types.ColType.TheVariants as types
-use Rattle.row_ast.specs.Ast.{Name, everyone, ColumnEntry, Grant, Statement, create_role, grant_role, revoke_role, create_table, set_owner, set_row_security, create_index, grant_select, revoke_select, create_policy, drop_policy}
+use Rattle.value.specs.Columns.{Column}
+use Rattle.row_ast.specs.Ast.{Name, everyone, Grant}
+use Rattle.row_ast.specs.Statements.{Statement, CreateRole, GrantRole, RevokeRole, CreateTable, SetOwner, SetRowSecurity, CreateIndex, GrantSelect, RevokeSelect, CreatePolicy, DropPolicy}
 use Rattle.row_reader.specs.Language.{an_expression, Located, Rule, is, maybe, after, enclosed, inside, listed}
 use Rattle.row_reader.specs.Expressions.{name, names, type_name}
 use Rattle.row_ast.specs.declared.statement.RowSecurity.{RowSecurity}
@@ -23,7 +25,7 @@ bypass_rls = either (made (λ w. true) (word (is k.Bypassrls))) (nothing false)
 
 -- ROLE n [SUPERUSER] [BYPASSRLS]
 unfoldable pub new_role : Rule Statement
-new_role = made (λ p. create_role p.0 p.1.0 p.1.1) (after (is k.Role) (both name (both superuser bypass_rls)))
+new_role = made (λ p. CreateRole p.0 p.1.0 p.1.1) (after (is k.Role) (both name (both superuser bypass_rls)))
 
 -- bigint | text | boolean
 unfoldable pub column_type : Rule ColType
@@ -34,22 +36,22 @@ unfoldable pub not_null : Rule Bool
 not_null = either (made (λ w. true) (after (is k.Not) (word (is k.Null)))) (nothing false)
 
 -- c type [NOT NULL]
-unfoldable pub column_def : Rule ColumnEntry
-column_def = made (λ p. record { name = p.0; kind = p.1.0; not_null = p.1.1 }) (both name (both column_type not_null))
+unfoldable pub column_def : Rule Column
+column_def = made (λ p. record { name = p.0; data_type = p.1.0; not_null = p.1.1 }) (both name (both column_type not_null))
 
-unfoldable pub next_column_def : Rule ColumnEntry
+unfoldable pub next_column_def : Rule Column
 next_column_def = after (is k.Comma) column_def
 
-unfoldable pub column_defs : Rule (List ColumnEntry)
+unfoldable pub column_defs : Rule (List Column)
 column_defs = listed column_def next_column_def
 
 -- TABLE t ( c type [NOT NULL], .. )
 unfoldable pub new_table : Rule Statement
-new_table = made (λ p. create_table p.0 p.1) (after (is k.Table) (both name (enclosed column_defs)))
+new_table = made (λ p. CreateTable p.0 p.1) (after (is k.Table) (both name (enclosed column_defs)))
 
 -- INDEX i ON t ( c )
 unfoldable pub new_index : Rule Statement
-new_index = made (λ p. create_index p.0 p.1.0 p.1.1) (after (is k.Index) (both name (after (is k.On) (both name (enclosed name)))))
+new_index = made (λ p. CreateIndex p.0 p.1.0 p.1.1) (after (is k.Index) (both name (after (is k.On) (both name (enclosed name)))))
 
 -- [AS PERMISSIVE | AS RESTRICTIVE]
 unfoldable pub strength : Rule Bool
@@ -75,7 +77,7 @@ using = after (is k.Using) (inside (inner an_expression))
 -- POLICY p ON t [AS ..] [FOR ..] [TO roles] USING ( expr )
 unfoldable pub new_policy : Rule Statement
 new_policy =
-    made (λ p. create_policy record { name = p.0; table = p.1.0; restrictive = p.1.1.0; roles = p.1.1.1.1.0; holds = p.1.1.1.1.1.1 })
+    made (λ p. CreatePolicy record { name = p.0; table = p.1.0; restrictive = p.1.1.0; roles = p.1.1.1.1.0; predicate = p.1.1.1.1.1.1 })
     (after (is k.Policy) (both name (after (is k.On) (both name (both strength (both command (both policy_roles using)))))))
 
 -- CREATE and a role, a table, an index or a policy
@@ -106,8 +108,8 @@ pub data Alteration : Type 0 where
   new_security : RowSecurity → Alteration
 
 abbrev pub altered : Name → Alteration → Statement
-altered table (new_owner role) = set_owner table role
-altered table (new_security to) = set_row_security table to
+altered table (new_owner role) = SetOwner table role
+altered table (new_security to) = SetRowSecurity table to
 
 -- ALTER TABLE t and a new owner, or row security
 unfoldable pub alter : Rule Statement
@@ -129,20 +131,20 @@ grant_to p roles = record { columns = p.0; table = p.1; roles = roles }
 -- GRANT SELECT .. TO roles | GRANT g TO m
 unfoldable pub grant : Rule Statement
 grant = after (is k.Grant) (either
-    (made (λ p. grant_select (grant_to p.0 p.1)) (both granted (after (is k.To) names)))
-    (made (λ p. grant_role p.0 p.1) (both name (after (is k.To) name))))
+    (made (λ p. GrantSelect (grant_to p.0 p.1)) (both granted (after (is k.To) names)))
+    (made (λ p. GrantRole p.0 p.1) (both name (after (is k.To) name))))
 
 -- REVOKE SELECT .. FROM roles | REVOKE g FROM m
 unfoldable pub revoke : Rule Statement
 revoke = after (is k.Revoke) (either
-    (made (λ p. revoke_select (grant_to p.0 p.1)) (both granted (after (is k.From) names)))
-    (made (λ p. revoke_role p.0 p.1) (both name (after (is k.From) name))))
+    (made (λ p. RevokeSelect (grant_to p.0 p.1)) (both granted (after (is k.From) names)))
+    (made (λ p. RevokeRole p.0 p.1) (both name (after (is k.From) name))))
 
 -- ---- DROP, and all of them
 
 -- DROP POLICY p ON t
 unfoldable pub drop : Rule Statement
-drop = made (λ p. drop_policy p.0 p.1) (after (is k.Drop) (after (is k.Policy) (both name (after (is k.On) name))))
+drop = made (λ p. DropPolicy p.0 p.1) (after (is k.Drop) (after (is k.Policy) (both name (after (is k.On) name))))
 
 unfoldable pub statement : Rule Statement
 statement = either create (either alter (either grant (either revoke drop)))

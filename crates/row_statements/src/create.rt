@@ -10,15 +10,14 @@ ghost use Rattle.row_ast.specs.View.{statement_of};
 ghost use Rattle.value.specs.Columns.{column_of};
 ghost use Rattle.row_expressions.specs.View.{located};
 
-use crate::expressions::inner_expression;
-use crate::names::{name, names, type_name};
-use crate::build::Located;
-use crate::reader::{Parsed, Reader, before, expect, open, sees};
-use crate::tree::{Column, CreatePolicy, Statement};
 use memory::Heap;
+use row_ast::{CreatePolicy, Statement};
+use row_expressions::{Located, inner_expression};
+use row_reader::names::{name, names, type_name};
+use row_reader::reader::{Parsed, Reader, before, expect, open, sees};
 use row_tokens::{Token, TokenKind};
 use text::{Items, Text};
-use value::ColType;
+use value::{ColType, Column};
 
 // `[SUPERUSER]`.
 #[tactic(auto, unfolding(crate::specs::Schemas::superuser))]
@@ -50,10 +49,15 @@ fn new_role<'t, A: Heap>(reader: Reader<A>, tokens: &'t [Token<'t>]) -> Parsed<'
     ensures { Parses (λ t. statement_of t) rules.new_role reader tokens.now result }
 {
     let (_, rest) = expect(TokenKind::Role, tokens)?;
-    let (role, rest) = name(reader, rest)?;
+    let (name, rest) = name(reader, rest)?;
     let (superuser, rest) = superuser(reader, rest)?;
     let (bypass_rls, rest) = bypass_rls(reader, rest)?;
-    Ok((Statement::CreateRole(role, superuser, bypass_rls), rest))
+    let role = Statement::CreateRole {
+        name,
+        superuser,
+        bypass_rls,
+    };
+    Ok((role, rest))
 }
 
 // `bigint`, `text` or `boolean`.
@@ -88,12 +92,12 @@ fn column_def<'t, A: Heap>(reader: Reader<A>, tokens: &'t [Token<'t>]) -> Parsed
     ensures { Parses (λ t. column_of t) rules.column_def reader tokens.now result }
 {
     let (name, rest) = name(reader, tokens)?;
-    let (kind, rest) = column_type(reader, rest)?;
+    let (data_type, rest) = column_type(reader, rest)?;
     let (not_null, rest) = not_null(reader, rest)?;
     Ok((
         Column {
             name,
-            kind,
+            data_type,
             not_null,
         },
         rest,
@@ -102,10 +106,7 @@ fn column_def<'t, A: Heap>(reader: Reader<A>, tokens: &'t [Token<'t>]) -> Parsed
 
 // `, name type [NOT NULL]`.
 #[tactic(auto, unfolding(crate::specs::Schemas::next_column_def))]
-fn next_column_def<'t, A: Heap>(
-    reader: Reader<A>,
-    tokens: &'t [Token<'t>],
-) -> Parsed<'t, Column<A>>
+fn next_column_def<'t, A: Heap>(reader: Reader<A>, tokens: &'t [Token<'t>]) -> Parsed<'t, Column<A>>
     ensures { Parses (λ t. column_of t) rules.next_column_def reader tokens.now result }
 {
     let (_, rest) = expect(TokenKind::Comma, tokens)?;
@@ -140,11 +141,11 @@ fn new_table<'t, A: Heap>(reader: Reader<A>, tokens: &'t [Token<'t>]) -> Parsed<
     ensures { Parses (λ t. statement_of t) rules.new_table reader tokens.now result }
 {
     let (_, rest) = expect(TokenKind::Table, tokens)?;
-    let (table, rest) = name(reader, rest)?;
+    let (name, rest) = name(reader, rest)?;
     let (_, rest) = expect(TokenKind::Open, rest)?;
     let (columns, rest) = column_defs(reader, rest)?;
     let (_, rest) = expect(TokenKind::Close, rest)?;
-    Ok((Statement::CreateTable(table, columns), rest))
+    Ok((Statement::CreateTable { name, columns }, rest))
 }
 
 // `INDEX name ON table ( column )`.
@@ -159,7 +160,12 @@ fn new_index<'t, A: Heap>(reader: Reader<A>, tokens: &'t [Token<'t>]) -> Parsed<
     let (_, rest) = expect(TokenKind::Open, rest)?;
     let (column, rest) = name(reader, rest)?;
     let (_, rest) = expect(TokenKind::Close, rest)?;
-    Ok((Statement::CreateIndex(index, table, column), rest))
+    let index = Statement::CreateIndex {
+        name: index,
+        table,
+        column,
+    };
+    Ok((index, rest))
 }
 
 // `[AS PERMISSIVE | AS RESTRICTIVE]`; whether restrictive.
@@ -240,13 +246,13 @@ fn new_policy<'t, A: Heap>(reader: Reader<A>, tokens: &'t [Token<'t>]) -> Parsed
     let (restrictive, rest) = strength(reader, rest)?;
     let (_, rest) = command(reader, rest)?;
     let (roles, rest) = policy_roles(reader, rest)?;
-    let ((_, holds), rest) = using(reader, rest)?;
+    let ((_, predicate), rest) = using(reader, rest)?;
     let policy = CreatePolicy {
         name: policy,
         table,
         restrictive,
         roles,
-        holds,
+        predicate,
     };
     Ok((Statement::CreatePolicy(policy), rest))
 }

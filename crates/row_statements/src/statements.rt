@@ -11,10 +11,10 @@ ghost use Rattle.row_statements.specs.Schemas as rules;
 ghost use Rattle.row_ast.specs.View.{statement_of};
 
 use crate::create::create;
-use crate::names::{name, names};
-use crate::reader::{Parsed, Reader, before, expect, sees};
-use crate::tree::{Grant, RowSecurity, Statement};
 use memory::Heap;
+use row_ast::{Grant, RowSecurity, Statement};
+use row_reader::names::{name, names};
+use row_reader::reader::{Parsed, Reader, before, expect, sees};
 use row_tokens::{Token, TokenKind};
 use text::{Items, Text};
 
@@ -74,10 +74,10 @@ fn alter<'t, A: Heap>(reader: Reader<A>, tokens: &'t [Token<'t>]) -> Parsed<'t, 
     let (table, rest) = name(reader, rest)?;
     if sees(TokenKind::Owner, rest) {
         let (owner, rest) = owner(reader, rest)?;
-        Ok((Statement::SetOwner(table, owner), rest))
+        Ok((Statement::SetOwner { table, owner }, rest))
     } else {
         let (setting, rest) = security(reader, rest)?;
-        Ok((Statement::SetRowSecurity(table, setting), rest))
+        Ok((Statement::SetRowSecurity { table, setting }, rest))
     }
 }
 
@@ -133,7 +133,7 @@ fn grant<'t, A: Heap>(reader: Reader<A>, tokens: &'t [Token<'t>]) -> Parsed<'t, 
         let (group, rest) = name(reader, rest)?;
         let (_, rest) = expect(TokenKind::To, rest)?;
         let (member, rest) = name(reader, rest)?;
-        Ok((Statement::GrantRole(group, member), rest))
+        Ok((Statement::GrantRole { group, member }, rest))
     }
 }
 
@@ -157,7 +157,7 @@ fn revoke<'t, A: Heap>(reader: Reader<A>, tokens: &'t [Token<'t>]) -> Parsed<'t,
         let (group, rest) = name(reader, rest)?;
         let (_, rest) = expect(TokenKind::From, rest)?;
         let (member, rest) = name(reader, rest)?;
-        Ok((Statement::RevokeRole(group, member), rest))
+        Ok((Statement::RevokeRole { group, member }, rest))
     }
 }
 
@@ -171,7 +171,11 @@ fn drop_policy<'t, A: Heap>(reader: Reader<A>, tokens: &'t [Token<'t>]) -> Parse
     let (policy, rest) = name(reader, rest)?;
     let (_, rest) = expect(TokenKind::On, rest)?;
     let (table, rest) = name(reader, rest)?;
-    Ok((Statement::DropPolicy(policy, table), rest))
+    let policy = Statement::DropPolicy {
+        name: policy,
+        table,
+    };
+    Ok((policy, rest))
 }
 
 /// One of these statements.

@@ -11,13 +11,13 @@ use Rattle.std.proofs.lemmas.List.Elements.{All-nil, All-cons}
 use Rattle.row_tokens.specs.declared.lexeme.Lexeme.{Lexeme}
 use Rattle.row_tokens.specs.declared.token.TokenKind.{TokenKind}
 use Rattle.row_tokens.specs.declared.token.TokenKind.TheVariants.{Quoted, Name, Number, MinMagnitude, SignedMinus, Minus, Bad}
-use Rattle.row_tokens.specs.Words.{bad, begins, begins_number, behind_space, by_place, closing, first_number, goes_on, in_quotes, is_bad, is_letter, is_space, keyword_in, kind_of_word, lexeme, minus_lexeme, number_of, plain, quoted_lexeme, quoted_value, reserved, sign_lexeme, undoubled, word_lexeme, words_from}
+use Rattle.row_tokens.specs.Words.{bad, starts, starts_number, after_space, by_place, closing, first_number, goes_on, in_quotes, is_bad, is_letter, is_space, keyword_in, kind_of_word, lexeme, minus_lexeme, number_of, plain, quoted_lexeme, quoted_value, reserved, sign_lexeme, undoubled, word_lexeme, words_from}
 use Rattle.row_tokens.specs.Slices.{AreInQuotes, HasQuotes}
 use Rattle.row_tokens.proofs.Ends.{ClosesAt, closes}
 use Rattle.row_tokens.proofs.Nulls.{undoubled_mark}
 use Rattle.row_tokens.proofs.Quotes.{between_is, ends_with}
 
--- no text in quotes, no number and no minus
+-- no string literal, no number and no minus
 abbrev pub is_other : TokenKind → Bool
 is_other Quoted = false
 is_other Number = false
@@ -68,11 +68,11 @@ pub sign_other : (b : ℕ) (bs : List ℕ) → IsOther (sign_lexeme b bs)
 sign_other b bs =
     other_either (b == 40) _ _ refl (other_either (b == 41) _ _ refl (other_either (b == 44) _ _ refl (other_either (b == 46) _ _ refl (other_either (b == 59) _ _ refl
     (other_either (b == 42) _ _ refl (other_either (b == 37) _ _ refl (other_either (b == 43) _ _ refl (other_either (b == 61) _ _ refl
-    (other_either (b == 47) _ _ (other_either (begins (λ c. c == 42) bs) _ _ refl refl)
-    (other_either (b == 60) _ _ (other_either (begins (λ c. c == 61) bs) _ _ refl (other_either (begins (λ c. c == 62) bs) _ _ refl refl))
-    (other_either (b == 62) _ _ (other_either (begins (λ c. c == 61) bs) _ _ refl refl) refl)))))))))))
+    (other_either (b == 47) _ _ (other_either (starts (λ c. c == 42) bs) _ _ refl refl)
+    (other_either (b == 60) _ _ (other_either (starts (λ c. c == 61) bs) _ _ refl (other_either (starts (λ c. c == 62) bs) _ _ refl refl))
+    (other_either (b == 62) _ _ (other_either (starts (λ c. c == 61) bs) _ _ refl refl) refl)))))))))))
 
--- what a lexeme takes has quotes if it is a text in quotes, and is nothing if it is bad
+-- what a lexeme takes has quotes if it is a string literal, and is nothing if it is bad
 abbrev Quotes : List ℕ → Lexeme → Type 0
 Quotes bs l = l.kind ≡ Quoted → in_quotes (take l.size bs) ≡ true
 
@@ -80,14 +80,14 @@ abbrev is_quoted : TokenKind → Bool
 is_quoted Quoted = true
 is_quoted _ = false
 
--- and its value is not what stands for null
+-- and its value is not the one that means null
 abbrev NoNull : List ℕ → Lexeme → Type 0
 NoNull bs l = l.kind ≡ Quoted → quoted_value (take l.size bs) ≢ 92 ∷ 78 ∷ []
 
 abbrev Shape : List ℕ → Lexeme → Type 0
 Shape bs l = Quotes bs l × NoNull bs l × IsSized l
 
--- a lexeme that is no text in quotes
+-- a lexeme that is no string literal
 unquoted_shape : (bs : List ℕ) (l : Lexeme) → is_quoted l.kind ≡ false → IsSized l → Shape bs l
 unquoted_shape bs l o sized = (λ e. cc (ap is_quoted e), λ e m. cc (ap is_quoted e, o), sized)
 
@@ -103,15 +103,15 @@ number_of_shape cs value size =
 
 number_shape : (bs : List ℕ) → Shape bs (first_number bs)
 number_shape bs =
-    cond_both (begins is_letter (drop (prefix_len is_ascii_digit bs) bs)) bad _ (Shape bs) (λ _. unquoted_shape bs bad refl refl)
+    cond_both (starts is_letter (drop (prefix_len is_ascii_digit bs) bs)) bad _ (Shape bs) (λ _. unquoted_shape bs bad refl refl)
     (λ _. number_of_shape bs (digits_value 10 (take_while is_ascii_digit bs)) (length (take_while is_ascii_digit bs)))
 
 minus_shape : (cs bs : List ℕ) → Shape cs (minus_lexeme bs)
 minus_shape cs bs =
-    cond_both (begins (λ c. c == 45) bs) bad _ (Shape cs) (λ _. unquoted_shape cs bad refl refl)
-    (λ _. cond_both (begins_number (behind_space bs)) SignedMinus Minus (λ kind. Shape cs (plain kind 1)) (λ _. unquoted_shape cs (plain SignedMinus 1) refl refl) (λ _. unquoted_shape cs (plain Minus 1) refl refl))
+    cond_both (starts (λ c. c == 45) bs) bad _ (Shape cs) (λ _. unquoted_shape cs bad refl refl)
+    (λ _. cond_both (starts_number (after_space bs)) SignedMinus Minus (λ kind. Shape cs (plain kind 1)) (λ _. unquoted_shape cs (plain SignedMinus 1) refl refl) (λ _. unquoted_shape cs (plain Minus 1) refl refl))
 
--- a text in quotes of which the bytes behind the first quote are not those of what stands for null
+-- a string literal of which the bytes after the first quote are not those that mean null
 quoted_no_null : (b : ℕ) (bs : List ℕ) (n : ℕ) → b ≡ 39 → ClosesAt bs (Some n) → bytes_eq (take n bs) (92 ∷ 78 ∷ 39 ∷ []) ≡ false → quoted_value (take (n + 1) (b ∷ bs)) ≢ 92 ∷ 78 ∷ []
 quoted_no_null b bs n e h differs null =
     let cs : List ℕ = take n bs in

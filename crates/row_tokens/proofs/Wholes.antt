@@ -11,40 +11,40 @@ use Rattle.std.proofs.lemmas.List.Elements.{All-nil, All-cons}
 use Rattle.row_tokens.specs.declared.lexeme.Lexeme.{Lexeme}
 use Rattle.row_tokens.specs.declared.token.TokenKind.{TokenKind}
 use Rattle.row_tokens.specs.declared.token.TokenKind.TheVariants as k
-use Rattle.row_tokens.specs.Words.{bad, begins, begins_number, behind_space, by_place, closing, first_number, goes_on, is_letter, is_space, keyword_in, kind_of_word, lexeme, minus_lexeme, most_name_bytes, number_of, one_more, plain, quoted_lexeme, reserved, sign_lexeme, word_at, word_lexeme, words_from}
+use Rattle.row_tokens.specs.Words.{bad, starts, starts_number, after_space, by_place, closing, first_number, goes_on, is_letter, is_space, keyword_in, kind_of_word, lexeme, minus_lexeme, most_name_bytes, number_of, one_more, plain, quoted_lexeme, reserved, sign_lexeme, word_at, word_lexeme, words_from}
 use Rattle.row_tokens.specs.Slices.{AreWhole, IsWhole, goes_with}
 use Rattle.row_tokens.proofs.Ends.{length_run, lexeme_ends}
 use Rattle.row_tokens.proofs.Places.{next_byte}
 
 -- ---- the first byte of a text
 
-never : (bs : List ℕ) → begins (λ b. false) bs ≡ false
+never : (bs : List ℕ) → starts (λ b. false) bs ≡ false
 never [] = refl
 never (b ∷ bs) = refl
 
-neither : (p q : ℕ → Bool) (bs : List ℕ) → begins p bs ≡ false → begins q bs ≡ false → begins (λ b. p b || q b) bs ≡ false
+neither : (p q : ℕ → Bool) (bs : List ℕ) → starts p bs ≡ false → starts q bs ≡ false → starts (λ b. p b || q b) bs ≡ false
 neither p q [] e d = refl
 neither p q (b ∷ bs) e d = rw e d
 
-alike : (p q : ℕ → Bool) (bs : List ℕ) → ((b : ℕ) → p b ≡ q b) → begins p bs ≡ begins q bs
+alike : (p q : ℕ → Bool) (bs : List ℕ) → ((b : ℕ) → p b ≡ q b) → starts p bs ≡ starts q bs
 alike p q [] same = refl
 alike p q (b ∷ bs) same = same b
 
 -- a run ends before a byte that is not of it
-run_past : (p : ℕ → Bool) (b : ℕ) (bs : List ℕ) (t : Bool) → p b ≡ t → begins p (drop (prefix_len p bs) bs) ≡ false → begins p (drop (prefix_len p (b ∷ bs)) (b ∷ bs)) ≡ false
+run_past : (p : ℕ → Bool) (b : ℕ) (bs : List ℕ) (t : Bool) → p b ≡ t → starts p (drop (prefix_len p bs) bs) ≡ false → starts p (drop (prefix_len p (b ∷ bs)) (b ∷ bs)) ≡ false
 run_past p b bs true e h =
     let step : 1 + prefix_len p bs ≡ suc (prefix_len p bs) = omega arith in
     rw e (rw step h)
-run_past p b bs false e h = let first : begins p (b ∷ bs) ≡ false = e in subst (λ t. begins p (drop (if t then 1 + prefix_len p bs else 0) (b ∷ bs)) ≡ false) (sym e) first
+run_past p b bs false e h = let first : starts p (b ∷ bs) ≡ false = e in subst (λ t. starts p (drop (if t then 1 + prefix_len p bs else 0) (b ∷ bs)) ≡ false) (sym e) first
 
-run_past_all : (p : ℕ → Bool) (bs : List ℕ) → begins p (drop (prefix_len p bs) bs) ≡ false
+run_past_all : (p : ℕ → Bool) (bs : List ℕ) → starts p (drop (prefix_len p bs) bs) ≡ false
 run_past_all p [] = refl
 run_past_all p (b ∷ bs) = run_past p b bs (p b) refl (run_past_all p bs)
 
 -- ---- one lexeme
 
 abbrev Whole : List ℕ → Lexeme → Type 0
-Whole bs l = l.kind ≢ k.Bad → begins (λ b. goes_with l.kind b) (drop l.size bs) ≡ false
+Whole bs l = l.kind ≢ k.Bad → starts (λ b. goes_with l.kind b) (drop l.size bs) ≡ false
 
 bad_whole : (bs : List ℕ) → Whole bs bad
 bad_whole bs good = absurd (good refl)
@@ -93,9 +93,9 @@ word_whole bs =
     cond_both (nat_lt most_name_bytes (length w)) bad (plain (kind_of_word w) (length w)) (Whole bs) (λ _. bad_whole bs)
     (λ _ good.
     alike (λ b. goes_with (kind_of_word w) b) goes_on (drop (length w) bs) (λ b. worded (kind_of_word w) b (word_worded w))
-    ∙ ap (λ n. begins goes_on (drop n bs)) (length_run goes_on bs) ∙ run_past_all goes_on bs)
+    ∙ ap (λ n. starts goes_on (drop n bs)) (length_run goes_on bs) ∙ run_past_all goes_on bs)
 
-number_of_whole : (bs : List ℕ) (value size : ℕ) → begins goes_on (drop size bs) ≡ false → Whole bs (number_of value size)
+number_of_whole : (bs : List ℕ) (value size : ℕ) → starts goes_on (drop size bs) ≡ false → Whole bs (number_of value size)
 number_of_whole bs value size h =
     either_whole bs (nat_lt value (2 ^ 63)) (record { kind = k.Number; size = size; number = value }) _ (λ _. h)
     (either_whole bs (value == (2 ^ 63)) (record { kind = k.MinMagnitude; size = size; number = value }) bad (λ _. h) (bad_whole bs))
@@ -103,15 +103,15 @@ number_of_whole bs value size h =
 first_number_whole : (bs : List ℕ) → Whole bs (first_number bs)
 first_number_whole bs =
     let rest = drop (prefix_len is_ascii_digit bs) bs in
-    cond_both (begins is_letter rest) bad _ (Whole bs) (λ _. bad_whole bs)
+    cond_both (starts is_letter rest) bad _ (Whole bs) (λ _. bad_whole bs)
     (λ e.
-    let after : begins goes_on (drop (length (take_while is_ascii_digit bs)) bs) ≡ false =
-    ap (λ n. begins goes_on (drop n bs)) (length_run is_ascii_digit bs) ∙ neither is_letter is_ascii_digit rest e (run_past_all is_ascii_digit bs) in
+    let after : starts goes_on (drop (length (take_while is_ascii_digit bs)) bs) ≡ false =
+    ap (λ n. starts goes_on (drop n bs)) (length_run is_ascii_digit bs) ∙ neither is_letter is_ascii_digit rest e (run_past_all is_ascii_digit bs) in
     number_of_whole bs (digits_value 10 (take_while is_ascii_digit bs)) (length (take_while is_ascii_digit bs)) after)
 
--- after the end of a text in quotes no quote follows
+-- after the end of a string literal no quote follows
 abbrev Closed : List ℕ → Option ℕ → Type 0
-Closed bs o = (n : ℕ) → o ≡ Some n → begins (λ b. b == 39) (drop n bs) ≡ false
+Closed bs o = (n : ℕ) → o ≡ Some n → starts (λ b. b == 39) (drop n bs) ≡ false
 
 closed_later : (b : ℕ) (bs : List ℕ) (o : Option ℕ) → Closed bs o → Closed (b ∷ bs) (one_more o)
 closed_later b bs None h n e = cc
@@ -120,7 +120,7 @@ closed_later b bs (Some j) h n e =
     let step : n ≡ suc j = omega (arith, next) in
     rw step (h j refl)
 
-closed_at : (b : ℕ) (bs : List ℕ) → begins (λ c. c == 39) bs ≡ false → Closed (b ∷ bs) (Some 1)
+closed_at : (b : ℕ) (bs : List ℕ) → starts (λ c. c == 39) bs ≡ false → Closed (b ∷ bs) (Some 1)
 closed_at b bs h n e = let one : n ≡ 1 = cc in rw one h
 
 closed : (bs : List ℕ) → Closed bs (closing bs)
@@ -139,8 +139,8 @@ quoted_whole b bs (Some n) h =
 
 minus_whole : (b : ℕ) (bs : List ℕ) → Whole (b ∷ bs) (minus_lexeme bs)
 minus_whole b bs =
-    cond_both (begins (λ c. c == 45) bs) bad _ (Whole (b ∷ bs)) (λ _. bad_whole (b ∷ bs))
-    (λ e. cond_both (begins_number (behind_space bs)) k.SignedMinus k.Minus (λ kind. Whole (b ∷ bs) (plain kind 1)) (λ _ _. e) (λ _ _. e))
+    cond_both (starts (λ c. c == 45) bs) bad _ (Whole (b ∷ bs)) (λ _. bad_whole (b ∷ bs))
+    (λ e. cond_both (starts_number (after_space bs)) k.SignedMinus k.Minus (λ kind. Whole (b ∷ bs) (plain kind 1)) (λ _ _. e) (λ _ _. e))
 
 sign_whole : (b : ℕ) (bs : List ℕ) → Whole (b ∷ bs) (sign_lexeme b bs)
 sign_whole b bs =
@@ -149,11 +149,11 @@ sign_whole b bs =
     alone (b == 40) _ _ (λ _. never bs) (alone (b == 41) _ _ (λ _. never bs) (alone (b == 44) _ _ (λ _. never bs) (alone (b == 46) _ _ (λ _. never bs)
     (alone (b == 59) _ _ (λ _. never bs) (alone (b == 42) _ _ (λ _. never bs) (alone (b == 37) _ _ (λ _. never bs) (alone (b == 43) _ _ (λ _. never bs)
     (alone (b == 61) _ _ (λ _. never bs)
-    (alone (b == 47) _ _ (cond_both (begins (λ c. c == 42) bs) bad (plain k.Slash 1) P (λ _. bad_whole (b ∷ bs)) (λ e _. e))
+    (alone (b == 47) _ _ (cond_both (starts (λ c. c == 42) bs) bad (plain k.Slash 1) P (λ _. bad_whole (b ∷ bs)) (λ e _. e))
     (alone (b == 60) _ _
-    (cond_both (begins (λ c. c == 61) bs) (plain k.LessEqual 2) _ P (λ _ _. never (drop 1 bs))
-    (λ e. cond_both (begins (λ c. c == 62) bs) (plain k.NotEqual 2) (plain k.Less 1) P (λ _ _. never (drop 1 bs)) (λ d _. neither (λ c. c == 61) (λ c. c == 62) bs e d)))
-    (alone (b == 62) _ _ (cond_both (begins (λ c. c == 61) bs) (plain k.GreaterEqual 2) (plain k.Greater 1) P (λ _ _. never (drop 1 bs)) (λ e _. e))
+    (cond_both (starts (λ c. c == 61) bs) (plain k.LessEqual 2) _ P (λ _ _. never (drop 1 bs))
+    (λ e. cond_both (starts (λ c. c == 62) bs) (plain k.NotEqual 2) (plain k.Less 1) P (λ _ _. never (drop 1 bs)) (λ d _. neither (λ c. c == 61) (λ c. c == 62) bs e d)))
+    (alone (b == 62) _ _ (cond_both (starts (λ c. c == 61) bs) (plain k.GreaterEqual 2) (plain k.Greater 1) P (λ _ _. never (drop 1 bs)) (λ e _. e))
     (bad_whole (b ∷ bs)))))))))))))
 
 lexeme_whole : (bs : List ℕ) → Whole bs (lexeme bs)
@@ -173,7 +173,7 @@ word_is_whole at bs text e good =
     let l = lexeme bs in
     let size : length (take l.size bs) ≡ l.size = length-take-le l.size bs (lexeme_ends bs).0 in
     let rest : drop (at + length (take l.size bs)) text ≡ drop l.size bs = ap (λ n. drop (at + n) text) size ∙ sym (drop-drop l.size at text) ∙ ap (drop l.size) e in
-    ap (begins (λ b. goes_with l.kind b)) rest ∙ lexeme_whole bs good
+    ap (starts (λ b. goes_with l.kind b)) rest ∙ lexeme_whole bs good
 
 wholes_from : (skip at : ℕ) (bs text : List ℕ) → drop at text ≡ bs → All (IsWhole text) (words_from skip at bs)
 unfolding words_from

@@ -15,7 +15,7 @@ pub record Word : Type 0 where
   pub bytes : List ℕ
   -- of a number its value, else 0
   pub number : ℕ
-  -- the byte at which it begins
+  -- the byte at which it starts
   pub at : ℕ
 
 -- ---- bytes
@@ -28,14 +28,14 @@ is_space b = (b == 32) || (b == 9) || (b == 13) || (b == 10)
 abbrev pub is_letter : ℕ → Bool
 is_letter b = is_ascii_alphabetic b || (b == 95)
 
--- what may stand in a word behind its first letter
+-- what may be in a word after its first letter
 abbrev pub goes_on : ℕ → Bool
 goes_on b = is_letter b || is_ascii_digit b
 
 -- the first byte passes a test
-abbrev pub begins : (ℕ → Bool) → List ℕ → Bool
-begins p [] = false
-begins p (b ∷ bs) = p b
+abbrev pub starts : (ℕ → Bool) → List ℕ → Bool
+starts p [] = false
+starts p (b ∷ bs) = p b
 
 -- ---- words
 
@@ -81,7 +81,7 @@ kind_of_word w = keyword_in reserved (keyword_in by_place k.Name w) w
 
 -- ---- one token
 
--- A lexeme is what stands at the front of a text: its kind, how many bytes it takes, and its number.
+-- A lexeme is what is at the front of a text: its kind, how many bytes it takes, and its number.
 abbrev pub bad : Lexeme
 bad = record { kind = k.Bad; size = 0; number = 0 }
 
@@ -106,21 +106,21 @@ number_of value size =
 abbrev pub number_lexeme : List ℕ → Bool → Lexeme
 number_lexeme ds follows = if follows then bad else number_of (digits_value 10 ds) (length ds)
 
--- the number at the front of a text that a digit begins
+-- the number at the front of a text that starts with a digit
 abbrev pub first_number : List ℕ → Lexeme
-first_number text = number_lexeme (take_while is_ascii_digit text) (begins is_letter (drop (prefix_len is_ascii_digit text) text))
+first_number text = number_lexeme (take_while is_ascii_digit text) (starts is_letter (drop (prefix_len is_ascii_digit text) text))
 
 abbrev pub one_more : Option ℕ → Option ℕ
 one_more None = None
 one_more (Some n) = Some (n + 1)
 
--- how many bytes a text takes behind its opening quote, the closing one with them: the first quote that is not doubled
+-- how many bytes a string literal has after its opening quote, with the closing one: the first quote that is not doubled
 abbrev pub closing : List ℕ → Option ℕ
 closing [] = None
 closing (b ∷ []) = if b == 39 then Some 1 else None
 closing (b ∷ c ∷ bs) = if b == 39 then (if c == 39 then one_more (one_more (closing bs)) else Some 1) else one_more (closing (c ∷ bs))
 
--- the value \N stands for null, so no text in quotes has it
+-- the value \N means null, so no string literal has it
 abbrev pub quoted_lexeme : List ℕ → Option ℕ → Lexeme
 quoted_lexeme bs None = bad
 quoted_lexeme bs (Some n) = if bytes_eq (take n bs) (92 ∷ 78 ∷ 39 ∷ []) then bad else plain k.Quoted (n + 1)
@@ -131,23 +131,23 @@ is_number k.Number = true
 is_number k.MinMagnitude = true
 is_number _ = false
 
--- a number stands at the front of a text
-abbrev pub begins_number : List ℕ → Bool
-begins_number text = begins is_ascii_digit text && is_number (first_number text).kind
+-- a number is at the front of a text
+abbrev pub starts_number : List ℕ → Bool
+starts_number text = starts is_ascii_digit text && is_number (first_number text).kind
 
 -- a text without the white space at its front
-abbrev pub behind_space : List ℕ → List ℕ
-behind_space text = drop (prefix_len is_space text) text
+abbrev pub after_space : List ℕ → List ℕ
+after_space text = drop (prefix_len is_space text) text
 
 -- a minus is negative if the next token is a number, with white space between or not
 abbrev pub minus_kind : List ℕ → TokenKind
-minus_kind after = if begins_number (behind_space after) then k.SignedMinus else k.Minus
+minus_kind after = if starts_number (after_space after) then k.SignedMinus else k.Minus
 
--- a minus, by what follows it; -- would begin a comment
+-- a minus, by what follows it; -- would start a comment
 abbrev pub minus_lexeme : List ℕ → Lexeme
-minus_lexeme after = if begins (λ c. c == 45) after then bad else plain (minus_kind after) 1
+minus_lexeme after = if starts (λ c. c == 45) after then bad else plain (minus_kind after) 1
 
--- the other signs, the longest first; /* would begin a comment
+-- the other signs, the longest first; /* would start a comment
 abbrev pub sign_lexeme : ℕ → List ℕ → Lexeme
 sign_lexeme b bs =
     if b == 40 then plain k.Open 1
@@ -159,9 +159,9 @@ sign_lexeme b bs =
     else if b == 37 then plain k.Percent 1
     else if b == 43 then plain k.Plus 1
     else if b == 61 then plain k.Equal 1
-    else if b == 47 then (if begins (λ c. c == 42) bs then bad else plain k.Slash 1)
-    else if b == 60 then (if begins (λ c. c == 61) bs then plain k.LessEqual 2 else if begins (λ c. c == 62) bs then plain k.NotEqual 2 else plain k.Less 1)
-    else if b == 62 then (if begins (λ c. c == 61) bs then plain k.GreaterEqual 2 else plain k.Greater 1)
+    else if b == 47 then (if starts (λ c. c == 42) bs then bad else plain k.Slash 1)
+    else if b == 60 then (if starts (λ c. c == 61) bs then plain k.LessEqual 2 else if starts (λ c. c == 62) bs then plain k.NotEqual 2 else plain k.Less 1)
+    else if b == 62 then (if starts (λ c. c == 61) bs then plain k.GreaterEqual 2 else plain k.Greater 1)
     else bad
 
 -- the token at the front of a text whose first byte is no white space
@@ -191,14 +191,14 @@ words_from zero at (b ∷ bs) =
 abbrev pub words : List ℕ → List Word
 words text = words_from 0 0 text
 
--- ---- the tokens, or where the first bad one begins
+-- ---- the tokens, or where the first bad one starts
 
 -- bytes that are no token
 abbrev pub is_bad : TokenKind → Bool
 is_bad k.Bad = true
 is_bad _ = false
 
--- where the first bad token begins
+-- where the first bad token starts
 abbrev pub first_bad : List Word → Option ℕ
 first_bad [] = None
 first_bad (w ∷ ws) = if is_bad w.kind then Some w.at else first_bad ws
@@ -207,17 +207,17 @@ abbrev pub good_or_bad : List Word → Option ℕ → Result (List Word) ℕ
 good_or_bad ws None = Ok ws
 good_or_bad ws (Some at) = Err at
 
--- all tokens of a text that has no bad one, else the byte at which the first bad one begins
+-- all tokens of a text that has no bad one, else the byte at which the first bad one starts
 abbrev pub tokens_at : List ℕ → Result (List Word) ℕ
 tokens_at text = good_or_bad (words text) (first_bad (words text))
 
--- ---- what tokens stand for
+-- ---- the values of tokens
 
--- a quote stands first, and another last
+-- a quote is first, and another last
 abbrev pub in_quotes : List ℕ → Bool
 in_quotes bytes = nat_lt 1 (length bytes) && (slice_index bytes 0 == 39) && (slice_index bytes (length bytes - 1) == 39)
 
--- what stands between the quotes; of any other bytes nothing
+-- what is between the quotes; of any other bytes nothing
 abbrev pub between_quotes : List ℕ → List ℕ
 between_quotes bytes = if in_quotes bytes then take (length bytes - 2) (drop 1 bytes) else []
 
@@ -227,6 +227,6 @@ undoubled [] = []
 undoubled (b ∷ []) = b ∷ []
 undoubled (b ∷ c ∷ bs) = if (b == 39) && (c == 39) then 39 ∷ undoubled bs else b ∷ undoubled (c ∷ bs)
 
--- the value of a text in quotes
+-- the value of a string literal
 abbrev pub quoted_value : List ℕ → List ℕ
 quoted_value bytes = undoubled (between_quotes bytes)

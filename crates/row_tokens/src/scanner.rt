@@ -1,20 +1,21 @@
 //! The tokens of a text.
 
-ghost use Rattle.std.specs.Prelude.{◌≡◌, ◌<◌, ◌≤◌, ◌^◌, length, IfErr, IfOk};
-ghost use Rattle.row_tokens.specs.Faults.{Refuses};
+ghost use Rattle.std.specs.Prelude.{◌≡◌, ◌<◌, ◌≤◌, ◌^◌, length, Err, IfOk};
+ghost use Rattle.memory.specs.Gives.{Gives};
+ghost use Rattle.row_tokens.specs.Faults.{tokens_of};
 ghost use Rattle.row_tokens.specs.View.{words_of};
-ghost use Rattle.row_tokens.specs.Words.{is_bad, tokens_at, words};
+ghost use Rattle.row_tokens.specs.Words.{is_bad, words};
 
 use crate::fault::TokenError;
 use crate::lexeme::{first_lexeme, is_space};
 use crate::token::{Token, TokenKind};
-use memory::Heap;
+use memory::{Failure, Heap};
 use std::alloc::AllocError;
 
-// Beyond it offsets would not fit.
+// The most bytes of which each has an offset of 32 bits.
 const LONGEST: usize = u32::MAX as usize;
 
-/// The tokens of a text, in order; a bad token is the last. The one error is that memory is refused.
+/// The tokens of a text, in order; a bad token is the last. The one error is out of memory.
 pub fn scan<'a, A: Heap>(alloc: A, text: &'a str) -> Result<Vec<Token<'a>, A>, AllocError>
     requires { length text.now < 2 ^ 32 }
     ensures { IfOk result (λ v. words_of v.items ≡ words text.now) }
@@ -52,18 +53,23 @@ fn is_bad(kind: TokenKind) -> bool
     matches!(kind, TokenKind::Bad)
 }
 
-/// The tokens of a text, in order, if none is bad; else the byte at which the first bad one begins.
-pub fn tokenize<'a, A: Heap>(alloc: A, text: &'a str) -> Result<Vec<Token<'a>, A>, TokenError>
-    ensures good { IfOk result (λ v. tokens_at text.now ≡ Ok (words_of v.items)) }
-    ensures refused { IfErr result (λ e. Refuses text.now e) }
-    ensures too_long { 2 ^ 32 ≤ length text.now → result ≡ Err TokenError.TooLong }
+/// The tokens of a text, in order, if none is bad; else the byte at which the first bad one starts.
+pub fn tokenize<'a, A: Heap>(
+    alloc: A,
+    text: &'a str,
+) -> Result<Vec<Token<'a>, A>, Failure<TokenError>>
+    ensures tokens { Gives (λ v. words_of v.items) result (tokens_of text.now) }
+    // A text that is too long takes no memory.
+    ensures too_long { 2 ^ 32 ≤ length text.now → result ≡ Err (Failure.Fault TokenError.TooLong) }
 {
     if text.len() > LONGEST {
-        return Err(TokenError::TooLong);
+        return Err(Failure::Fault(TokenError::TooLong));
     }
     let tokens = scan(alloc, text)?;
     match tokens.as_slice().last() {
-        Some(token) if is_bad(token.kind) => Err(TokenError::Bad(token.offset)),
+        Some(token) if is_bad(token.kind) => Err(Failure::Fault(TokenError::Bad {
+            offset: token.offset,
+        })),
         _ => Ok(tokens),
     }
 }

@@ -1,10 +1,2 @@
-pub mod Tree
-pub mod View
-pub mod Language
-pub mod Expressions
-pub mod Queries
-pub mod Statements
-pub mod Reading
-pub mod Limits
 pub mod Parsing
 pub mod Literals

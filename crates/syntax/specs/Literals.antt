@@ -1,6 +1,6 @@
 -- What the literals of a text are not.
 use Rattle.std.specs.Prelude.{◌≡◌, ℕ, List, All}
-use Rattle.row_tokens.specs.declared.token.Kind.TheVariants.{Quoted}
+use Rattle.row_tokens.specs.declared.token.TokenKind.TheVariants.{Quoted}
 use Rattle.row_tokens.specs.Words.{Word, quoted_value, words}
 use Rattle.value.specs.Datum.{text}
 use Rattle.value.specs.Texts.{IsNoNullMark}

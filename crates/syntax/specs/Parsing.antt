@@ -1,14 +1,18 @@
 -- What a text is: a query, a schema or a statement, or the first fault.
-use Rattle.std.specs.Prelude.{◌≡◌, ◌⊎◌, ◌-◌, ◌<◌, ◌≤◌, ℕ, nat_lt, true, false, List, [], ◌∷◌, length, drop, Option, Some, None, Result, Ok, Err, if◌then◌else◌}
-use Rattle.row_grammar.specs.Decoder.{Stop, syntax, limit}
+use Rattle.std.specs.Prelude.{◌≡◌, ◌⊎◌, ◌-◌, ◌<◌, ◌≤◌, ℕ, nat_lt, true, false, List, [], ◌∷◌, length, drop, ⊤, Result, Ok, Err, if◌then◌else◌}
+use Rattle.memory.specs.declared.failure.Failure.{Failure}
+use Rattle.memory.specs.declared.failure.Failure.TheVariants.{Fault, OutOfMemory}
+use Rattle.row_grammar.specs.declared.error.ReadError.{ReadError}
+use Rattle.row_grammar.specs.declared.error.ReadError.TheVariants as reading
 use Rattle.row_grammar.specs.Limits.{Spells as SpellsWithin, IsLongest, IsPassed, whole_at}
 use Rattle.row_tokens.specs.Words.{Word, words}
-use Rattle.syntax.specs.Tree.{Question, Act}
-use Rattle.syntax.specs.Language.{Rule}
-use Rattle.syntax.specs.Expressions.{grammar, run_limit, depth_limit}
-use Rattle.syntax.specs.Queries.{query}
-use Rattle.syntax.specs.Statements.{schema, statement}
-use Rattle.syntax.specs.Limits.{is_small}
+use Rattle.row_ast.specs.Ast.{Query}
+use Rattle.row_ast.specs.Statements.{Statement}
+use Rattle.row_reader.specs.Language.{Rule}
+use Rattle.row_reader.specs.Expressions.{grammar, run_limit, depth_limit}
+use Rattle.row_queries.specs.Queries.{query}
+use Rattle.row_queries.specs.Limits.{is_small}
+use Rattle.row_statements.specs.Schemas.{schema, statement}
 use Rattle.syntax.specs.declared.fault.ParseError.{ParseError}
 use Rattle.syntax.specs.declared.fault.ParseError.TheVariants as errors
 
@@ -45,83 +49,64 @@ abbrev pub schema_bytes : ℕ
 schema_bytes = 1048576
 
 -- the limits on a query's parts are kept
-abbrev pub IsSmall : Question → Type 0
+abbrev pub IsSmall : Query → Type 0
 IsSmall q = is_small q ≡ true
 
 -- why a text is no query: the byte of the first token that cannot continue one, or a limit
-abbrev pub RefusesQuery : List ℕ → ParseError → Type 0
-RefusesQuery text errors.Memory = Unit {0}
-RefusesQuery text (errors.Syntax at) = StopsAt query text at × (length text ≤ query_bytes) × ((q : Question) → Spells query text q → ⊥)
-RefusesQuery text errors.Limit = (query_bytes < length text) ⊎ (PassesLimit query text ⊎ ((q : Question) × Spells query text q × (is_small q ≡ false)))
+abbrev pub RefusesQuery : List ℕ → Failure ParseError → Type 0
+RefusesQuery text OutOfMemory = ⊤
+RefusesQuery text (Fault (errors.Syntax at)) = StopsAt query text at × (length text ≤ query_bytes) × ((q : Query) → Spells query text q → ⊥)
+RefusesQuery text (Fault errors.Limit) = (query_bytes < length text) ⊎ (PassesLimit query text ⊎ ((q : Query) × Spells query text q × (is_small q ≡ false)))
 
 -- the same of a text that has no further limits
-abbrev pub Refuses : {A : Type 0} → ℕ → Rule A → List ℕ → ParseError → Type 0
-Refuses most f text errors.Memory = Unit {0}
-Refuses {A = A} most f text (errors.Syntax at) = StopsAt f text at × (length text ≤ most) × ((t : A) → Spells f text t → ⊥)
-Refuses most f text errors.Limit = (most < length text) ⊎ PassesLimit f text
+abbrev pub Refuses : {A : Type 0} → ℕ → Rule A → List ℕ → Failure ParseError → Type 0
+Refuses most f text OutOfMemory = ⊤
+Refuses {A = A} most f text (Fault (errors.Syntax at)) = StopsAt f text at × (length text ≤ most) × ((t : A) → Spells f text t → ⊥)
+Refuses most f text (Fault errors.Limit) = (most < length text) ⊎ PassesLimit f text
 
-abbrev pub RefusesSchema : List ℕ → ParseError → Type 0
+abbrev pub RefusesSchema : List ℕ → Failure ParseError → Type 0
 RefusesSchema text e = Refuses schema_bytes schema text e
 
-abbrev pub RefusesStatement : List ℕ → ParseError → Type 0
+abbrev pub RefusesStatement : List ℕ → Failure ParseError → Type 0
 RefusesStatement text e = Refuses statement_bytes statement text e
 
 -- ---- as a function
 
--- the first fault of a text: at a byte, or a limit
-pub data TextFault : Type 0 where
-  wrong_at : ℕ → TextFault
-  over_limit : TextFault
+-- why reading stops, at a byte of the text
+abbrev pub fault_of : List ℕ → ReadError → ParseError
+fault_of text (reading.Syntax n) = errors.Syntax (offset_of text n)
+fault_of text (reading.Limit n) = errors.Limit
 
-abbrev pub fault_of : List ℕ → Stop → TextFault
-fault_of text (syntax n) = wrong_at (offset_of text n)
-fault_of text (limit n) = over_limit
-
-abbrev pub of_text : {A : Type 0} → List ℕ → Result A Stop → Result A TextFault
+abbrev pub of_text : {A : Type 0} → List ℕ → Result A ReadError → Result A ParseError
 of_text text (Ok t) = Ok t
-of_text text (Err stop) = Err (fault_of text stop)
+of_text text (Err e) = Err (fault_of text e)
 
 -- what one token ahead reads of a text that is not too long
-abbrev pub read_within : {A : Type 0} → ℕ → Rule A → List ℕ → Result A TextFault
-read_within most f text = if nat_lt most (length text) then Err over_limit else of_text text (whole_at grammar run_limit depth_limit f (words text))
+abbrev pub read_within : {A : Type 0} → ℕ → Rule A → List ℕ → Result A ParseError
+read_within most f text = if nat_lt most (length text) then Err errors.Limit else of_text text (whole_at grammar run_limit depth_limit f (words text))
 
-abbrev pub of_size : Result Question TextFault → Result Question TextFault
+abbrev pub of_size : Result Query ParseError → Result Query ParseError
 of_size (Err e) = Err e
-of_size (Ok q) = if is_small q then Ok q else Err over_limit
+of_size (Ok q) = if is_small q then Ok q else Err errors.Limit
 
 -- the query that a text is, or its first fault
-unfoldable pub parsed_query : List ℕ → Result Question TextFault
+unfoldable pub parsed_query : List ℕ → Result Query ParseError
 parsed_query text = of_size (read_within query_bytes query text)
 
 -- the statements that a schema text is, or its first fault
-unfoldable pub parsed_schema : List ℕ → Result (List Act) TextFault
+unfoldable pub parsed_schema : List ℕ → Result (List Statement) ParseError
 parsed_schema text = read_within schema_bytes schema text
 
 -- the statement that a text is, or its first fault
-unfoldable pub parsed_statement : List ℕ → Result Act TextFault
+unfoldable pub parsed_statement : List ℕ → Result Statement ParseError
 parsed_statement text = read_within statement_bytes statement text
 
--- the fault that an error stands for, if it stands for one
-abbrev pub text_fault : ParseError → Option TextFault
-text_fault errors.Memory = None
-text_fault (errors.Syntax at) = Some (wrong_at at)
-text_fault errors.Limit = Some over_limit
-
-abbrev pub IsTextFault : {B : Type 0} → Option TextFault → Result B TextFault → Type 0
-IsTextFault None due = Unit {0}
-IsTextFault (Some e) due = due ≡ Err e
-
--- what a call returned, seen by view, is what is due, unless memory ran out
-abbrev pub Gives : {A B : Type 0} → (A → B) → Result A ParseError → Result B TextFault → Type 0
-Gives view (Ok x) due = due ≡ Ok (view x)
-Gives view (Err e) due = IsTextFault (text_fault e) due
-
 -- A function of a text is what spelling and fronts determine.
-pub record IsDetermined {A : Type 0} (f : Rule A) (most : ℕ) (fits : A → Type 0) (parsed : List ℕ → Result A TextFault) : Type 0 where
+pub record IsDetermined {A : Type 0} (f : Rule A) (most : ℕ) (fits : A → Type 0) (parsed : List ℕ → Result A ParseError) : Type 0 where
   pub found : (text : List ℕ) (t : A) → parsed text ≡ Ok t → Spells f text t × (length text ≤ most) × fits t
   pub only : (text : List ℕ) (t : A) → Spells f text t → length text ≤ most → fits t → parsed text ≡ Ok t
-  pub stops : (text : List ℕ) (at : ℕ) → parsed text ≡ Err (wrong_at at) → StopsAt f text at × (length text ≤ most) × ((t : A) → Spells f text t → ⊥)
-  pub limits : (text : List ℕ) → parsed text ≡ Err over_limit → (most < length text) ⊎ (PassesLimit f text ⊎ ((t : A) × Spells f text t × (fits t → ⊥)))
+  pub stops : (text : List ℕ) (at : ℕ) → parsed text ≡ Err (errors.Syntax at) → StopsAt f text at × (length text ≤ most) × ((t : A) → Spells f text t → ⊥)
+  pub limits : (text : List ℕ) → parsed text ≡ Err errors.Limit → (most < length text) ⊎ (PassesLimit f text ⊎ ((t : A) × Spells f text t × (fits t → ⊥)))
   -- a text has at most one tree
   pub one_tree : (text : List ℕ) (t t' : A) → Spells f text t → Spells f text t' → t ≡ t'
 

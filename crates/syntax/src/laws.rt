@@ -2,7 +2,7 @@
 
 ghost use Rattle.syntax.specs.Literals.{HaveNoNullMarks};
 
-/// A text literal is never the two bytes that stand for null in a file.
+/// A string literal is never the two bytes that stand for null in a file.
 pub fn law_no_null_literal()
     ensures { HaveNoNullMarks }
 {}

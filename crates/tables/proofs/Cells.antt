@@ -5,6 +5,9 @@ use Rattle.std.proofs.lemmas.List.{append_assoc, append-nil, drop_all}
 use Rattle.csv.specs.Records.{field_at}
 use Rattle.value.specs.Datum.{Datum}
 use Rattle.value.specs.Texts.{null_mark, value_at}
+use Rattle.memory.specs.declared.failure.Failure.{Failure}
+use Rattle.memory.specs.declared.failure.Failure.TheVariants.{Fault, OutOfMemory}
+use Rattle.memory.specs.Gives.{Gives}
 use Rattle.tables.specs.declared.LoadError.{LoadError}
 use Rattle.value.specs.declared.column.Column as declared
 use Rattle.tables.specs.Loading.{Fields, both, cell_of, cells_of}
@@ -56,6 +59,12 @@ pub one_cell : {A : Type 0} (columns : List (declared.Column A)) (fs : Fields) (
     → whole ≡ after xs (cells_of (drop i (map column_of columns)) row i (drop i fs))
     → whole ≡ after xs (both (cell_of (column_of x) row i f) (cells_of (drop (i + 1) (map column_of columns)) row (i + 1) (drop (i + 1) fs)))
 one_cell columns fs row i x f xs whole lt is at e = e ∙ ap (after xs) (cells_step _ _ row i _ _ (drop-map column_of columns i x lt is) (drop-field_at fs i f at))
+
+-- a cell of the row gives no value
+pub cell_refused : {X Y : Type 0} (view : X → Datum) (views : Y → List Datum) (e : Failure LoadError) (xs : List Datum) (cell : Result Datum LoadError) (rest whole : Result (List Datum) LoadError)
+    → whole ≡ after xs (both cell rest) → Gives view (Err e) cell → Gives views (Err e) whole
+cell_refused view views OutOfMemory xs cell rest whole is gives = tt
+cell_refused view views (Fault e) xs cell rest whole is gives = rw gives at is
 
 -- no cell is left
 pub no_cells : (cs : List Column) (fs : Fields) (row i : ℕ) (xs : List Datum) → length cs ≤ i → after xs (cells_of (drop i cs) row i fs) ≡ Ok xs

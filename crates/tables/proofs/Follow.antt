@@ -1,15 +1,18 @@
 -- What was read follows from the records.
-use Rattle.std.proofs.Common.{ℕ, zero, suc, ◌≡◌, ◌≢◌, ◌+◌, ◌-◌, ◌<◌, ◌≤◌, ◌^◌, Bool, true, false, List, [], ◌∷◌, ◌++◌, length, take, Option, Some, None, Result, Ok, Err, IfSome, refl, sym, ap, ◌∙◌, arith, rules, length-append, Vec}
+use Rattle.std.proofs.Common.{ℕ, zero, suc, ◌≡◌, ◌≢◌, ◌+◌, ◌-◌, ◌<◌, ◌≤◌, ◌^◌, Bool, true, false, List, [], ◌∷◌, ◌++◌, length, take, Option, Some, None, Result, Ok, Err, IfSome, refl, sym, ap, ◌∙◌, arith, rules, length-append, subst, Vec}
 use Rattle.std.specs.Option.{unwrap_or}
 use Rattle.std.specs.Prelude.{IsErrOf, MatchOption}
-use Rattle.csv_records.specs.Left.{Left, counted, Fits_length, Gives, GivesOf, NextIsUneven}
+use Rattle.csv_records.specs.Left.{Left, counted, failure_after, Fits_length, NextIsUneven, TakesFirst, TakesNext}
+use Rattle.memory.specs.declared.failure.Failure.{Failure}
+use Rattle.memory.specs.declared.failure.Failure.TheVariants.{Fault, OutOfMemory}
+use Rattle.memory.specs.Gives.{Gives}
 use Rattle.csv_records.specs.declared.RecordError.{RecordError}
 use Rattle.csv_records.specs.declared.RecordError.TheVariants as why
 use Rattle.value.specs.declared.types.Value.{Value}
 use Rattle.value.specs.Datum.{Row}
 use Rattle.tables.specs.declared.LoadError.{LoadError}
 use Rattle.tables.specs.declared.LoadError.TheVariants as error
-use Rattle.tables.specs.Loading.{Appends, Fields, StopsAfterGood, cells_of, is_fault, load_of, names, reported, rows_data, rows_of}
+use Rattle.tables.specs.Loading.{Fields, Follows, StopsAfterGood, appended, cells_of, is_fault, load_of, names, reported, rows_data, rows_of}
 use Rattle.value.specs.Columns.{Column}
 use Rattle.tables.specs.Reading.{AreKnown, HeaderIs, LoadFollows, Refuses, RowsFollow}
 use Rattle.tables.proofs.Records.{Leaves, cell_fault, leaves_all, leaves_none, leaves_one_less, leaves_other, leaves_some, one_more_row, rows_of-nil, take-seen, too_many, uneven_fault}
@@ -23,17 +26,8 @@ fits_length None n m h e = cc e
 fits_length (Some k) n m h e = cc (h, e)
 
 -- a record that was read has the expected number of fields
-pub width : (cols : ℕ) (old new : Left) (r : Fields) → Gives old new true r → old.expected ≡ Some cols → (length r ≡ cols) × (new.expected ≡ Some cols)
+pub width : (cols : ℕ) (old new : Left) (r : Fields) → TakesNext old new true r → old.expected ≡ Some cols → (length r ≡ cols) × (new.expected ≡ Some cols)
 width cols old new r (gives, fits) expected = let n = fits_length old.expected _ _ (fits refl).0 expected in (n, (fits refl).1 ∙ ap Some n)
-
--- what is a fault where a read failed is one where none did
-pub fault_unfailed : (failure : Option RecordError) (e : LoadError) → is_fault failure e ≡ true → is_fault None e ≡ true
-fault_unfailed failure error.Header h = refl
-fault_unfailed failure (error.Reader row) h = refl
-fault_unfailed failure (error.Cell row column) h = refl
-fault_unfailed failure (error.NotNull row column) h = refl
-fault_unfailed failure error.TooMany h = refl
-fault_unfailed failure error.OutOfMemory h = cc h
 
 pub known_are : (known : Option (List Fields)) → AreKnown known (unwrap_or known [])
 known_are None = tt
@@ -45,7 +39,7 @@ start_seen cols room known = ([], refl, rows_of-nil cols room 1, leaves_all know
 
 -- one more row was read
 pub one_more_seen : (cols : List Column) (room done : ℕ) (rows : List Row) (values : Row) (known : Option (List Fields)) (old new : Left) (r : Fields) → done < room
-    → SeenRows cols room done rows known old.records → Gives old new true r → old.expected ≡ Some (length cols) → cells_of cols (done + 1) 0 r ≡ Ok values
+    → SeenRows cols room done rows known old.records → TakesNext old new true r → old.expected ≡ Some (length cols) → cells_of cols (done + 1) 0 r ≡ Ok values
     → SeenRows cols room (done + 1) (rows ++ values ∷ []) known new.records
 one_more_seen cols room done rows values known old new r lt (seen, len, was, leaves) gives expected cells = (
   seen ++ r ∷ [],
@@ -56,46 +50,51 @@ one_more_seen cols room done rows values known old new r lt (seen, len, was, lea
 
 -- there are no more records
 pub all_seen : {A : Type 0} (cols : List Column) (room done : ℕ) (rows : Vec (List (Value A)) A) (known : Option (List Fields)) (old new : Left) (r : Fields)
-    → SeenRows cols room done (rows_data rows.items) known old.records → Gives old new false r → new.given ≡ counted false old.given → old.given ≡ done + 1 → RowsFollow cols room known new (Ok rows)
+    → SeenRows cols room done (rows_data rows.items) known old.records → TakesNext old new false r → new.given ≡ counted false old.given → old.given ≡ done + 1 → RowsFollow cols room known new (Ok rows)
 all_seen cols room done rows known old new r (seen, len, was, leaves) gives counts before =
     (seen, leaves_none known seen old.records new.records r leaves gives.0, was, omega (arith, len, counts, before), tt)
 
+-- memory ran out
+pub out_of_memory : (A : Type 0) (cols : List Column) (room : ℕ) (known : Option (List Fields)) (new : Left) (e : Failure LoadError) → e ≡ OutOfMemory → RowsFollow {A = A} cols room known new (Err e)
+out_of_memory A cols room known new e is = rw is (unwrap_or known [], known_are known, tt, tt, λ row same. cc same)
+
 -- a cell of the next record is refused
-pub cell_refused : (A : Type 0) (cols : List Column) (room done : ℕ) (rows : List Row) (known : Option (List Fields)) (old new : Left) (r : Fields) (e : LoadError) → done < room
-    → SeenRows cols room done rows known old.records → Gives old new true r → old.expected ≡ Some (length cols)
-    → (is_fault None e ≡ true → cells_of cols (done + 1) 0 r ≡ Err e) → ((row : ℕ) → e ≢ error.Reader row) → RowsFollow {A = A} cols room known new (Err e)
-cell_refused A cols room done rows known old new r e lt (seen, len, was, leaves) gives expected cells other =
+pub row_refused : (A : Type 0) {X : Type 0} (view : X → Row) (cols : List Column) (room done : ℕ) (rows : List Row) (known : Option (List Fields)) (old new : Left) (r : Fields) (e : Failure LoadError) → done < room
+    → SeenRows cols room done rows known old.records → TakesNext old new true r → old.expected ≡ Some (length cols)
+    → Gives view (Err e) (cells_of cols (done + 1) 0 r) → ((row : ℕ) → e ≢ Fault (error.Reader row)) → RowsFollow {A = A} cols room known new (Err e)
+row_refused A view cols room done rows known old new r OutOfMemory lt seen gives expected cells other = out_of_memory A cols room known new OutOfMemory refl
+row_refused A view cols room done rows known old new r (Fault e) lt (seen, len, was, leaves) gives expected cells other =
     let rest = leaves_some known (seen ++ r ∷ []) new.records (leaves_one_less known seen old.records new.records r leaves gives.0) in
     let n = (width (length cols) old new r gives expected).0 in (
       (seen ++ r ∷ []) ++ rest.0,
       rest.1,
-      λ fault. cell_fault cols room done seen rows r rest.0 e lt len was n (cells (fault_unfailed new.failure e fault)),
+      λ fault. cell_fault cols room done seen rows r rest.0 e lt len was n cells,
       tt,
       λ row same. absurd (other row same),
     )
 
 -- there is no room for the next record
 pub no_room_left : (A : Type 0) (cols : List Column) (room done : ℕ) (rows : List Row) (known : Option (List Fields)) (old new : Left) (r : Fields) → done ≡ room
-    → SeenRows cols room done rows known old.records → Gives old new true r → old.expected ≡ Some (length cols) → RowsFollow {A = A} cols room known new (Err error.TooMany)
+    → SeenRows cols room done rows known old.records → TakesNext old new true r → old.expected ≡ Some (length cols) → RowsFollow {A = A} cols room known new (Err (Fault error.TooMany))
 no_room_left A cols room done rows known old new r same (seen, len, was, leaves) gives expected =
     let rest = leaves_some known (seen ++ r ∷ []) new.records (leaves_one_less known seen old.records new.records r leaves gives.0) in
     let n = (width (length cols) old new r gives expected).0 in
     ((seen ++ r ∷ []) ++ rest.0, rest.1, λ fault. too_many cols room seen rows r rest.0 (len ∙ same) was n, tt, λ row is. cc is)
 
-reader_row : (row done : ℕ) → error.Reader (done + 1) ≡ error.Reader row → row - 1 ≡ done
+reader_row : (row done : ℕ) → Fault (error.Reader (done + 1)) ≡ Fault (error.Reader row) → row - 1 ≡ done
 reader_row row done is = let same : row ≡ done + 1 = cc is in omega arith
 
 seen_within : (seen rest : List Fields) (n : ℕ) → length seen ≡ n → n ≤ length (seen ++ rest)
 seen_within seen rest n e = rw length-append (omega (arith, e))
 
 -- the records before it were read
-before_unread : (cols : List Column) (room done : ℕ) (seen rest : List Fields) (rows : List Row) → length seen ≡ done → rows_of cols room 1 seen ≡ Ok rows → (row : ℕ) → error.Reader (done + 1) ≡ error.Reader row
+before_unread : (cols : List Column) (room done : ℕ) (seen rest : List Fields) (rows : List Row) → length seen ≡ done → rows_of cols room 1 seen ≡ Ok rows → (row : ℕ) → Fault (error.Reader (done + 1)) ≡ Fault (error.Reader row)
     → (row - 1 ≤ length (seen ++ rest)) × (rows : List Row) × (rows_of cols room 1 (take (row - 1) (seen ++ rest)) ≡ Ok rows)
 before_unread cols room done seen rest rows len was row is = (rw (reader_row row done is) (seen_within seen rest done len), rows, rw (reader_row row done is, take-seen seen rest done len) was)
 
 -- the next record is uneven
 uneven_row : (A : Type 0) (cols : List Column) (room done : ℕ) (rows : List Row) (known : Option (List Fields)) (old new : Left) → done ≤ room
-    → SeenRows cols room done rows known old.records → old.expected ≡ Some (length cols) → NextIsUneven old → RowsFollow {A = A} cols room known new (Err (error.Reader (done + 1)))
+    → SeenRows cols room done rows known old.records → old.expected ≡ Some (length cols) → NextIsUneven old → RowsFollow {A = A} cols room known new (Err (Fault (error.Reader (done + 1))))
 uneven_row A cols room done rows known old new le (seen, len, was, leaves) expected next =
     let n : next.0 ≡ length cols = cc (next.1, expected) in
     let o = leaves_other known seen old.records next.0 leaves next.2 in (
@@ -106,33 +105,33 @@ uneven_row A cols room done rows known old new le (seen, len, was, leaves) expec
       before_unread cols room done seen (o.0 ∷ o.1) rows len was,
     )
 
--- memory ran out
-pub out_of_memory : (A : Type 0) (cols : List Column) (room : ℕ) (known : Option (List Fields)) (new : Left) (e : LoadError) → e ≡ error.OutOfMemory → RowsFollow {A = A} cols room known new (Err e)
-out_of_memory A cols room known new e is = rw is (unwrap_or known [], known_are known, λ fault. cc fault, tt, λ row same. cc same)
-
 -- its read failed
-failed_row : (A : Type 0) (cols : List Column) (room done : ℕ) (rows : List Row) (known left : Option (List Fields)) (new : Left) (why : RecordError) → new.failure ≡ Some why
-    → SeenRows cols room done rows known left → (e : LoadError) → e ≡ reported why (done + 1) → RowsFollow {A = A} cols room known new (Err e)
-failed_row A cols room done rows known left new why.OutOfMemory failed seen e is = out_of_memory A cols room known new e is
-failed_row A cols room done rows known left new why.Failed failed (seen, len, was, leaves) e is =
+failed_row : (A : Type 0) (cols : List Column) (room done : ℕ) (rows : List Row) (known left : Option (List Fields)) (new : Left) (why : Failure RecordError) → new.failure ≡ Some why
+    → SeenRows cols room done rows known left → (e : Failure LoadError) → e ≡ reported why (done + 1) → RowsFollow {A = A} cols room known new (Err e)
+failed_row A cols room done rows known left new OutOfMemory failed seen e is = out_of_memory A cols room known new e is
+failed_row A cols room done rows known left new (Fault why) failed (seen, len, was, leaves) e is =
     let rest = leaves_some known seen left leaves in
     rw (is, failed) (seen ++ rest.0, rest.1, λ fault. cc fault, tt, before_unread cols room done seen rest.0 rows len was)
-failed_row A cols room done rows known left new why.Uneven failed (seen, len, was, leaves) e is =
-    let rest = leaves_some known seen left leaves in
-    rw (is, failed) (seen ++ rest.0, rest.1, λ fault. cc fault, tt, before_unread cols room done seen rest.0 rows len was)
+
+-- why the next record was not read, after an error of a read
+pub unread : (row : ℕ) (old new : Left) (e : Failure RecordError) → new.failure ≡ failure_after e → (e ≡ Fault why.Uneven → NextIsUneven old) → Refuses row old new (reported e row)
+unread row old new (Fault why.Uneven) keeps uneven = rw keeps (refl, uneven refl)
+unread row old new (Fault why.Failed) keeps uneven = rw keeps refl
+unread row old new OutOfMemory keeps uneven = rw keeps refl
 
 -- the next record was not read
-pub refused : (A : Type 0) (cols : List Column) (room done : ℕ) (rows : List Row) (known : Option (List Fields)) (old new : Left) (e : LoadError) → done ≤ room
+pub refused : (A : Type 0) (cols : List Column) (room done : ℕ) (rows : List Row) (known : Option (List Fields)) (old new : Left) (e : Failure LoadError) → done ≤ room
     → SeenRows cols room done rows known old.records → old.expected ≡ Some (length cols) → Refuses (done + 1) old new e → RowsFollow {A = A} cols room known new (Err e)
 refused A cols room done rows known old new e le seen expected refuses = by_failure new.failure refl refuses where
-  by_failure : (failure : Option RecordError) → new.failure ≡ failure → MatchOption failure ((e ≡ error.Reader (done + 1)) × NextIsUneven old) (λ why. e ≡ reported why (done + 1)) → RowsFollow {A = A} cols room known new (Err e)
+  by_failure : (failure : Option (Failure RecordError)) → new.failure ≡ failure → MatchOption failure ((e ≡ Fault (error.Reader (done + 1))) × NextIsUneven old) (λ why. e ≡ reported why (done + 1)) → RowsFollow {A = A} cols room known new (Err e)
   by_failure None none (is, uneven) = rw is (uneven_row A cols room done rows known old new le seen expected uneven)
   by_failure (Some why) failed is = failed_row A cols room done rows known old.records new why failed seen e is
 
 -- ---- with the header
 
-pub no_header : (A : Type 0) (cols : List Column) (room : ℕ) (old new : Left) (e : LoadError) → HeaderIs cols old new (Err e) → LoadFollows {A = A} cols room old.records new (Err e)
-no_header A cols room old new e (fault, at) = (unwrap_or old.records [], known_are old.records, λ is. fault is room, tt, λ row same pos. absurd (not_first row (at row same) pos)) where
+pub no_header : (A : Type 0) (cols : List Column) (room : ℕ) (old new : Left) (e : Failure LoadError) → HeaderIs cols old new (Err e) → LoadFollows {A = A} cols room old.records new (Err e)
+no_header A cols room old new OutOfMemory none = (unwrap_or old.records [], known_are old.records, tt, tt, λ row same pos. cc same)
+no_header A cols room old new (Fault e) (fault, at) = (unwrap_or old.records [], known_are old.records, λ is. fault is room, tt, λ row same pos. let is : e ≡ error.Reader row = cc same in absurd (not_first row (at row is) pos)) where
   not_first : (row : ℕ) → row ≡ 0 → 0 < row → ⊥
   not_first row e lt = omega arith
 
@@ -141,7 +140,7 @@ load-take cols room zero h recs named lt = absurd (omega (arith, lt))
 load-take cols room (suc row) h recs named lt =
     let one_less : suc row - 1 ≡ row = omega arith in rw (one_less, named) refl
 
-known_after : (old new : Option (List Fields)) (h : Fields) (recs : List Fields) → GivesOf old new true h → AreKnown new recs → AreKnown old (h ∷ recs)
+known_after : (old new : Option (List Fields)) (h : Fields) (recs : List Fields) → TakesFirst old new true h → AreKnown new recs → AreKnown old (h ∷ recs)
 known_after None new h recs gives known = tt
 known_after (Some []) new h recs gives known = cc gives
 known_after (Some (r ∷ rs)) new h recs (here, is, left) known = let same = rw left at known in cc (is, same)
@@ -149,14 +148,21 @@ known_after (Some (r ∷ rs)) new h recs (here, is, left) known = let same = rw 
 one_more : (row n : ℕ) → 0 < row → row - 1 ≤ n → row ≤ suc n
 one_more row n pos h = omega (arith, pos, h)
 
-pub header_then_rows : {A : Type 0} (cols : List Column) (room : ℕ) (old mid new : Left) (result : Result (Vec (List (Value A)) A) LoadError)
+header_read : (cols : List Column) (room : ℕ) (h : Fields) (recs : List Fields) → names cols h ≡ true → load_of cols room (h ∷ recs) ≡ rows_of cols room 1 recs
+header_read cols room h recs named = rw named refl
+
+-- a result that follows the same
+follows_of : {X Y : Type 0} (view : Y → X) (failure : Option (Failure RecordError)) (due other : Result X LoadError) (r : Result Y (Failure LoadError)) → due ≡ other → Follows view failure other r → Follows view failure due r
+follows_of {X} view failure due other r same follows = subst (λ (x : Result X LoadError). Follows view failure x r) (sym same) follows
+
+pub header_then_rows : {A : Type 0} (cols : List Column) (room : ℕ) (old mid new : Left) (result : Result (Vec (List (Value A)) A) (Failure LoadError))
     → HeaderIs cols old mid (Ok tt) → RowsFollow cols room mid.records new result → LoadFollows cols room old.records new result
 header_then_rows cols room old mid new (Ok rows) (h, named, gives) (recs, known, follows, many, stops) =
     (h ∷ recs, known_after old.records mid.records h recs gives known, rw named follows, omega (arith, many), tt)
-header_then_rows cols room old mid new (Err e) (h, named, gives) (recs, known, follows, many, stops) = (
+header_then_rows {A} cols room old mid new (Err e) (h, named, gives) (recs, known, follows, many, stops) = (
   h ∷ recs,
   known_after old.records mid.records h recs gives known,
-  rw named follows,
+  follows_of (λ (rows : Vec (List (Value A)) A). rows_data rows.items) new.failure (load_of cols room (h ∷ recs)) (rows_of cols room 1 recs) (Err e) (header_read cols room h recs named) follows,
   tt,
   λ row same pos. let s = stops row same in (one_more row (length recs) pos s.0, s.1, load-take cols room row h recs named pos ∙ s.2),
 )
@@ -164,9 +170,9 @@ header_then_rows cols room old mid new (Err e) (h, named, gives) (recs, known, f
 -- ---- where a read failed
 
 -- the error is the one that is reported of the failure
-pub refuses_unread : (Y : Type 0) (row given : ℕ) (old new : Left) (e : LoadError) → given ≡ row → Refuses row old new e → IfSome new.failure (λ why. IsErrOf {T = Y} (Err e) (reported why given))
+pub refuses_unread : (Y : Type 0) (row given : ℕ) (old new : Left) (e : Failure LoadError) → given ≡ row → Refuses row old new e → IfSome new.failure (λ why. IsErrOf {T = Y} (Err e) (reported why given))
 refuses_unread Y row given old new e same refuses = by_failure new.failure refuses where
-  by_failure : (failure : Option RecordError) → MatchOption failure ((e ≡ error.Reader row) × NextIsUneven old) (λ why. e ≡ reported why row) → IfSome failure (λ why. IsErrOf {T = Y} (Err e) (reported why given))
+  by_failure : (failure : Option (Failure RecordError)) → MatchOption failure ((e ≡ Fault (error.Reader row)) × NextIsUneven old) (λ why. e ≡ reported why row) → IfSome failure (λ why. IsErrOf {T = Y} (Err e) (reported why given))
   by_failure None h = tt
   by_failure (Some why) is = ap Err (rw same is)
 
@@ -174,37 +180,54 @@ refuses_unread Y row given old new e same refuses = by_failure new.failure refus
 pub counted_one : (done room : ℕ) (old new : ℕ) (found : Bool) → done < room → room < 2 ^ 64 - 1 → found ≡ true → new ≡ counted found old → old ≡ done + 1 → new ≡ done + 1 + 1
 counted_one done room old new found lt few is count was = let first = rw is at count in omega (arith, lt, few, first, was)
 
+-- the same load, in other words
+pub same_load : {A : Type 0} (cols cols' : List Column) (room room' : ℕ) (known : Option (List Fields)) (left : Left) (result : Result (Vec (List (Value A)) A) (Failure LoadError)) → cols ≡ cols' → room ≡ room'
+    → LoadFollows cols room known left result → LoadFollows cols' room' known left result
+same_load cols cols' room room' known left result is at follows =
+    subst (λ (c : List Column). LoadFollows c room' known left result) is (subst (λ (n : ℕ). LoadFollows cols n known left result) at follows)
+
 -- ---- what came to the rows that were there
 
-fault_exactly : (failure : Option RecordError) (e : LoadError) → failure ≡ None → e ≢ error.OutOfMemory → is_fault failure e ≡ true
-fault_exactly failure error.Header none h = refl
-fault_exactly failure (error.Reader row) none h = rw none refl
-fault_exactly failure (error.Cell row column) none h = refl
-fault_exactly failure (error.NotNull row column) none h = refl
-fault_exactly failure error.TooMany none h = refl
-fault_exactly failure error.OutOfMemory none h = absurd (h refl)
+fault_exactly : (failure : Option (Failure RecordError)) (e : LoadError) → failure ≡ None → is_fault failure e ≡ true
+fault_exactly failure error.Header none = refl
+fault_exactly failure (error.Reader row) none = rw none refl
+fault_exactly failure (error.Cell row column) none = refl
+fault_exactly failure (error.NotNull row column) none = refl
+fault_exactly failure error.TooMany none = refl
 
 -- a fault of records
-pub fault_of_known : (A : Type 0) (cols : List Column) (room : ℕ) (known : Option (List Fields)) (left : Left) (e : LoadError) (old new : List Row) → LoadFollows {A = A} cols room known left (Err e)
-    → left.failure ≡ None → IfSome known (λ recs. Appends (load_of cols room recs) old new (Err e))
+pub fault_of_known : (A : Type 0) (cols : List Column) (room : ℕ) (known : Option (List Fields)) (left : Left) (e : Failure LoadError) (old new : List Row) → LoadFollows {A = A} cols room known left (Err e)
+    → left.failure ≡ None → IfSome known (λ recs. Gives {X = Unit {0}} (λ _. new) (Err e) (appended old (load_of cols room recs)))
 fault_of_known A cols room None left e old new follows none = tt
-fault_of_known A cols room (Some known) left e old new (recs, are, due, many, stops) none = rw are (λ other. due (fault_exactly left.failure e none other))
+fault_of_known A cols room (Some known) left OutOfMemory old new follows none = tt
+fault_of_known A cols room (Some known) left (Fault e) old new (recs, are, due, many, stops) none = rw are (ap (appended old) (due (fault_exactly left.failure e none)))
 
-pub fault_of_some : (A : Type 0) (cols : List Column) (room : ℕ) (known : Option (List Fields)) (left : Left) (e : LoadError) (old new : List Row) → LoadFollows {A = A} cols room known left (Err e)
-    → left.failure ≡ None → (recs : List Fields) × Appends (load_of cols room recs) old new (Err e) × Unit {0}
-fault_of_some A cols room known left e old new (recs, are, due, many, stops) none = (recs, λ other. due (fault_exactly left.failure e none other), tt)
+pub fault_of_some : (A : Type 0) (cols : List Column) (room : ℕ) (known : Option (List Fields)) (left : Left) (e : Failure LoadError) (old new : List Row) → LoadFollows {A = A} cols room known left (Err e)
+    → left.failure ≡ None → (recs : List Fields) × Gives {X = Unit {0}} (λ _. new) (Err e) (appended old (load_of cols room recs)) × Unit {0}
+fault_of_some A cols room known left OutOfMemory old new (recs, are, due, many, stops) none = (recs, tt, tt)
+fault_of_some A cols room known left (Fault e) old new (recs, are, due, many, stops) none = (recs, ap (appended old) (due (fault_exactly left.failure e none)), tt)
 
-pub stops_of_known : (A : Type 0) (cols : List Column) (room : ℕ) (known : Option (List Fields)) (left : Left) (e : LoadError) → LoadFollows {A = A} cols room known left (Err e)
+pub stops_of_known : (A : Type 0) (cols : List Column) (room : ℕ) (known : Option (List Fields)) (left : Left) (e : Failure LoadError) → LoadFollows {A = A} cols room known left (Err e)
     → IfSome known (λ recs. StopsAfterGood {Y = Unit {0}} cols room recs (Err e))
 stops_of_known A cols room None left e follows = tt
 stops_of_known A cols room (Some known) left e (recs, are, due, many, stops) = rw are stops
 
 -- rows of records
 pub rows_of_known : {A : Type 0} (cols : List Column) (room : ℕ) (known : Option (List Fields)) (left : Left) (rows : Vec (List (Value A)) A) (old new : List Row) → LoadFollows cols room known left (Ok rows)
-    → new ≡ old ++ rows_data rows.items → IfSome known (λ recs. Appends (load_of cols room recs) old new (Ok tt))
+    → new ≡ old ++ rows_data rows.items → IfSome known (λ recs. Gives {X = Unit {0}} (λ _. new) (Ok tt) (appended old (load_of cols room recs)))
 rows_of_known cols room None left rows old new follows all = tt
-rows_of_known cols room (Some known) left rows old new (recs, are, due, many, stops) all = rw are (rows_data rows.items, due, all)
+rows_of_known cols room (Some known) left rows old new (recs, are, due, many, stops) all = rw are (ap (appended old) due ∙ ap Ok (sym all))
 
 pub rows_of_some : {A : Type 0} (cols : List Column) (room : ℕ) (known : Option (List Fields)) (left : Left) (rows : Vec (List (Value A)) A) (old new : List Row) → LoadFollows cols room known left (Ok rows)
-    → new ≡ old ++ rows_data rows.items → (recs : List Fields) × Appends (load_of cols room recs) old new (Ok tt) × (length recs ≡ left.given)
-rows_of_some cols room known left rows old new (recs, are, due, many, stops) all = (recs, (rows_data rows.items, due, all), many)
+    → new ≡ old ++ rows_data rows.items → (recs : List Fields) × Gives {X = Unit {0}} (λ _. new) (Ok tt) (appended old (load_of cols room recs)) × (length recs ≡ left.given)
+rows_of_some cols room known left rows old new (recs, are, due, many, stops) all = (recs, ap (appended old) due ∙ ap Ok (sym all), many)
+
+-- ---- for callers: what was appended
+
+pub rows_appended : (old new : List Row) (due : Result (List Row) LoadError) → appended old due ≡ Ok new → (rows : List Row) × (due ≡ Ok rows) × (new ≡ old ++ rows)
+rows_appended old new (Ok rows) is = (rows, refl, cc is)
+rows_appended old new (Err e) is = cc is
+
+pub fault_appended : (old : List Row) (due : Result (List Row) LoadError) (e : LoadError) → appended old due ≡ Err e → due ≡ Err e
+fault_appended old (Ok rows) e is = cc is
+fault_appended old (Err other) e is = cc is

@@ -3,7 +3,7 @@ use Rattle.std.proofs.Common.{ℕ, zero, suc, ◌≡◌, ◌≢◌, ◌+◌, ◌
 use Rattle.std.specs.Bool.{⊤}
 use Rattle.std.proofs.lemmas.List.{append_assoc, append-nil}
 use Rattle.std.proofs.Math.Seq.{take-append_seam}
-use Rattle.csv_records.specs.Left.{FirstHasOther, GivesOf}
+use Rattle.csv_records.specs.Left.{FirstHasOther, TakesFirst}
 use Rattle.value.specs.Datum.{Row}
 use Rattle.tables.specs.declared.LoadError.{LoadError}
 use Rattle.tables.specs.declared.LoadError.TheVariants as error
@@ -22,21 +22,21 @@ pub leaves_all : (known : Option (List Fields)) → Leaves known [] known
 leaves_all None = tt
 leaves_all (Some known) = (known, refl, refl)
 
-next_is : (rest : List Fields) (new : Option (List Fields)) (r : Fields) → GivesOf (Some rest) new true r → (rs : List Fields) × (new ≡ Some rs) × (rest ≡ r ∷ rs)
+next_is : (rest : List Fields) (new : Option (List Fields)) (r : Fields) → TakesFirst (Some rest) new true r → (rs : List Fields) × (new ≡ Some rs) × (rest ≡ r ∷ rs)
 next_is [] new r gives = cc gives
 next_is (x ∷ xs) new r (here, is, left) = (xs, left, ap (λ y. y ∷ xs) (sym is))
 
-pub leaves_one_less : (known : Option (List Fields)) (seen : List Fields) (old new : Option (List Fields)) (r : Fields) → Leaves known seen old → GivesOf old new true r → Leaves known (seen ++ r ∷ []) new
+pub leaves_one_less : (known : Option (List Fields)) (seen : List Fields) (old new : Option (List Fields)) (r : Fields) → Leaves known seen old → TakesFirst old new true r → Leaves known (seen ++ r ∷ []) new
 leaves_one_less None seen old new r leaves gives = tt
 leaves_one_less (Some known) seen old new r (rest, is, all) gives =
     let n = next_is rest new r (rw is at gives) in
     (n.0, n.1, all ∙ ap (λ xs. seen ++ xs) n.2 ∙ sym (append_assoc seen (r ∷ []) n.0))
 
-none_left : (rest : List Fields) (new : Option (List Fields)) (r : Fields) → GivesOf (Some rest) new false r → rest ≡ []
+none_left : (rest : List Fields) (new : Option (List Fields)) (r : Fields) → TakesFirst (Some rest) new false r → rest ≡ []
 none_left [] new r gives = refl
 none_left (x ∷ xs) new r (here, is, left) = cc here
 
-pub leaves_none : (known : Option (List Fields)) (seen : List Fields) (old new : Option (List Fields)) (r : Fields) → Leaves known seen old → GivesOf old new false r → AreKnown known seen
+pub leaves_none : (known : Option (List Fields)) (seen : List Fields) (old new : Option (List Fields)) (r : Fields) → Leaves known seen old → TakesFirst old new false r → AreKnown known seen
 leaves_none None seen old new r leaves gives = tt
 leaves_none (Some known) seen old new r (rest, is, all) gives =
     let none = none_left rest new r (rw is at gives) in all ∙ ap (λ xs. seen ++ xs) none ∙ append-nil seen

@@ -1,14 +1,14 @@
 -- The rows that the records of a text give, or the first fault.
-use Rattle.std.specs.Prelude.{ℕ, zero, suc, ◌+◌, ◌<◌, ◌≤◌, ◌==◌, ◌&&◌, ◌≡◌, ◌≢◌, Bool, true, false, List, [], ◌∷◌, ◌++◌, length, map, take, get_or, Option, is_none, Result, Ok, Err, IfErr, All, if◌then◌else◌}
+use Rattle.std.specs.Prelude.{ℕ, zero, suc, ◌+◌, ◌<◌, ◌≤◌, ◌==◌, ◌&&◌, ◌≡◌, ◌≢◌, Bool, true, false, List, [], ◌∷◌, ◌++◌, length, map, take, get_or, Option, is_none, Result, Ok, Err, IfErr, All, if◌then◌else◌, ⊤}
 use Rattle.std.specs.Str.{bytes_eq, is_utf8}
-use Rattle.value.specs.declared.types.ColType.{ColType}
 use Rattle.value.specs.declared.types.FaultKind.{FaultKind}
 use Rattle.value.specs.declared.types.Value.{Value}
 use Rattle.value.specs.Datum.{Datum, null, Row, row_of}
 use Rattle.value.specs.Columns.{Column}
 use Rattle.value.specs.Texts.{IsNoNullMark, null_mark, value_at}
 use Rattle.csv_records.specs.declared.RecordError.{RecordError}
-use Rattle.csv_records.specs.declared.RecordError.TheVariants as why
+use Rattle.memory.specs.declared.failure.Failure.{Failure}
+use Rattle.memory.specs.declared.failure.Failure.TheVariants.{Fault, OutOfMemory}
 use Rattle.tables.specs.declared.LoadError.{LoadError}
 use Rattle.tables.specs.declared.LoadError.TheVariants as error
 
@@ -27,7 +27,7 @@ both (Err e) r = Err e
 both (Ok x) (Err e) = Err e
 both (Ok x) (Ok xs) = Ok (x ∷ xs)
 
--- what is no value of the type is reported with its place
+-- a text that is not a value of the type is reported with its place
 abbrev pub placed : ℕ → ℕ → Result Datum FaultKind → Result Datum LoadError
 placed row column (Ok d) = Ok d
 placed row column (Err k) = Err (error.Cell row column)
@@ -68,45 +68,38 @@ abbrev pub NoTextIsNull : Type 0
 NoTextIsNull = (cols : List Column) (room : ℕ) (recs : List Fields) (rows : List Row) → load_of cols room recs ≡ Ok rows → All (λ row. All IsNoNullMark row) rows
 
 -- the error that is reported where the record of a row was not read
-abbrev pub reported : RecordError → ℕ → LoadError
-reported why.Uneven row = error.Reader row
-reported why.Failed row = error.Reader row
-reported why.OutOfMemory row = error.OutOfMemory
+abbrev pub reported : Failure RecordError → ℕ → Failure LoadError
+reported (Fault why) row = Fault (error.Reader row)
+reported OutOfMemory row = OutOfMemory
 
--- whether an error is sure to be a fault of the records: out of memory is none, and a row that was not read is one if no
--- read failed
-abbrev pub is_fault : Option RecordError → LoadError → Bool
+-- whether an error is sure to be a fault of the records: a row that was not read is one if no read failed
+abbrev pub is_fault : Option (Failure RecordError) → LoadError → Bool
 is_fault failure error.Header = true
 is_fault failure (error.Reader row) = is_none failure
 is_fault failure (error.Cell row column) = true
 is_fault failure (error.NotNull row column) = true
 is_fault failure error.TooMany = true
-is_fault failure error.OutOfMemory = false
 
--- a result is the one that is due, where it is sure to be of the records
-abbrev pub Follows : {X Y : Type 0} → (Y → X) → Option RecordError → Result X LoadError → Result Y LoadError → Type 0
-Follows view failure due (Ok y) = due ≡ Ok (view y)
-Follows view failure due (Err e) = is_fault failure e ≡ true → due ≡ Err e
+-- a call gives the stated result, where it is sure to be of the records, unless memory ran out
+abbrev pub Follows : {X Y : Type 0} → (Y → X) → Option (Failure RecordError) → Result X LoadError → Result Y (Failure LoadError) → Type 0
+Follows view failure stated (Ok y) = stated ≡ Ok (view y)
+Follows view failure stated (Err (Fault e)) = is_fault failure e ≡ true → stated ≡ Err e
+Follows view failure stated (Err OutOfMemory) = ⊤
 
--- the rows that are due are in the table, or the error is the one that is due, or memory ran out
-abbrev pub Loads : Result (List Row) LoadError → Result Contents LoadError → Type 0
-Loads due (Ok t) = due ≡ Ok t.rows
-Loads due (Err e) = e ≢ error.OutOfMemory → due ≡ Err e
-
--- the rows that are due came to those that were there, or the error is the one that is due, or memory ran out
-abbrev pub Appends : Result (List Row) LoadError → List Row → List Row → Result (Unit {0}) LoadError → Type 0
-Appends due old new (Ok u) = (rows : List Row) × (due ≡ Ok rows) × (new ≡ old ++ rows)
-Appends due old new (Err e) = e ≢ error.OutOfMemory → due ≡ Err e
+-- rows after those that are there, or the fault
+abbrev pub appended : List Row → Result (List Row) LoadError → Result (List Row) LoadError
+appended old (Ok rows) = Ok (old ++ rows)
+appended old (Err e) = Err e
 
 -- the fact holds, unless the error is that a row was not read
-abbrev pub UnlessUnread : {Y : Type 0} → Result Y LoadError → Type 0 → Type 0
+abbrev pub UnlessUnread : {Y : Type 0} → Result Y (Failure LoadError) → Type 0 → Type 0
 UnlessUnread (Ok y) fact = fact
-UnlessUnread (Err e) fact = ((row : ℕ) → e ≢ error.Reader row) → fact
+UnlessUnread (Err e) fact = ((row : ℕ) → e ≢ Fault (error.Reader row)) → fact
 
 -- where a row was not read, the header and the rows before it are there and without fault
-abbrev pub StopsAfterGood : {Y : Type 0} → List Column → ℕ → List Fields → Result Y LoadError → Type 0
+abbrev pub StopsAfterGood : {Y : Type 0} → List Column → ℕ → List Fields → Result Y (Failure LoadError) → Type 0
 StopsAfterGood cols room recs result =
-    IfErr result (λ e. (row : ℕ) → e ≡ error.Reader row → 0 < row → (row ≤ length recs) × (rows : List Row) × (load_of cols room (take row recs) ≡ Ok rows))
+    IfErr result (λ e. (row : ℕ) → e ≡ Fault (error.Reader row) → 0 < row → (row ≤ length recs) × (rows : List Row) × (load_of cols room (take row recs) ≡ Ok rows))
 
 abbrev pub rows_data : {A : Type 0} → List (List (Value A)) → List Row
 rows_data rs = map (λ r. row_of r) rs

@@ -1,8 +1,10 @@
 -- How a text is read, record by record.
 use Rattle.std.specs.Prelude.{ℕ, ◌+◌, ◌-◌, ◌≤◌, ◌≡◌, true, List, [], length, take, Option, Some, None, MatchOption, unwrap_or, Result, Ok, Err, IfErr, OnOk, ⊤, Vec}
-use Rattle.csv_records.specs.Left.{Left, GivesOf, NextIsUneven}
+use Rattle.csv_records.specs.Left.{Left, NextIsUneven, TakesFirst}
 use Rattle.value.specs.declared.types.Value.{Value}
 use Rattle.value.specs.Datum.{Row}
+use Rattle.memory.specs.declared.failure.Failure.{Failure}
+use Rattle.memory.specs.declared.failure.Failure.TheVariants.{Fault, OutOfMemory}
 use Rattle.tables.specs.declared.LoadError.{LoadError}
 use Rattle.tables.specs.declared.LoadError.TheVariants as error
 use Rattle.tables.specs.Loading.{Fields, Follows, StopsAfterGood, is_fault, load_of, names, reported, rows_data, rows_of}
@@ -14,24 +16,25 @@ AreKnown None recs = ⊤
 AreKnown (Some known) recs = known ≡ recs
 
 -- why the next record was not read: a read failed, or else the record is uneven
-abbrev pub Refuses : ℕ → Left → Left → LoadError → Type 0
-Refuses row old new e = MatchOption new.failure ((e ≡ error.Reader row) × NextIsUneven old) (λ why. e ≡ reported why row)
+abbrev pub Refuses : ℕ → Left → Left → Failure LoadError → Type 0
+Refuses row old new e = MatchOption new.failure ((e ≡ Fault (error.Reader row)) × NextIsUneven old) (λ why. e ≡ reported why row)
 
 -- the first record was read and is the header, or there is no header
-abbrev pub HeaderIs : List Column → Left → Left → Result (Unit {0}) LoadError → Type 0
-HeaderIs cols old new (Ok u) = (h : Fields) × (names cols h ≡ true) × GivesOf old.records new.records true h
-HeaderIs cols old new (Err e) = (is_fault new.failure e ≡ true → (room : ℕ) → load_of cols room (unwrap_or old.records []) ≡ Err e)
+abbrev pub HeaderIs : List Column → Left → Left → Result (Unit {0}) (Failure LoadError) → Type 0
+HeaderIs cols old new (Ok u) = (h : Fields) × (names cols h ≡ true) × TakesFirst old.records new.records true h
+HeaderIs cols old new (Err OutOfMemory) = ⊤
+HeaderIs cols old new (Err (Fault e)) = (is_fault new.failure e ≡ true → (room : ℕ) → load_of cols room (unwrap_or old.records []) ≡ Err e)
     × ((row : ℕ) → e ≡ error.Reader row → row ≡ 0)
 
 -- the rows after the header are those of some records, which are those that are known, or the fault is theirs
-abbrev pub RowsFollow : {A : Type 0} → List Column → ℕ → Option (List Fields) → Left → Result (Vec (List (Value A)) A) LoadError → Type 0
+abbrev pub RowsFollow : {A : Type 0} → List Column → ℕ → Option (List Fields) → Left → Result (Vec (List (Value A)) A) (Failure LoadError) → Type 0
 RowsFollow cols room known left result = (recs : List Fields) × AreKnown known recs
     × Follows (λ rows. rows_data rows.items) left.failure (rows_of cols room 1 recs) result
     × OnOk result (length recs + 1 ≡ left.given)
-    × IfErr result (λ e. (row : ℕ) → e ≡ error.Reader row → (row - 1 ≤ length recs) × (rows : List Row) × (rows_of cols room 1 (take (row - 1) recs) ≡ Ok rows))
+    × IfErr result (λ e. (row : ℕ) → e ≡ Fault (error.Reader row) → (row - 1 ≤ length recs) × (rows : List Row) × (rows_of cols room 1 (take (row - 1) recs) ≡ Ok rows))
 
 -- the same of a text with its header
-abbrev pub LoadFollows : {A : Type 0} → List Column → ℕ → Option (List Fields) → Left → Result (Vec (List (Value A)) A) LoadError → Type 0
+abbrev pub LoadFollows : {A : Type 0} → List Column → ℕ → Option (List Fields) → Left → Result (Vec (List (Value A)) A) (Failure LoadError) → Type 0
 LoadFollows cols room known left result = (recs : List Fields) × AreKnown known recs
     × Follows (λ rows. rows_data rows.items) left.failure (load_of cols room recs) result
     × OnOk result (length recs ≡ left.given)

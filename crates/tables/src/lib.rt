@@ -1,23 +1,26 @@
 //! Typed tables, read from comma-separated text.
 #![tactic(auto)]
 
-use std::alloc::{AllocError, AllocFailed};
+use thiserror::Error;
 
 /// How many rows a table holds at most.
 pub const MAX_ROWS: u64 = 4_000_000_000;
 
 /// Why a text gave no rows. Rows count from 1 after the header, which is row 0, and columns from 0. Of several faults the
 /// first row decides, and then the first column.
-#[derive(Clone, Copy, Debug, PartialEq, Eq)]
+#[derive(Clone, Copy, Debug, Error, PartialEq, Eq)]
 pub enum LoadError {
     /// The first record is not the names of the columns, in order and byte by byte.
+    #[error("the first record is not the names of the columns")]
     Header,
     /// The record has another number of fields than the header, or the bytes could not be read.
+    #[error("row {row} could not be read, or has another number of fields than the header")]
     Reader {
         /// The row.
         row: u64,
     },
     /// The field is not UTF-8, or spells no value of the column's type, or one out of range.
+    #[error("row {row}, column {column}: not a value of the column's type")]
     Cell {
         /// The row.
         row: u64,
@@ -25,6 +28,7 @@ pub enum LoadError {
         column: u64,
     },
     /// The field is null, and the column takes none.
+    #[error("row {row}, column {column}: null where the column takes none")]
     NotNull {
         /// The row.
         row: u64,
@@ -32,31 +36,8 @@ pub enum LoadError {
         column: u64,
     },
     /// There are more rows than the table has room for.
+    #[error("too many rows")]
     TooMany,
-    /// A growth of memory was refused.
-    OutOfMemory,
-}
-
-impl From<AllocError> for LoadError {
-    ghost use Rattle.tables.specs.declared.LoadError.TheVariants.{OutOfMemory};
-    ghost use Rattle.std.specs.Prelude.{◌≡◌};
-
-    ghost from_gives = { λ _ e. e ≡ OutOfMemory };
-
-    fn from(_error: AllocError) -> LoadError {
-        LoadError::OutOfMemory
-    }
-}
-
-impl<T: Drop> From<AllocFailed<T>> for LoadError {
-    ghost use Rattle.tables.specs.declared.LoadError.TheVariants.{OutOfMemory};
-    ghost use Rattle.std.specs.Prelude.{◌≡◌};
-
-    ghost from_gives = { λ _ e. e ≡ OutOfMemory };
-
-    fn from(_error: AllocFailed<T>) -> LoadError {
-        LoadError::OutOfMemory
-    }
 }
 
 mod load;

@@ -2,9 +2,11 @@
 
 ghost use Rattle.std.specs.Prelude.{◌≡◌, ◌≢◌, ◌+◌, ◌-◌, ◌<◌, ◌≤◌, ◌^◌, ℕ, length, map, true, None, Some, All, IfOk, IfErr, IfSome, IsErrOf, OnErr, OnOk};
 ghost use Rattle.csv.specs.Records.{fields_of};
-ghost use Rattle.csv_records.specs.Left.{Gives, counted};
+ghost use Rattle.memory.specs.Gives.{Gives};
+ghost use Rattle.memory.specs.declared.failure.Failure.TheVariants.{Fault};
+ghost use Rattle.csv_records.specs.Left.{TakesNext, counted};
 ghost use Rattle.value.specs.Datum.{datum, row_of};
-ghost use Rattle.tables.specs.Loading.{Follows, cell_of, cells_of, names, reported};
+ghost use Rattle.tables.specs.Loading.{cell_of, cells_of, names, reported};
 ghost use Rattle.value.specs.Columns.{column_of};
 ghost use Rattle.tables.specs.Reading.{HeaderIs, LoadFollows, Refuses, RowsFollow};
 ghost use Rattle.tables.specs.declared.LoadError.TheVariants.{Reader};
@@ -12,11 +14,11 @@ ghost use Rattle.tables.specs.declared.LoadError.TheVariants.{Reader};
 use crate::LoadError;
 use csv::ByteRecord;
 use csv_records::{RecordError, Records};
-use memory::Heap;
+use memory::{Failure, Heap};
 use std::io::Read;
 use std::str;
 use text::Items;
-use value::{Column, ReadError, Value, read_value};
+use value::{Column, Value, read_value};
 
 // The value of a cell.
 fn read_cell<A: Heap>(
@@ -25,23 +27,23 @@ fn read_cell<A: Heap>(
     field: &[u8],
     row: u64,
     at: u64,
-) -> Result<Value<A>, LoadError>
-    ensures cell { Follows datum None (cell_of (column_of column.now) row at field.now) result }
-    ensures no_reader { IfErr result (λ e. (r : ℕ) → e ≢ Reader r) }
+) -> Result<Value<A>, Failure<LoadError>>
+    ensures cell { Gives datum result (cell_of (column_of column.now) row at field.now) }
+    ensures no_reader { IfErr result (λ e. (r : ℕ) → e ≢ Fault (Reader r)) }
 {
     if field == b"\\N".as_slice() {
         if column.not_null {
-            return Err(LoadError::NotNull { row, column: at });
+            return Err(Failure::Fault(LoadError::NotNull { row, column: at }));
         }
         return Ok(Value::Null);
     }
     let Ok(text) = str::from_utf8(field) else {
-        return Err(LoadError::Cell { row, column: at });
+        return Err(Failure::Fault(LoadError::Cell { row, column: at }));
     };
     match read_value(alloc, column.data_type, text) {
         Ok(value) => Ok(value),
-        Err(ReadError::Fault(_)) => Err(LoadError::Cell { row, column: at }),
-        Err(ReadError::Memory) => Err(LoadError::OutOfMemory),
+        Err(Failure::Fault(_)) => Err(Failure::Fault(LoadError::Cell { row, column: at })),
+        Err(Failure::OutOfMemory) => Err(Failure::OutOfMemory),
     }
 }
 
@@ -51,20 +53,30 @@ fn read_row<A: Heap>(
     columns: &[Column<A>],
     cells: &ByteRecord,
     row: u64,
-) -> Result<Items<Value<A>, A>, LoadError>
+) -> Result<Items<Value<A>, A>, Failure<LoadError>>
     requires { length (fields_of cells.now) ≡ length columns.now }
     ensures wide { IfOk result (λ values. length values ≡ length columns.now) }
-    ensures cells { Follows (λ values. row_of values) None (cells_of (map column_of columns.now) row 0 (fields_of cells.now)) result }
-    ensures no_reader { IfErr result (λ e. (r : ℕ) → e ≢ Reader r) }
+    ensures cells { Gives (λ values. row_of values) result (cells_of (map column_of columns.now) row 0 (fields_of cells.now)) }
+    ensures no_reader { IfErr result (λ e. (r : ℕ) → e ≢ Fault (Reader r)) }
 {
     let mut values = Vec::with_capacity(alloc, columns.len())?;
     for (i, column) in columns.iter().enumerate() {
         let Some(field) = cells.get(i) else {
-            return Err(LoadError::Reader { row });
+            return Err(Failure::Fault(LoadError::Reader { row }));
         };
         values.push(read_cell(alloc, column, field, row, i as u64)?)?;
     }
     Ok(Items::from(values))
+}
+
+// The error that is reported where the record of a row was not read.
+fn reported(error: Failure<RecordError>, row: u64) -> Failure<LoadError>
+    ensures { result ≡ reported error row }
+{
+    match error {
+        Failure::Fault(_) => Failure::Fault(LoadError::Reader { row }),
+        Failure::OutOfMemory => Failure::OutOfMemory,
+    }
 }
 
 // Reads the next record, and reports whether there was one.
@@ -72,8 +84,8 @@ fn next_record<R: Read>(
     records: &mut Records<R>,
     cells: &mut ByteRecord,
     row: u64,
-) -> Result<bool, LoadError>
-    ensures gives { IfOk result (λ found. Gives records.old records.new found (fields_of cells.new)) }
+) -> Result<bool, Failure<LoadError>>
+    ensures gives { IfOk result (λ found. TakesNext records.old records.new found (fields_of cells.new)) }
     ensures given { IfOk result (λ found. records.new.given ≡ counted found records.old.given) }
     ensures no_more { OnErr result (records.new.given ≡ records.old.given) }
     ensures goes_on { OnOk result (records.new.failure ≡ records.old.failure) }
@@ -81,8 +93,7 @@ fn next_record<R: Read>(
 {
     match records.read(cells) {
         Ok(found) => Ok(found),
-        Err(RecordError::Uneven | RecordError::Failed) => Err(LoadError::Reader { row }),
-        Err(RecordError::OutOfMemory) => Err(LoadError::OutOfMemory),
+        Err(error) => Err(reported(error, row)),
     }
 }
 
@@ -92,7 +103,7 @@ fn read_rows<A: Heap, R: Read>(
     columns: &[Column<A>],
     records: &mut Records<R>,
     room: u64,
-) -> Result<Vec<Items<Value<A>, A>, A>, LoadError>
+) -> Result<Vec<Items<Value<A>, A>, A>, Failure<LoadError>>
     requires expected { records.old.expected ≡ Some (length columns.now) }
     requires given { records.old.given ≡ 1 }
     requires fresh { records.old.failure ≡ None }
@@ -112,7 +123,7 @@ fn read_rows<A: Heap, R: Read>(
         rows.push(read_row(alloc, columns, &cells, row)?)?;
     }
     if next_record(records, &mut cells, room + 1)? {
-        return Err(LoadError::TooMany);
+        return Err(Failure::Fault(LoadError::TooMany));
     }
     Ok(rows)
 }
@@ -141,7 +152,7 @@ fn read_header<A: Heap, R: Read>(
     alloc: A,
     columns: &[Column<A>],
     records: &mut Records<R>,
-) -> Result<(), LoadError>
+) -> Result<(), Failure<LoadError>>
     requires expected { records.old.expected ≡ None }
     requires given { records.old.given ≡ 0 }
     requires fresh { records.old.failure ≡ None }
@@ -155,7 +166,7 @@ fn read_header<A: Heap, R: Read>(
     if next_record(records, &mut cells, 0)? && has_names(columns, &cells) {
         Ok(())
     } else {
-        Err(LoadError::Header)
+        Err(Failure::Fault(LoadError::Header))
     }
 }
 
@@ -165,7 +176,7 @@ pub(crate) fn read_table<A: Heap, R: Read>(
     columns: &[Column<A>],
     records: &mut Records<R>,
     room: u64,
-) -> Result<Vec<Items<Value<A>, A>, A>, LoadError>
+) -> Result<Vec<Items<Value<A>, A>, A>, Failure<LoadError>>
     requires expected { records.old.expected ≡ None }
     requires given { records.old.given ≡ 0 }
     requires fresh { records.old.failure ≡ None }

@@ -1,16 +1,17 @@
 //! A table and its rows.
 
 ghost use Rattle.std.specs.Prelude.{◌≡◌, ◌-◌, ◌<◌, ◌≤◌, None, List, [], length, map, All, IfOk, IfSome, IsErrOf, OnErr, OnOk};
+ghost use Rattle.memory.specs.Gives.{Gives};
 ghost use Rattle.csv_records.specs.Left.{records_of};
 ghost use Rattle.value.specs.Columns.{column_of};
 ghost use Rattle.value.specs.Datum.{datum_of};
-ghost use Rattle.tables.specs.Loading.{Appends, Fields, Loads, NoTextIsNull, StopsAfterGood, UnlessUnread, cell_at, load_of, reported};
+ghost use Rattle.tables.specs.Loading.{Fields, NoTextIsNull, StopsAfterGood, UnlessUnread, appended, cell_at, load_of, reported};
 ghost use Rattle.tables.specs.declared.TheConstants.{MAX_ROWS};
 
 use crate::load::read_table;
 use crate::{LoadError, MAX_ROWS};
 use csv_records::Records;
-use memory::Heap;
+use memory::{Failure, Heap};
 use std::io::Read;
 use std::marker::Model;
 use text::Items;
@@ -56,11 +57,11 @@ impl<A: Heap> Table<A> {
         alloc: A,
         reader: R,
         columns: Items<Column<A>, A>,
-    ) -> Result<Table<A>, LoadError>
+    ) -> Result<Table<A>, Failure<LoadError>>
         ensures columns { IfOk result (λ t. t.columns ≡ map column_of columns) }
-        ensures exact { IfSome (R.remaining reader) (λ bytes. UnlessUnread result (Loads (load_of (map column_of columns) MAX_ROWS (records_of bytes)) result)) }
+        ensures exact { IfSome (R.remaining reader) (λ bytes. UnlessUnread result (Gives (λ t. t.rows) result (load_of (map column_of columns) MAX_ROWS (records_of bytes)))) }
         // The same of bytes that are not known: what was read were some records.
-        ensures some_records { UnlessUnread result ((recs : List Fields) × Loads (load_of (map column_of columns) MAX_ROWS recs) result) }
+        ensures some_records { UnlessUnread result ((recs : List Fields) × Gives (λ t. t.rows) result (load_of (map column_of columns) MAX_ROWS recs)) }
         ensures stops { IfSome (R.remaining reader) (λ bytes. StopsAfterGood (map column_of columns) MAX_ROWS (records_of bytes) result) }
     {
         let mut records = Records::new(alloc.global(), reader);
@@ -68,12 +69,12 @@ impl<A: Heap> Table<A> {
     }
 
     /// Adds all the rows of the records that a reader gives, as `load` reads them, or reports a fault and adds none.
-    pub fn append<R: Read + Drop>(&mut self, reader: R) -> Result<(), LoadError>
+    pub fn append<R: Read + Drop>(&mut self, reader: R) -> Result<(), Failure<LoadError>>
         ensures columns { self.new.columns ≡ self.old.columns }
         ensures unchanged { OnErr result (self.new ≡ self.old) }
-        ensures exact { IfSome (R.remaining reader) (λ bytes. UnlessUnread result (Appends (load_of self.old.columns (MAX_ROWS - length self.old.rows) (records_of bytes)) self.old.rows self.new.rows result)) }
+        ensures exact { IfSome (R.remaining reader) (λ bytes. UnlessUnread result (Gives (λ _. self.new.rows) result (appended self.old.rows (load_of self.old.columns (MAX_ROWS - length self.old.rows) (records_of bytes))))) }
         // The same of bytes that are not known: what was read were some records.
-        ensures some_records { UnlessUnread result ((recs : List Fields) × Appends (load_of self.old.columns (MAX_ROWS - length self.old.rows) recs) self.old.rows self.new.rows result) }
+        ensures some_records { UnlessUnread result ((recs : List Fields) × Gives (λ _. self.new.rows) result (appended self.old.rows (load_of self.old.columns (MAX_ROWS - length self.old.rows) recs))) }
         ensures stops { IfSome (R.remaining reader) (λ bytes. StopsAfterGood self.old.columns (MAX_ROWS - length self.old.rows) (records_of bytes) result) }
     {
         let mut records = Records::new(self.alloc.global(), reader);
@@ -86,14 +87,14 @@ impl<A: Heap> Table<A> {
         alloc: A,
         records: &mut Records<R>,
         columns: Items<Column<A>, A>,
-    ) -> Result<Table<A>, LoadError>
+    ) -> Result<Table<A>, Failure<LoadError>>
         requires expected { records.old.expected ≡ None }
         requires given { records.old.given ≡ 0 }
         requires fresh { records.old.failure ≡ None }
         ensures columns { IfOk result (λ t. t.columns ≡ map column_of columns) }
-        ensures exact { records.new.failure ≡ None → IfSome records.old.records (λ recs. Loads (load_of (map column_of columns) MAX_ROWS recs) result) }
+        ensures exact { records.new.failure ≡ None → IfSome records.old.records (λ recs. Gives (λ t. t.rows) result (load_of (map column_of columns) MAX_ROWS recs)) }
         // The same of records that are not known: what was read were some records, as many as were given.
-        ensures some_records { records.new.failure ≡ None → (recs : List Fields) × Loads (load_of (map column_of columns) MAX_ROWS recs) result × OnOk result (length recs ≡ records.new.given) }
+        ensures some_records { records.new.failure ≡ None → (recs : List Fields) × Gives (λ t. t.rows) result (load_of (map column_of columns) MAX_ROWS recs) × OnOk result (length recs ≡ records.new.given) }
         ensures failed { IfSome records.new.failure (λ why. IsErrOf result (reported why records.new.given)) }
         ensures stops { IfSome records.old.records (λ recs. StopsAfterGood (map column_of columns) MAX_ROWS recs result) }
     {
@@ -103,15 +104,18 @@ impl<A: Heap> Table<A> {
     }
 
     /// Adds all the rows of records, as `load_records` reads them, or reports a fault and adds none.
-    pub fn append_records<R: Read>(&mut self, records: &mut Records<R>) -> Result<(), LoadError>
+    pub fn append_records<R: Read>(
+        &mut self,
+        records: &mut Records<R>,
+    ) -> Result<(), Failure<LoadError>>
         requires expected { records.old.expected ≡ None }
         requires given { records.old.given ≡ 0 }
         requires fresh { records.old.failure ≡ None }
         ensures columns { self.new.columns ≡ self.old.columns }
         ensures unchanged { OnErr result (self.new ≡ self.old) }
-        ensures exact { records.new.failure ≡ None → IfSome records.old.records (λ recs. Appends (load_of self.old.columns (MAX_ROWS - length self.old.rows) recs) self.old.rows self.new.rows result) }
+        ensures exact { records.new.failure ≡ None → IfSome records.old.records (λ recs. Gives (λ _. self.new.rows) result (appended self.old.rows (load_of self.old.columns (MAX_ROWS - length self.old.rows) recs))) }
         // The same of records that are not known: what was read were some records, as many as were given.
-        ensures some_records { records.new.failure ≡ None → (recs : List Fields) × Appends (load_of self.old.columns (MAX_ROWS - length self.old.rows) recs) self.old.rows self.new.rows result × OnOk result (length recs ≡ records.new.given) }
+        ensures some_records { records.new.failure ≡ None → (recs : List Fields) × Gives (λ _. self.new.rows) result (appended self.old.rows (load_of self.old.columns (MAX_ROWS - length self.old.rows) recs)) × OnOk result (length recs ≡ records.new.given) }
         ensures failed { IfSome records.new.failure (λ why. IsErrOf result (reported why records.new.given)) }
         ensures stops { IfSome records.old.records (λ recs. StopsAfterGood self.old.columns (MAX_ROWS - length self.old.rows) recs result) }
     {

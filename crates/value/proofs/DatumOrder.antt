@@ -1,4 +1,4 @@
--- The order of values and of rows is total, and tells all apart.
+-- The order of values and of rows is total, and distinguishes all values.
 use Rattle.std.proofs.Common.{◌≡◌, [], ◌∷◌, refl, sym, ap, ap₂, true, false, Ordering, Less, Equal, Greater, is_eq, true≢false, arith}
 use Rattle.std.specs.Cmp.{IsTotalOrder}
 use Rattle.std.specs.Cmp.Lexicographic.{slice_cmp}

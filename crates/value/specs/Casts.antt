@@ -1,15 +1,12 @@
 -- Values as other types.
-use Rattle.std.specs.Prelude.{◌≡◌, Result, Ok, Err}
+use Rattle.std.specs.Prelude.{Result, Ok}
 use Rattle.std.specs.Fmt.{signed_decimal}
-use Rattle.value.specs.Datum.{Datum, null, int, text, bool, datum_of}
+use Rattle.value.specs.Datum.{Datum, null, int, text, bool}
 use Rattle.value.specs.Exact.{as_number}
 use Rattle.value.specs.Texts.{bigint_at}
-use Rattle.value.specs.declared.types.Val.{Val}
 use Rattle.value.specs.declared.types.FaultKind.{FaultKind}
 use Rattle.value.specs.declared.types.ColType.{ColType}
 use Rattle.value.specs.declared.types.ColType.TheVariants as to
-use Rattle.value.specs.declared.casting.CastError.{CastError}
-use Rattle.value.specs.declared.casting.CastError.TheVariants as errors
 
 -- a number to its text and back; all else stays as it is
 abbrev pub cast_of : ColType → Datum → Result Datum FaultKind
@@ -22,9 +19,3 @@ cast_of to.Text null = Ok null
 cast_of to.Text (text t) = Ok (text t)
 cast_of to.Text (bool b) = Ok (bool b)
 cast_of to.Boolean d = Ok d
-
--- a cast gives this, unless memory ran out
-abbrev pub CastGives : {A : Type 0} → Result (Val A) CastError → Result Datum FaultKind → Type 0
-CastGives (Ok v) due = due ≡ Ok (datum_of v)
-CastGives (Err (errors.Fault k)) due = due ≡ Err k
-CastGives (Err errors.Memory) due = Unit {0}

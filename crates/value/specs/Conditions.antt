@@ -4,7 +4,7 @@ use Rattle.value.specs.declared.order.Truth.{Truth}
 use Rattle.value.specs.declared.order.Truth.TheVariants.{False, Unknown, True}
 use Rattle.value.specs.Datum.{Datum, null, int, text, bool}
 
--- null is unknown, and so is what is no truth value
+-- null is unknown, and so is a value that is not a truth value
 abbrev pub truth_at : Datum → Truth
 truth_at (bool true) = True
 truth_at (bool false) = False

@@ -10,7 +10,7 @@ abbrev pub is_bigint : ℤ → Bool
 is_bigint (pos n) = nat_lt n (2 ^ 63)
 is_bigint (negsuc n) = nat_lt n (2 ^ 63)
 
--- the exact number, or that it lies outside
+-- the exact number, or `Range` if it lies outside
 abbrev pub in_range : ℤ → Result ℤ FaultKind
 in_range z = if is_bigint z then Ok z else Err Range
 
@@ -40,7 +40,7 @@ remainder_of x y = if int_eq y (pos 0) then Err Div0 else in_range (int_rem x y)
 abbrev pub negated_of : ℤ → Result ℤ FaultKind
 negated_of x = in_range (neg_ℤ x)
 
--- of two numbers; null where an operand is null, and where one is no number
+-- of two numbers; null where an operand is null, and where one is not a number
 abbrev pub with_numbers : (ℤ → ℤ → Result ℤ FaultKind) → Datum → Datum → Result Datum FaultKind
 with_numbers f (int x) (int y) = as_number (f x y)
 with_numbers f _ _ = Ok null

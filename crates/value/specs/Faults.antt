@@ -5,7 +5,7 @@ use Rattle.std.specs.Ordering.{nat_cmp, on}
 use Rattle.value.specs.declared.types.FaultKind.{FaultKind}
 use Rattle.value.specs.declared.types.FaultKind.TheVariants.{Div0, Range, BadText}
 
--- of two kinds that are due, the lower is reported
+-- of two kinds that both apply, the lower is reported
 abbrev pub kind_rank : FaultKind → ℕ
 kind_rank Div0 = 0
 kind_rank Range = 1

@@ -8,19 +8,16 @@ use Rattle.std.specs.Str.Parse.{digits_value}
 use Rattle.value.specs.declared.types.FaultKind.{FaultKind}
 use Rattle.value.specs.declared.types.FaultKind.TheVariants.{BadText}
 use Rattle.value.specs.Exact.{in_range, is_bigint, as_number}
-use Rattle.value.specs.Datum.{Datum, null, int, text, bool, datum}
+use Rattle.value.specs.Datum.{Datum, null, int, text, bool}
 use Rattle.value.specs.declared.types.ColType.{ColType}
 use Rattle.value.specs.declared.types.ColType.TheVariants as types
-use Rattle.value.specs.declared.types.Value.{Value}
-use Rattle.value.specs.declared.reading.ReadError.{ReadError}
-use Rattle.value.specs.declared.reading.ReadError.TheVariants as errors
 
--- digits that do not begin with 0
+-- digits that do not start with 0
 abbrev pub is_positive : List ℕ → Bool
 is_positive [] = false
 is_positive (d ∷ ds) = not (d == 48) && list_all is_ascii_digit (d ∷ ds)
 
--- an optional minus, and digits that do not begin with 0
+-- an optional minus, and digits that do not start with 0
 abbrev pub is_spelled : List ℕ → Bool
 is_spelled [] = false
 is_spelled (c ∷ cs) = if c == 45 then is_positive cs else is_positive (c ∷ cs)
@@ -51,12 +48,6 @@ abbrev pub value_at : ColType → List ℕ → Result Datum FaultKind
 value_at types.Bigint t = as_number (bigint_at t)
 value_at types.Text t = Ok (text t)
 value_at types.Boolean t = boolean_at t
-
--- what is read is this, unless memory ran out
-abbrev pub Reads : {A : Type 0} → Result (Value A) ReadError → Result Datum FaultKind → Type 0
-Reads (Ok v) due = due ≡ Ok (datum v)
-Reads (Err (errors.Fault k)) due = due ≡ Err k
-Reads (Err errors.Memory) due = Unit {0}
 
 -- the field that stands for null: a backslash and N
 abbrev pub null_mark : List ℕ

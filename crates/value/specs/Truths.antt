@@ -15,7 +15,7 @@ least a b = if nat_lt (rank b) (rank a) then b else a
 abbrev pub greatest : Truth → Truth → Truth
 greatest a b = if nat_lt (rank a) (rank b) then b else a
 
--- the order turned round
+-- the order reversed
 abbrev pub negated : Truth → Truth
 negated False = True
 negated Unknown = Unknown

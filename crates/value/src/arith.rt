@@ -82,7 +82,7 @@ pub fn mul<'r, A: Heap>(a: &Val<'_, A>, b: &Val<'_, A>) -> Result<Val<'r, A>, Fa
     }
 }
 
-/// The quotient of two bigints, toward zero, or `Div0` or `Range`; null where an operand is null, also of null by 0.
+/// The quotient of two bigints, toward zero, or `Div0` or `Range`; null where an operand is null, also for null divided by 0.
 pub fn div<'r, A: Heap>(a: &Val<'_, A>, b: &Val<'_, A>) -> Result<Val<'r, A>, FaultKind>
     ensures { datums_of result ≡ with_numbers quotient_of (datum_of a.now) (datum_of b.now) }
 {
@@ -92,7 +92,7 @@ pub fn div<'r, A: Heap>(a: &Val<'_, A>, b: &Val<'_, A>) -> Result<Val<'r, A>, Fa
     }
 }
 
-/// The remainder of a division of bigints, with the sign of the dividend, or `Div0`; null where an operand is null, also of null by 0.
+/// The remainder of a division of bigints, with the sign of the dividend, or `Div0`; null where an operand is null, also for null divided by 0.
 pub fn rem<'r, A: Heap>(a: &Val<'_, A>, b: &Val<'_, A>) -> Result<Val<'r, A>, FaultKind>
     ensures { datums_of result ≡ with_numbers remainder_of (datum_of a.now) (datum_of b.now) }
 {
@@ -102,7 +102,7 @@ pub fn rem<'r, A: Heap>(a: &Val<'_, A>, b: &Val<'_, A>) -> Result<Val<'r, A>, Fa
     }
 }
 
-/// The negated of a bigint, or `Range`; null of null.
+/// The negation of a bigint, or `Range`; null for null.
 pub fn neg<'r, A: Heap>(a: &Val<'_, A>) -> Result<Val<'r, A>, FaultKind>
     ensures { datums_of result ≡ with_number negated_of (datum_of a.now) }
 {

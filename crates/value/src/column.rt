@@ -7,7 +7,7 @@ use text::Text;
 /// A column of a table (PostgreSQL: CREATE TABLE).
 #[derive(Drop)]
 pub struct Column<A: Heap> {
-    /// Its name, which the header of a text of rows has at its place.
+    /// Its name, as in the header of a CSV text.
     pub name: Text<A>,
     /// The type of its values.
     pub data_type: ColType,

@@ -8,7 +8,7 @@ use crate::types::FaultKind;
 /// Where an evaluation failed, and by what.
 #[derive(Clone, Copy, Debug, PartialEq, Eq)]
 pub struct Fault {
-    /// The byte of the query's text where the failing part begins.
+    /// The byte of the query's text where the failing part starts.
     pub offset: u32,
     /// What it failed by.
     pub kind: FaultKind,
@@ -27,7 +27,7 @@ impl FaultKind {
     }
 }
 
-/// Of two kinds that are due the lesser is reported: division by zero, then a number out of range, then a text that is no number.
+/// Of two kinds that both apply the lesser is reported: division by zero, then a number out of range, then a text that is not a number.
 pub fn law_kinds_in_order()
     ensures { (a b : FaultKind) → ⟦<FaultKind as Ord>⟧.cmp a b ≡ kind_cmp a b }
 {}

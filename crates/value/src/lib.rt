@@ -14,12 +14,12 @@ mod types;
 mod writing;
 
 pub use arith::{add, div, mul, neg, rem, sub};
-pub use casting::{CastError, cast};
+pub use casting::cast;
 pub use column::Column;
 pub use faults::{Fault, law_kinds_in_order};
 pub use operators::{Aggregate, Arithmetic, Comparison};
 pub use order::{Truth, cmp_rows, cmp_values, eq3, law_sorted_rows, lt3, sort_rows};
-pub use reading::{ReadError, law_one_spelling, read_bigint, read_value};
+pub use reading::{law_one_spelling, read_bigint, read_value};
 pub use refusal::Refusal;
 pub use truth::{and3, as_condition, not3, of_truth, or3};
 pub use types::{ColType, FaultKind, Val, Value};

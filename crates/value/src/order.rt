@@ -50,7 +50,7 @@ fn is_null<A: Heap>(a: &Val<'_, A>) -> bool
     matches!(a, Val::Null)
 }
 
-// What a comparison says; unknown where a value is null.
+// The truth value of a comparison; unknown where a value is null.
 fn unless_null<A: Heap>(a: &Val<'_, A>, b: &Val<'_, A>, holds: bool) -> Truth
     ensures { result ≡ compared (λ _. holds) (datum_of a.now) (datum_of b.now) }
 {
@@ -92,14 +92,14 @@ pub fn cmp_rows<A: Heap>(a: &[Value<A>], b: &[Value<A>]) -> Ordering
     }
 }
 
-/// Puts rows in order, and takes no memory.
+/// Sorts rows, and allocates no memory.
 pub fn sort_rows<A: Heap>(rows: &mut Vec<Items<Value<A>, A>, A>)
     ensures { map (λ r. row_of r) rows.new.items ≡ sorted_by row_cmp (map (λ r. row_of r) rows.old.items) }
 {
     rows.sort_unstable_by(|a, b| cmp_rows(a.as_slice(), b.as_slice()));
 }
 
-/// The order of rows is total and tells all rows apart, so a list of rows has one sorted order.
+/// The order of rows is total and distinguishes all rows, so a list of rows has one sorted order.
 pub fn law_sorted_rows()
     ensures { (rows ys : List Row) → (ys ≡ sorted_by row_cmp rows) ↔ (IsPermutation rows ys × IsSorted row_cmp ys) }
 {}

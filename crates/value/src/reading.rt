@@ -3,12 +3,12 @@
 ghost use Rattle.std.specs.Prelude.{◌≡◌};
 ghost use Rattle.std.specs.List.{list_all};
 ghost use Rattle.std.specs.Char.{is_ascii_digit};
-ghost use Rattle.value.specs.Texts.{is_positive, is_spelled, bigint_at, value_at, Reads, ReadAgain, OneSpelling};
-ghost use Rattle.value.specs.declared.reading.ReadError.TheVariants.{Memory};
+ghost use Rattle.memory.specs.Gives.{Gives};
+ghost use Rattle.value.specs.Datum.{datum};
+ghost use Rattle.value.specs.Texts.{is_positive, is_spelled, bigint_at, value_at, ReadAgain, OneSpelling};
 
 use crate::types::{ColType, FaultKind, Value};
-use memory::Heap;
-use std::alloc::AllocError;
+use memory::{Failure, Heap};
 use text::Text;
 
 fn are_digits(text: &[u8]) -> bool
@@ -17,7 +17,7 @@ fn are_digits(text: &[u8]) -> bool
     text.iter().all(|d| d.is_ascii_digit())
 }
 
-// Digits that do not begin with 0.
+// Digits that do not start with 0.
 fn is_positive(text: &[u8]) -> bool
     ensures { result ≡ is_positive text.now }
 {
@@ -28,7 +28,7 @@ fn is_positive(text: &[u8]) -> bool
     }
 }
 
-// An optional minus, and digits that do not begin with 0.
+// An optional minus, and digits that do not start with 0.
 fn is_spelled(text: &[u8]) -> bool
     ensures { result ≡ is_spelled text.now }
 {
@@ -39,7 +39,7 @@ fn is_spelled(text: &[u8]) -> bool
     }
 }
 
-/// The bigint that a text spells: `0`, or an optional minus and digits that do not begin with 0.
+/// The bigint that a text spells: `0`, or an optional minus and digits that do not start with 0.
 pub fn read_bigint(text: &str) -> Result<i64, FaultKind>
     ensures { result ≡ bigint_at text.now }
 {
@@ -55,43 +55,30 @@ pub fn read_bigint(text: &str) -> Result<i64, FaultKind>
     }
 }
 
-/// Why a text gives no value.
-#[derive(Clone, Copy, Debug, PartialEq, Eq)]
-pub enum ReadError {
-    /// It spells no value of the type, or one out of range.
-    Fault(FaultKind),
-    /// A growth of memory was refused.
-    Memory,
-}
-
-impl From<AllocError> for ReadError {
-    ghost from_gives = { λ _ e. e ≡ Memory };
-
-    fn from(_error: AllocError) -> ReadError {
-        ReadError::Memory
-    }
-}
-
-fn read_boolean<A: Heap>(text: &str) -> Result<Value<A>, ReadError>
-    ensures { Reads result (value_at ColType.Boolean text.now) }
+fn read_boolean<A: Heap>(text: &str) -> Result<Value<A>, Failure<FaultKind>>
+    ensures { Gives datum result (value_at ColType.Boolean text.now) }
 {
     if text == "t" {
         Ok(Value::Bool(true))
     } else if text == "f" {
         Ok(Value::Bool(false))
     } else {
-        Err(ReadError::Fault(FaultKind::BadText))
+        Err(Failure::Fault(FaultKind::BadText))
     }
 }
 
 /// The value of a type that a text spells: a bigint, `t` or `f`, or the text itself.
-pub fn read_value<A: Heap>(alloc: A, kind: ColType, text: &str) -> Result<Value<A>, ReadError>
-    ensures { Reads result (value_at kind text.now) }
+pub fn read_value<A: Heap>(
+    alloc: A,
+    kind: ColType,
+    text: &str,
+) -> Result<Value<A>, Failure<FaultKind>>
+    ensures { Gives datum result (value_at kind text.now) }
 {
     match kind {
         ColType::Bigint => match read_bigint(text) {
             Ok(n) => Ok(Value::Int(n)),
-            Err(kind) => Err(ReadError::Fault(kind)),
+            Err(kind) => Err(Failure::Fault(kind)),
         },
         ColType::Text => Ok(Value::Text(Text::new(alloc, text)?)),
         ColType::Boolean => read_boolean(text),

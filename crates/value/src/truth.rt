@@ -42,7 +42,7 @@ pub fn not3(a: Truth) -> Truth
     }
 }
 
-/// A value as a condition: null is unknown, and so is what is no truth value.
+/// A value as a condition: null is unknown, and so is a value that is not a truth value.
 pub fn as_condition<A: Heap>(value: &Val<'_, A>) -> Truth
     ensures { result ≡ truth_at (datum_of value.now) }
 {

@@ -38,7 +38,7 @@ pub fn text_of<'r, A: Heap>(
     }
 }
 
-/// What is written of a value reads back as the value, and what reads as a value is what is written of it.
+/// The text of a value reads back as the value, and a text that reads as a value is its text.
 pub fn law_texts_read_back()
     ensures written { WrittenReadsBack }
     ensures read { ReadIsWritten }

@@ -9,5 +9,5 @@ use Rattle.row_queries.proofs.limits.within_entries.Goals as goal
 
 pub returns-then-joins-left : goal.returns-then-joins-left
 returns-then-joins-left g c =
-    sym (lt-leb _ _ (room_passed (λ (k : FromItem). 1 + length k.joins) (λ k. from_item_of k) c.args.chains.now c.loop-chain.from_item-index most_entries c.loop-chain.left c.from_item-item.result c.loop-chain-test.true c.from_item-item.is c.loop-chain.invariant
+    sym (lt-leb _ _ (room_passed (λ (k : FromItem). 1 + length k.joins) (λ k. from_item_of k) c.args.chains.now c.loop-from_item.from_item-index most_entries c.loop-from_item.left c.from_item-item.result c.loop-from_item-test.true c.from_item-item.is c.loop-from_item.invariant
     (omega (arith, length-map c.from_item-item.result.joins (λ j. join_of j), c.if-joins-left.true, c.len-joins.ensures))))

@@ -2,7 +2,7 @@ use Rattle.std.proofs.Common.{◌∙◌, sym}
 use Rattle.std.proofs.lemmas.Bool.{and_left}
 use Rattle.row_queries.proofs.limits.within_joined.Goals as goal
 
-pub returns-else-few_entries : goal.returns-else-few_entries
-returns-else-few_entries g c =
+pub returns-else-within_entries : goal.returns-else-within_entries
+returns-else-within_entries g c =
     let e = rw c.as_slice.ensures at c.within_entries.ensures in
-    c.if-few_entries.false ∙ sym (and_left _ _ (sym e ∙ c.if-few_entries.false))
+    c.if-within_entries.false ∙ sym (and_left _ _ (sym e ∙ c.if-within_entries.false))

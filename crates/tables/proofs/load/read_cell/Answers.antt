@@ -11,7 +11,7 @@ pub returns-in_default-clause-cell : goal.returns-in_default-clause-cell
 returns-in_default-clause-cell g c =
     let other : bytes_eq c.args.field.now null_mark ≡ false = search rules in
     let none : is_utf8 c.args.field.now ≡ false = is_utf8-no_IsUtf8 _ c.in_default.ensures.cases.0 in
-    rw (other, none) (λ _. refl)
+    rw (other, none) refl
 
 pub returns-in-Ok-read_value-clause-cell : goal.returns-in-Ok-read_value-clause-cell
 returns-in-Ok-read_value-clause-cell g c =

@@ -2,8 +2,8 @@ use Rattle.std.proofs.Common.{rules, ◌∙◌, ◌<◌, length}
 use Rattle.std.proofs.lemmas.List.{length-append, length-map, map-append}
 use Rattle.std.proofs.lemmas.Result.{err_from_is_err_and}
 use Rattle.csv.specs.Records.{fields_of}
-use Rattle.value.specs.Datum.{row_of}
-use Rattle.tables.proofs.Cells.{after-both, field_missing, no_cells, one_cell}
+use Rattle.value.specs.Datum.{datum, row_of}
+use Rattle.tables.proofs.Cells.{after-both, cell_refused, field_missing, no_cells, one_cell}
 use Rattle.tables.proofs.load.read_row.Goals as goal
 
 pub returns-in_default : goal.returns-in_default
@@ -21,7 +21,7 @@ pub returns-in_err-read_cell-clause-cells : goal.returns-in_err-read_cell-clause
 returns-in_err-read_cell-clause-cells g c =
     let p = err_from_is_err_and c.from_residual-in_err-read_cell.result c.from_residual-in_err-read_cell.ensures.1 in
     let next = one_cell c.args.columns.now (fields_of c.args.cells.now) c.args.row c.loop-i.i c.index-columns-i.result c.in-Some.field.now (row_of c.loop-i.values.items) _ c.loop-i-test.true c.index-columns-i.is c.in-Some.ensures.value c.loop-i.invariant.1 in
-    rw (p.1, p.2) (λ told. rw (c.in_err-read_cell.ensures.cell told) at next)
+    rw (p.1, p.2) (cell_refused (datum {A = g.row.A.Denot}) (λ values. row_of {A = g.row.A.Denot} values) _ _ _ _ _ next c.in_err-read_cell.ensures.cell)
 
 pub returns-clause-cells : goal.returns-clause-cells
 returns-clause-cells g c = rw c.from.ensures (c.loop-i.invariant.1 ∙ no_cells _ _ c.args.row c.loop-i.i _ (rw length-map c.loop-i-test.false))

@@ -3,9 +3,10 @@ use Rattle.std.proofs.lemmas.List.{length-append, length-map, map-append}
 use Rattle.std.proofs.lemmas.List.Elements.{All-push}
 use Rattle.std.proofs.lemmas.Result.{err_from_is_err_and}
 use Rattle.csv.specs.Records.{fields_of}
+use Rattle.value.specs.Datum.{row_of}
 use Rattle.tables.specs.Loading.{rows_data}
 use Rattle.value.specs.Columns.{column_of}
-use Rattle.tables.proofs.Follow.{all_seen, cell_refused, counted_one, no_room_left, one_more_seen, out_of_memory, refused, refuses_unread, start_seen, width}
+use Rattle.tables.proofs.Follow.{all_seen, counted_one, no_room_left, one_more_seen, out_of_memory, refused, refuses_unread, row_refused, start_seen, width}
 use Rattle.tables.proofs.load.read_rows.Goals as goal
 
 pub loop-done-init : goal.loop-done-init
@@ -37,7 +38,7 @@ returns-in_err-read_row-clause-rows g c =
     let gives = rw c.if-not-branch.false at c.in_ok-next_record.ensures.gives in
     let cols = map column_of c.args.columns.now in
     let expected : c.loop-done.records.expected ≡ Some (length cols) = rw length-map c.loop-done.invariant.expected in
-    rw (p.1, p.2) (cell_refused g.row.A.Denot cols c.args.room c.loop-done.done (rows_data c.loop-done.rows.items) c.args.records.now.records c.loop-done.records c.next_record.new.records (fields_of c.next_record.new.cells) _ c.loop-done-test.true c.loop-done.invariant.seen gives expected c.in_err-read_row.ensures.cells c.in_err-read_row.ensures.no_reader)
+    rw (p.1, p.2) (row_refused g.row.A.Denot (λ values. row_of {A = g.row.A.Denot} values) cols c.args.room c.loop-done.done (rows_data c.loop-done.rows.items) c.args.records.now.records c.loop-done.records c.next_record.new.records (fields_of c.next_record.new.cells) _ c.loop-done-test.true c.loop-done.invariant.seen gives expected c.in_err-read_row.ensures.cells c.in_err-read_row.ensures.no_reader)
 
 pub returns-in_err-push-clause-rows : goal.returns-in_err-push-clause-rows
 returns-in_err-push-clause-rows g c =

@@ -1,4 +1,4 @@
-use Rattle.std.proofs.Common.{rules, arith, ◌≡◌, ◌-◌, true, false, length, map, refl}
+use Rattle.std.proofs.Common.{rules, arith, Err, ◌≡◌, ◌∙◌, ap, ℕ, ◌-◌, true, false, length, map, refl}
 use Rattle.std.proofs.lemmas.List.{length-append, length-map, map-append}
 use Rattle.std.proofs.lemmas.List.Elements.{All-append}
 use Rattle.std.proofs.lemmas.Result.{err_from_is_err_and}
@@ -6,25 +6,25 @@ use Rattle.std.specs.Result.{is_ok}
 use Rattle.tables.specs.declared.TheConstants.{MAX_ROWS}
 use Rattle.tables.specs.Loading.{rows_data}
 use Rattle.value.specs.Columns.{column_of}
-use Rattle.tables.proofs.Follow.{fault_of_known, fault_of_some, rows_of_known, rows_of_some, stops_of_known}
+use Rattle.tables.proofs.Follow.{fault_of_known, fault_of_some, rows_of_known, rows_of_some, same_load, stops_of_known}
 use Rattle.tables.proofs.table.Table.append_records.Goals as goal
 
 pub returns-in_err-rows-clause-exact : goal.returns-in_err-rows-clause-exact
 returns-in_err-rows-clause-exact g c =
     let p = err_from_is_err_and c.from_residual.result c.from_residual.ensures.1 in
-    let follows = rw (c.as_slice.ensures, c.len.ensures, c.self.inside.rows.ok.0) at c.in_err-rows.ensures.rows in
+    let follows = same_load {A = g.row.A.Denot} _ (map column_of c.self.inside.columns) _ (MAX_ROWS - length c.self.inside.rows.items) c.args.records.now.records c.read_table.new.records (Err c.in_err-rows.field-0.0) (ap (map column_of) c.as_slice.ensures) (ap (λ (n : ℕ). MAX_ROWS - n) (c.len.ensures ∙ c.self.inside.rows.ok.0)) c.in_err-rows.ensures.rows in
     rw (← c.self.view_is, length-map, p.1, p.2) (fault_of_known g.row.A.Denot (map column_of c.self.inside.columns) (MAX_ROWS - length c.self.inside.rows.items) c.args.records.now.records c.read_table.new.records _ (rows_data c.self.inside.rows.items) (rows_data c.self.inside.rows.items) follows)
 
 pub returns-in_err-rows-clause-some_records : goal.returns-in_err-rows-clause-some_records
 returns-in_err-rows-clause-some_records g c =
     let p = err_from_is_err_and c.from_residual.result c.from_residual.ensures.1 in
-    let follows = rw (c.as_slice.ensures, c.len.ensures, c.self.inside.rows.ok.0) at c.in_err-rows.ensures.rows in
+    let follows = same_load {A = g.row.A.Denot} _ (map column_of c.self.inside.columns) _ (MAX_ROWS - length c.self.inside.rows.items) c.args.records.now.records c.read_table.new.records (Err c.in_err-rows.field-0.0) (ap (map column_of) c.as_slice.ensures) (ap (λ (n : ℕ). MAX_ROWS - n) (c.len.ensures ∙ c.self.inside.rows.ok.0)) c.in_err-rows.ensures.rows in
     rw (← c.self.view_is, length-map, p.1, p.2) (fault_of_some g.row.A.Denot (map column_of c.self.inside.columns) (MAX_ROWS - length c.self.inside.rows.items) c.args.records.now.records c.read_table.new.records _ (rows_data c.self.inside.rows.items) (rows_data c.self.inside.rows.items) follows)
 
 pub returns-in_err-rows-clause-stops : goal.returns-in_err-rows-clause-stops
 returns-in_err-rows-clause-stops g c =
     let p = err_from_is_err_and c.from_residual.result c.from_residual.ensures.1 in
-    let follows = rw (c.as_slice.ensures, c.len.ensures, c.self.inside.rows.ok.0) at c.in_err-rows.ensures.rows in
+    let follows = same_load {A = g.row.A.Denot} _ (map column_of c.self.inside.columns) _ (MAX_ROWS - length c.self.inside.rows.items) c.args.records.now.records c.read_table.new.records (Err c.in_err-rows.field-0.0) (ap (map column_of) c.as_slice.ensures) (ap (λ (n : ℕ). MAX_ROWS - n) (c.len.ensures ∙ c.self.inside.rows.ok.0)) c.in_err-rows.ensures.rows in
     rw (← c.self.view_is, length-map, p.1, p.2) (stops_of_known g.row.A.Denot (map column_of c.self.inside.columns) (MAX_ROWS - length c.self.inside.rows.items) c.args.records.now.records c.read_table.new.records _ follows)
 
 pub invariant_of-self : goal.invariant_of-self

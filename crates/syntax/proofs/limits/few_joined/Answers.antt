@@ -1,8 +1,0 @@
-use Rattle.std.proofs.Common.{◌∙◌, sym}
-use Rattle.std.proofs.lemmas.Bool.{and_left}
-use Rattle.syntax.proofs.limits.few_joined.Goals as goal
-
-pub returns-else-few_entries : goal.returns-else-few_entries
-returns-else-few_entries g c =
-    let e = rw c.as_slice.ensures at c.few_entries.ensures in
-    c.if-few_entries.false ∙ sym (and_left _ _ (sym e ∙ c.if-few_entries.false))

@@ -1,0 +1,248 @@
+//! Texts, whole.
+
+ghost use Rattle.std.specs.Prelude.{◌≡◌, ◌<◌, ◌≤◌, ◌^◌, List, length, map, IfOk, IfErr, Ok};
+ghost use Rattle.memory.specs.Gives.{Gives};
+ghost use Rattle.row_ast.specs.Ast as ast;
+ghost use Rattle.row_ast.specs.Statements as statement_ast;
+ghost use Rattle.row_ast.specs.View.{query_of, statement_of};
+ghost use Rattle.row_grammar.specs.Limits.{whole_at};
+ghost use Rattle.row_queries.specs.Queries as queries;
+ghost use Rattle.row_reader.specs.Expressions.{grammar, run_limit, depth_limit};
+ghost use Rattle.row_statements.specs.Schemas as statements;
+ghost use Rattle.row_tokens.specs.View.{words_of};
+ghost use Rattle.row_tokens.specs.Words.{words};
+ghost use Rattle.syntax.specs.Parsing.{Spells, RefusesQuery, RefusesSchema, RefusesStatement, IsSmall, IsDetermined, Fits, query_bytes, schema_bytes, statement_bytes, read_within, parsed_query, parsed_schema, parsed_statement, offset_of, fault_of};
+
+use crate::fault::ParseError;
+use memory::{Failure, Heap};
+use row_ast::{Query, Statement};
+use row_grammar::ReadError;
+use row_queries::{is_small, query};
+use row_reader::reader::Reader;
+use row_statements::{schema, statement};
+use row_tokens::{Token, scan};
+use text::Items;
+
+/// How many bytes a query's text may have.
+const QUERY_BYTES: usize = 65_536;
+
+/// How many bytes the text of a statement alone may have.
+const STATEMENT_BYTES: usize = 65_536;
+
+/// How many bytes a schema's text may have.
+const SCHEMA_BYTES: usize = 1_048_576;
+
+/// How many operands may follow the first of a run.
+const RUN_LIMIT: usize = 63;
+
+/// How deep a text may nest.
+const DEPTH_LIMIT: usize = 64;
+
+// Reads from the start of a text.
+#[tactic(auto, unfolding(row_reader::specs::Expressions::run_limit, row_reader::specs::Expressions::depth_limit))]
+fn reader<A: Heap>(alloc: A) -> Reader<A>
+    ensures run_limit { result.run_limit ≡ run_limit }
+    ensures depth_limit { result.depth_limit ≡ depth_limit }
+{
+    Reader {
+        alloc,
+        run_limit: RUN_LIMIT,
+        depth_limit: DEPTH_LIMIT,
+    }
+}
+
+// The offset of the token from which on there are so many; the end of the text for none.
+fn offset_of(text: &str, tokens: &[Token<'_>], left: usize) -> u32
+    requires short { length text.now < 2 ^ 32 }
+    requires scanned { words_of tokens.now ≡ words text.now }
+    ensures { result ≡ offset_of text.now left }
+{
+    match tokens.get(tokens.len().saturating_sub(left)) {
+        Some(token) => token.offset,
+        None => text.len() as u32,
+    }
+}
+
+// Why reading stops, at a byte of the text.
+fn fault_of(text: &str, tokens: &[Token<'_>], error: ReadError) -> ParseError
+    requires short { length text.now < 2 ^ 32 }
+    requires scanned { words_of tokens.now ≡ words text.now }
+    ensures { result ≡ fault_of text.now error }
+{
+    match error {
+        ReadError::Syntax { left } => ParseError::Syntax {
+            offset: offset_of(text, tokens, left),
+        },
+        ReadError::Limit { .. } => ParseError::Limit,
+    }
+}
+
+// The query that tokens are, all of them.
+#[tactic(auto, unfolding(row_grammar::specs::Limits::whole_at))]
+fn whole_query<A: Heap>(alloc: A, tokens: &[Token<'_>]) -> Result<Query<A>, Failure<ReadError>>
+    ensures { Gives (λ q. query_of q) result (whole_at grammar run_limit depth_limit queries.query (words_of tokens.now)) }
+{
+    let (tree, rest) = query(reader(alloc), tokens)?;
+    match rest {
+        [] => Ok(tree),
+        [_, ..] => {
+            drop(tree);
+            Err(Failure::Fault(ReadError::Syntax { left: rest.len() }))
+        }
+    }
+}
+
+// The query that a text is, with parts of any size.
+fn read_query<A: Heap>(alloc: A, text: &str) -> Result<Query<A>, Failure<ParseError>>
+    ensures { Gives (λ q. query_of q) result (read_within query_bytes queries.query text.now) }
+{
+    if text.len() > QUERY_BYTES {
+        return Err(Failure::Fault(ParseError::Limit));
+    }
+    let tokens = scan(alloc, text)?;
+    match whole_query(alloc, tokens.as_slice()) {
+        Ok(query) => Ok(query),
+        Err(Failure::Fault(error)) => {
+            Err(Failure::Fault(fault_of(text, tokens.as_slice(), error)))
+        }
+        Err(Failure::OutOfMemory) => Err(Failure::OutOfMemory),
+    }
+}
+
+// The query that a text is, within the limits.
+#[tactic(auto, unfolding(crate::specs::Parsing::parsed_query))]
+fn small_query<A: Heap>(alloc: A, text: &str) -> Result<Query<A>, Failure<ParseError>>
+    ensures { Gives (λ q. query_of q) result (parsed_query text.now) }
+{
+    let query = read_query(alloc, text)?;
+    if is_small(&query) {
+        Ok(query)
+    } else {
+        drop(query);
+        Err(Failure::Fault(ParseError::Limit))
+    }
+}
+
+/// The query that a text is. The fault is `Syntax` (42601) at the first token that cannot continue it,
+/// and `Limit` (54000) for more than 65,536 bytes, for nesting or a run beyond the limit or, in a
+/// text of the grammar, for parts that are too many.
+pub fn parse_query<A: Heap>(alloc: A, text: &str) -> Result<Query<A>, Failure<ParseError>>
+    ensures reading { Gives (λ q. query_of q) result (parsed_query text.now) }
+    // What is found is spelled so.
+    ensures found { IfOk result (λ q. Spells queries.query text.now (query_of q)) }
+    // What is spelled so, and within the limits, is found, unless memory runs out.
+    ensures only { (q : ast.Query) → Spells queries.query text.now q → length text.now ≤ query_bytes → IsSmall q → Gives (λ q. query_of q) result (Ok q) }
+    // A refusal is at the byte after the longest front, or a limit is passed.
+    ensures refused { IfErr result (λ e. RefusesQuery text.now e) }
+{
+    small_query(alloc, text)
+}
+
+// The statements that tokens are, all of them.
+#[tactic(auto, unfolding(row_grammar::specs::Limits::whole_at))]
+fn whole_schema<A: Heap>(
+    alloc: A,
+    tokens: &[Token<'_>],
+) -> Result<Items<Statement<A>, A>, Failure<ReadError>>
+    ensures { Gives (λ acts. map (λ s. statement_of s) acts) result (whole_at grammar run_limit depth_limit statements.schema (words_of tokens.now)) }
+{
+    let (statements, rest) = schema(reader(alloc), tokens)?;
+    match rest {
+        [] => Ok(statements),
+        [_, ..] => Err(Failure::Fault(ReadError::Syntax { left: rest.len() })),
+    }
+}
+
+// The statements that a schema text is.
+fn read_schema<A: Heap>(alloc: A, text: &str) -> Result<Items<Statement<A>, A>, Failure<ParseError>>
+    ensures { Gives (λ acts. map (λ s. statement_of s) acts) result (read_within schema_bytes statements.schema text.now) }
+{
+    if text.len() > SCHEMA_BYTES {
+        return Err(Failure::Fault(ParseError::Limit));
+    }
+    let tokens = scan(alloc, text)?;
+    match whole_schema(alloc, tokens.as_slice()) {
+        Ok(statements) => Ok(statements),
+        Err(Failure::Fault(error)) => {
+            Err(Failure::Fault(fault_of(text, tokens.as_slice(), error)))
+        }
+        Err(Failure::OutOfMemory) => Err(Failure::OutOfMemory),
+    }
+}
+
+/// The statements that a schema text is, each followed by a semicolon. The fault is `Syntax` (42601) at the first token
+/// that cannot continue it, and `Limit` (54000) for more than 1,048,576 bytes or for nesting or
+/// a run beyond the limit.
+#[tactic(auto, unfolding(crate::specs::Parsing::parsed_schema))]
+pub fn parse_schema<A: Heap>(
+    alloc: A,
+    text: &str,
+) -> Result<Items<Statement<A>, A>, Failure<ParseError>>
+    ensures reading { Gives (λ acts. map (λ s. statement_of s) acts) result (parsed_schema text.now) }
+    // What is found is spelled so.
+    ensures found { IfOk result (λ acts. Spells statements.schema text.now (map (λ s. statement_of s) acts)) }
+    // What is spelled so, and within the limits, is found, unless memory runs out.
+    ensures only { (acts : List statement_ast.Statement) → Spells statements.schema text.now acts → length text.now ≤ schema_bytes → Gives (λ found. map (λ s. statement_of s) found) result (Ok acts) }
+    // A refusal is at the byte after the longest front, or a limit is passed.
+    ensures refused { IfErr result (λ e. RefusesSchema text.now e) }
+{
+    read_schema(alloc, text)
+}
+
+// The statement that tokens are, all of them.
+#[tactic(auto, unfolding(row_grammar::specs::Limits::whole_at))]
+fn whole_statement<A: Heap>(
+    alloc: A,
+    tokens: &[Token<'_>],
+) -> Result<Statement<A>, Failure<ReadError>>
+    ensures { Gives (λ s. statement_of s) result (whole_at grammar run_limit depth_limit statements.statement (words_of tokens.now)) }
+{
+    let (tree, rest) = statement(reader(alloc), tokens)?;
+    match rest {
+        [] => Ok(tree),
+        [_, ..] => {
+            drop(tree);
+            Err(Failure::Fault(ReadError::Syntax { left: rest.len() }))
+        }
+    }
+}
+
+// The statement that a text is.
+fn read_statement<A: Heap>(alloc: A, text: &str) -> Result<Statement<A>, Failure<ParseError>>
+    ensures { Gives (λ s. statement_of s) result (read_within statement_bytes statements.statement text.now) }
+{
+    if text.len() > STATEMENT_BYTES {
+        return Err(Failure::Fault(ParseError::Limit));
+    }
+    let tokens = scan(alloc, text)?;
+    match whole_statement(alloc, tokens.as_slice()) {
+        Ok(statement) => Ok(statement),
+        Err(Failure::Fault(error)) => {
+            Err(Failure::Fault(fault_of(text, tokens.as_slice(), error)))
+        }
+        Err(Failure::OutOfMemory) => Err(Failure::OutOfMemory),
+    }
+}
+
+/// The schema statement that a text is, without a semicolon. The fault is `Syntax` (42601) at the byte from which
+/// on the grammar does not go on, and `Limit` (54000) for more than 65,536 bytes or for nesting or a run that goes
+/// on behind the limit.
+#[tactic(auto, unfolding(crate::specs::Parsing::parsed_statement))]
+pub fn parse_statement<A: Heap>(alloc: A, text: &str) -> Result<Statement<A>, Failure<ParseError>>
+    ensures reading { Gives (λ s. statement_of s) result (parsed_statement text.now) }
+    // What is found is spelled so.
+    ensures found { IfOk result (λ s. Spells statements.statement text.now (statement_of s)) }
+    // What is spelled so, and within the limits, is found, unless memory runs out.
+    ensures only { (act : statement_ast.Statement) → Spells statements.statement text.now act → length text.now ≤ statement_bytes → Gives (λ s. statement_of s) result (Ok act) }
+    // A refusal is at the byte after the longest front, or a limit is passed.
+    ensures refused { IfErr result (λ e. RefusesStatement text.now e) }
+{
+    read_statement(alloc, text)
+}
+
+/// The functions `parsed_query`, `parsed_schema` and `parsed_statement` are what spelling and fronts determine.
+pub fn law_parsing_is_determined()
+    ensures query { IsDetermined queries.query query_bytes IsSmall parsed_query }
+    ensures schema { IsDetermined statements.schema schema_bytes Fits parsed_schema }
+    ensures statement { IsDetermined statements.statement statement_bytes Fits parsed_statement }
+{}
