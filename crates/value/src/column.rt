@@ -1,6 +1,10 @@
 //! The columns of tables.
 
-use crate::types::ColType;
+ghost use Rattle.std.specs.Prelude.{◌≡◌};
+ghost use Rattle.value.specs.Columns.{fits_type};
+ghost use Rattle.value.specs.Datum.{datum};
+
+use crate::types::{ColType, Value};
 use memory::Heap;
 use text::Text;
 
@@ -13,4 +17,17 @@ pub struct Column<A: Heap> {
     pub data_type: ColType,
     /// Whether no row may be null there (`NOT NULL`).
     pub not_null: bool,
+}
+
+/// Whether a value is of a type, or null.
+pub fn fits_type<A: Heap>(data_type: ColType, value: &Value<A>) -> bool
+    ensures { result ≡ fits_type data_type (datum value.now) }
+{
+    match (data_type, value) {
+        (_, Value::Null) => true,
+        (ColType::Bigint, Value::Int(_)) => true,
+        (ColType::Text, Value::Text(_)) => true,
+        (ColType::Boolean, Value::Bool(_)) => true,
+        _ => false,
+    }
 }
