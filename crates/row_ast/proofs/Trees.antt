@@ -36,7 +36,7 @@ and_made start offset v = ap (λ (es : ast.Exprs). let p : (ℕ × ast.Expr) = (
 pub or_made : {A : Type 0} (start offset : ℕ) (v : Vec (Expr A) A) → ◌≡◌ {A = (ℕ × ast.Expr)} (start, ast.Or offset (ast.exprs_of (map expr_of v.items ++ []))) (start, ast.Or offset (row_exprs (hidden-the_row-Expr-0 A v)))
 or_made start offset v = ap (λ (es : ast.Exprs). let p : (ℕ × ast.Expr) = (start, ast.Or offset es) in p) (ap ast.exprs_of (append-nil (map expr_of v.items)) ∙ sym (exprs_hidden v))
 
--- members behind members
+-- members after members
 pub appended : {A : Type 0} (ms more new : List (Expr A)) (l : List ast.Expr) → new ≡ ms ++ more → map expr_of more ≡ l → map expr_of ms ++ l ≡ map expr_of new
 appended [] more new l e m = rw e (sym m)
 appended (x ∷ xs) more new l e m = rw e (ap (λ es. expr_of x ∷ es) (appended xs more (xs ++ more) l refl m))

@@ -1,4 +1,4 @@
--- How a run of operands under the limit goes on from where the code stands.
+-- How a run of operands under the limit goes on from where the code is.
 use Rattle.std.proofs.Common.{◌≡◌, ℕ, zero, suc, ◌-◌, ◌<◌, Bool, true, false, List, [], ◌∷◌, ◌++◌, length, map, Option, Result, Ok, Err, refl, sym, ◌∙◌, ap, append-nil, append_assoc}
 use Rattle.std.specs.Prelude.{if◌then◌else◌}
 use Rattle.std.specs.List.{flat_map}
@@ -16,7 +16,7 @@ use Rattle.row_ast.specs.Ast.{Expr}
 use Rattle.row_reader.specs.Language.{Rule, Located, kind_of, next_at}
 use Rattle.row_reader.specs.Expressions.{grammar}
 
--- what is made of the operands that are still to come, of which n may, each begun by a token of the kinds p
+-- what is made of the operands that are still to come, of which n may, each started by a token of the kinds p
 module _ {B C : Type 0} (w d : ℕ) (h : Rule B) (p : TokenKind → Bool) where
   abbrev pub run_on : (List B → C) → ℕ → List Word → Outcome Word C
   run_on k n us = ends k (many_at kind_of true (reads grammar w d h) p n us)
@@ -71,7 +71,7 @@ word_is_next {B} w d p g (u ∷ us) y vs e = go (p (kind_of u)) e
     go true e = inner (reads grammar w d g us) e
     go false e = cc
 
--- what one or more members make, and where the expression begins
+-- what one or more members make, and where the expression starts
 module _ (make : List Expr → Expr) (members : Expr → List Expr) where
   abbrev pub joined : ℕ → List Expr → List (Word × Located) → Located
   joined start ms ys = (start, make (ms ++ flat_map members (map (λ y. y.1.1) ys)))

@@ -282,7 +282,7 @@ fn alone<A: Heap>(alloc: A, member: Expr<A>) -> Result<Vec<Expr<A>, A>, AllocErr
     Ok(members)
 }
 
-/// The members of an expression that stands in an AND: its own where it is one.
+/// The members of an expression that is an operand of AND: its own where it is one.
 #[tactic(auto, using(row_ast::proofs::Trees::tree_lemmas))]
 pub fn and_members<A: Heap>(alloc: A, member: Expr<A>) -> Result<Vec<Expr<A>, A>, AllocError>
     ensures { IfOk result (λ v. map (λ e. expr_of e) v.items ≡ ast.and_members (expr_of member)) }
@@ -307,7 +307,7 @@ pub fn and_members<A: Heap>(alloc: A, member: Expr<A>) -> Result<Vec<Expr<A>, A>
     }
 }
 
-/// The members of an expression that stands in an OR: its own where it is one.
+/// The members of an expression that is an operand of OR: its own where it is one.
 #[tactic(auto, using(row_ast::proofs::Trees::tree_lemmas))]
 pub fn or_members<A: Heap>(alloc: A, member: Expr<A>) -> Result<Vec<Expr<A>, A>, AllocError>
     ensures { IfOk result (λ v. map (λ e. expr_of e) v.items ≡ ast.or_members (expr_of member)) }

@@ -75,7 +75,7 @@ module _ (L : Language) (inner_first inner_ext : L.Inner → L.Kind → Bool) wh
   ext (nest p g) k = ext g k
   ext (inner r) k = inner_ext r k
 
-  -- its first token is a front by itself, however deep it stands
+  -- its first token is a front by itself, however deep it is
   abbrev pub leads : {A : Type 0} → Form L A → Bool
   leads (word p) = true
   leads (nothing a) = false
@@ -86,7 +86,7 @@ module _ (L : Language) (inner_first inner_ext : L.Inner → L.Kind → Bool) wh
   leads (nest p g) = false
   leads (inner r) = false
 
-  -- one token decides; an inner rule stands inside a level alone
+  -- one token decides; an inner rule is inside a level alone
   abbrev pub good : List Kind → {A : Type 0} → Bool → Form L A → Bool
   good kinds o (word p) = true
   good kinds o (nothing a) = true
@@ -123,10 +123,10 @@ module _ (L : Language) (inner_first inner_ext : L.Inner → L.Kind → Bool) wh
 
 -- ---- a grammar
 
--- One token decides in every rule that stands a level deeper.
+-- One token decides in every rule that is a level deeper.
 pub record IsDecided {L : Language} (G : Grammar L) (kinds : List L.Kind) (inner_ext : L.Inner → L.Kind → Bool) : Type 0 where
   pub every : HasEvery kinds
-  -- the kinds that a rule begins with are among those that the grammar names
+  -- the kinds that a rule starts with are among those that the grammar names
   pub first_fits : (r : L.Inner) → within kinds (first L G.inner_first (G.rule r)) (G.inner_first r) ≡ true
   pub never_null : (r : L.Inner) → nullable (G.rule r) ≡ false
   -- the kinds that extend a rule's value are among those of inner_ext

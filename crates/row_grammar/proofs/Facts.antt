@@ -79,7 +79,7 @@ module _ (L : Language) where
   word_starts : (p : Kind → Bool) (ts : List Token) (t : Token) (us : List Token) → (ts ≡ t ∷ us) × (p (kind t) ≡ true) → Starts p false ts us
   word_starts p ts t us h = inl (subst (λ l. head_in kind p l ≡ true) (sym h.0) h.1, omega (arith, ap length h.0))
 
-  -- what begins, for a value and then a front of the next
+  -- what starts, for a value and then a front of the next
   both_begins : (f g : Kind → Bool) (m : Bool) (ts us vs : List Token) → Starts f m ts us → (vs ≡ us) ⊎ (head_in kind g us ≡ true) → (vs ≡ ts) ⊎ (head_in kind (λ k. (m && g k) || f k) ts ≡ true)
   both_begins f g m ts us vs (inl a) b = inr (head_or_right (λ k. m && g k) f ts a.0)
   both_begins f g m ts us vs (inr a) (inl b) = inl (b ∙ a.1)

@@ -65,7 +65,7 @@ module _ (L : Language) where
     abbrev pub both_ext : Kind → Bool
     both_ext k = x' k || (null' && x k)
 
-    -- behind a first part that could go on, the second part has no more than its empty front
+    -- after a first part that could go on, the second part has no more than its empty front
     after_front : (i : I) (ms vs : List Token) → head_in kind x ms ≡ true → F' i ms vs → vs ≡ ms
     after_front i ms vs e h = elim ((facts' i).begins ms vs h) [ inl same ↦ same | inr starts ↦ absurd (apart_at x f' apart ms e starts) ]
 
@@ -186,7 +186,7 @@ module _ (L : Language) where
     ext_right : (vs : List Token) → head_in kind x' vs ≡ true → head_in kind either_ext vs ≡ true
     ext_right vs h = head_or_left L (λ k. x k || x' k) (λ k. null' && f k) vs (head_or_right L x x' vs h)
 
-    -- the first form begins here, so the second has no more than its empty front
+    -- the first form starts here, so the second has no more than its empty front
     module _ (ts : List Token) (begins : head_in kind f ts ≡ true) where
       no_front' : (i : I) (vs : List Token) → F' i ts vs → vs ≡ ts
       no_front' i vs h = elim ((facts' i).begins ts vs h) [ inl same ↦ same | inr starts ↦ absurd (apart_at f f' apart ts begins starts) ]
@@ -217,7 +217,7 @@ module _ (L : Language) where
       left_meets here (Err (Syntax n)) m = record { rest = m.rest; count = m.count; front = inl m.front; ends = λ i. left_ends n i (m.ends i); only = λ i. left_only i (m.only i) }
       left_meets here (Err (Limit n)) m = record { rest = m.rest; count = m.count; front = inl m.front; ends = left_ends n here m.ends; more = (m.more.0, m.more.1, inl m.more.2); only = left_only here m.only }
 
-    -- the first form doesn't begin here
+    -- the first form doesn't start here
     module _ (ts : List Token) (begins : head_in kind f ts ≡ false) where
       no_front : (i : I) (vs : List Token) → F i ts vs → vs ≡ ts
       no_front i vs h = elim ((facts i).begins ts vs h) [ inl same ↦ same | inr starts ↦ (cc) ]

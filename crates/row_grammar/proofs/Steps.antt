@@ -1,4 +1,4 @@
--- How reading goes on from where the code stands.
+-- How reading goes on from where the code is.
 use Rattle.std.proofs.Common.{◌≡◌, ℕ, zero, suc, ◌-◌, ◌<◌, Bool, true, false, List, [], ◌∷◌, length, Option, Some, None, Result, Ok, Err, refl, sym, arith, ap}
 use Rattle.std.specs.Prelude.{if◌then◌else◌}
 use Rattle.row_grammar.specs.Grammar.{Language, Form, made, both, many, Grammar}
@@ -10,7 +10,7 @@ use Rattle.memory.specs.declared.failure.Failure.{Failure}
 use Rattle.memory.specs.declared.failure.Failure.TheVariants.{Fault, OutOfMemory}
 use Rattle.row_grammar.specs.Limits.{can_open, deep_at, reads}
 
--- a rule that stands a level deeper is read with one level less
+-- a rule that is a level deeper is read with one level less
 pub deep_is : {L : Language} (G : Grammar L) (w d : ℕ) (r : L.Inner) (ts : List L.Token) → 0 < d → deep_at G w d r ts ≡ reads G w (d - 1) (G.rule r) ts
 unfolding deep_at
 deep_is G w zero r ts h = absurd (omega arith)
@@ -120,7 +120,7 @@ module _ {L : Language} (G : Grammar L) (w d : ℕ) {A B C : Type 0} (make : A �
   abbrev pub a_run : Form L C
   a_run = made (λ p. make p.0 p.1) (both g (many lim h))
 
-  -- how the run goes on behind its first value
+  -- how the run goes on after its first value
   pub run_start : (x : A) (us : List Token) → reads G w d g ts ≡ Ok (x, us)
       → ends (make x) (many_at L.kind lim (reads G w d h) (first L G.inner_first h) (if lim then w else length us) us) ≡ reads G w d a_run ts
   run_start x us e = sym (rw e (ends_pair make x (many_at L.kind lim (reads G w d h) (first L G.inner_first h) (if lim then w else length us) us)))

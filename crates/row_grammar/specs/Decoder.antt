@@ -35,7 +35,7 @@ module _ {K T : Type 0} (kind : T → K) where
   opened_at o p [] = Err (Syntax 0)
   opened_at o p (t ∷ ts) = if p (kind t) then (if o then Ok (t, ts) else Err (Limit (length (t ∷ ts)))) else Err (Syntax (length (t ∷ ts)))
 
-  -- values as long as the next token begins one, at most n
+  -- values as long as the next token starts one, at most n
   unfoldable pub many_at : {A : Type 0} → Bool → (List T → Outcome T A) → (K → Bool) → ℕ → List T → Outcome T (List A)
   many_at lim r p zero ts = stop_at lim (head_in p ts) ts
   many_at lim r p (suc n) ts = if head_in p ts then (do
@@ -57,7 +57,7 @@ nullable (inner r) = false
 module _ (L : Language) (inner_first : L.Inner → L.Kind → Bool) where
   open L use {Kind, Token, kind}
 
-  -- the kinds that a form begins with
+  -- the kinds that a form starts with
   abbrev pub first : {A : Type 0} → Form L A → Kind → Bool
   first (word p) k = p k
   first (nothing a) k = false
@@ -69,7 +69,7 @@ module _ (L : Language) (inner_first : L.Inner → L.Kind → Bool) where
   first (inner r) k = inner_first r k
 
   module _ (width : ℕ) (open_ : Bool) (deep : (r : L.Inner) → List L.Token → Outcome L.Token (L.Tree r)) where
-    -- a form is read by its first tokens: of two forms the first where the next token begins it
+    -- a form is read by its first tokens: of two forms the first where the next token starts it
     abbrev pub run : {A : Type 0} → Form L A → List Token → Outcome Token A
     run (word p) ts = word_at kind p ts
     run (nothing a) ts = Ok (a, ts)

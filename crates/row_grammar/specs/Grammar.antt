@@ -7,7 +7,7 @@ pub record Language : Type 1 where
   pub Kind : Type 0
   pub Token : Type 0
   pub kind : Token → Kind
-  -- the names of the rules that stand a level deeper
+  -- the names of the rules that are a level deeper
   pub Inner : Type 0
   -- what each of them makes
   pub Tree : Inner → Type 0
@@ -31,8 +31,8 @@ pub data Form (L : Language) : Type 0 → Type 1 where
   -- a rule one level deeper
   inner : (r : L.Inner) → Form L (L.Tree r)
 
--- the rules that stand a level deeper
+-- the rules that are a level deeper
 pub record Grammar (L : Language) : Type 1 where
   pub rule : (r : L.Inner) → Form L (L.Tree r)
-  -- the kinds that each of them begins with, which reading goes by; no meaning hangs on them
+  -- the kinds that each of them starts with, which reading goes by; no meaning hangs on them
   pub inner_first : L.Inner → L.Kind → Bool

@@ -17,7 +17,7 @@ module _ {L : Language} (G : Grammar L) where
 
   -- ---- meaning
 
-  -- a rule that stands a level deeper
+  -- a rule that is a level deeper
   unfoldable pub Deep : ℕ → ℕ → (r : Inner) → Reading Token (Tree r)
   Deep width zero r ts t us = ⊥
   Deep width (suc depth) r ts t us = SpellsIn L (can_open depth) (Deep width depth) width (rule r) ts t us
@@ -62,7 +62,7 @@ module _ {L : Language} (G : Grammar L) where
   module _ (width depth : ℕ) {A : Type 0} (f : Form L A) (ts : List L.Token) (n : ℕ) where
     -- No front of the form goes further than the nth token from the end, under any limits.
     pub record IsLongest : Type 0 where
-      -- the tokens behind the front
+      -- the tokens after the front
       pub rest : List Token
       pub count : length rest ≡ n
       pub front : Front width depth f ts rest
@@ -70,7 +70,7 @@ module _ {L : Language} (G : Grammar L) where
 
     -- No front within the limits goes further than the nth token from the end, but one within wider limits does.
     pub record IsPassed : Type 0 where
-      -- the tokens behind the front
+      -- the tokens after the front
       pub rest : List Token
       pub count : length rest ≡ n
       pub front : Front width depth f ts rest

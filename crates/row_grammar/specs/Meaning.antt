@@ -26,7 +26,7 @@ HasRoom any = Unit {0}
 HasRoom (at_most zero) = ⊥
 HasRoom (at_most (suc n)) = Unit {0}
 
--- the room behind one more
+-- the room after one more
 abbrev pub one_less : Room → Room
 one_less any = any
 one_less (at_most zero) = at_most zero
@@ -42,11 +42,11 @@ abbrev pub ManyFront : {T A : Type 0} → Reading T A → Fronting T → Room �
 ManyFront R F room [] ts vs = (vs ≡ ts) ⊎ (HasRoom room × F ts vs)
 ManyFront {T} R F room (x ∷ xs) ts vs = HasRoom room × ((us : List T) × R ts x us × ManyFront R F (one_less room) xs us vs)
 
--- given whether a level may be opened, what stands a level deeper, and the limit on runs
+-- given whether a level may be opened, what is a level deeper, and the limit on runs
 module _ (L : Language) (open_ : Bool) (deep : (r : L.Inner) → Reading L.Token (L.Tree r)) (width : ℕ) where
   open L use {Token, kind}
 
-  -- the tokens that the form spells with a value, each part behind the one before it
+  -- the tokens that the form spells with a value, each part after the one before it
   abbrev pub SpellsIn : {A : Type 0} → Form L A → Reading Token A
   SpellsIn (word p) ts t us = (ts ≡ t ∷ us) × (p (kind t) ≡ true)
   SpellsIn (nothing a) ts t us = (ts ≡ us) × (t ≡ a)

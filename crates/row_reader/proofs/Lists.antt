@@ -1,4 +1,4 @@
--- How a list without a limit goes on from where the code stands.
+-- How a list without a limit goes on from where the code is.
 use Rattle.std.proofs.Common.{◌≡◌, ℕ, ◌-◌, ◌<◌, Bool, true, false, List, [], ◌∷◌, ◌++◌, length, map, Option, Ok, Err, refl, sym, ◌∙◌, ap, append-nil}
 use Rattle.row_grammar.specs.Grammar.{many}
 use Rattle.row_grammar.specs.Decoder.{Outcome, head_in, many_at, first}
@@ -26,7 +26,7 @@ ends_alone : {A : Type 0} (r : Outcome Word (List A)) → ends (λ xs. xs) r ≡
 ends_alone (Ok p) = refl
 ends_alone (Err stop) = refl
 
--- the items so far are seen by view; further ones are read by h, each begun by a token of the kinds p
+-- the items so far are seen by view; further ones are read by h, each started by a token of the kinds p
 module _ {X A : Type 0} (w d : ℕ) (view : X → A) (h : Rule A) (p : TokenKind → Bool) where
   -- the items so far, and those that are still to come
   abbrev pub listed : List X → ℕ → List Word → Outcome Word (List A)

@@ -117,7 +117,7 @@ columns = listed column next_column
 unfoldable pub type_name : Rule ColType
 type_name = either (made (λ w. types.Bigint) (word (is k.Bigint))) (made (λ w. types.Text) (word (is k.Text)))
 
--- ---- literals, each with where it begins
+-- ---- literals, each with where it starts
 
 -- TRUE | FALSE | NULL
 unfoldable pub word_literal : Rule (ℕ × Datum)
@@ -152,7 +152,7 @@ next_value = after (is k.Comma) value
 unfoldable pub value_list : Rule (List Datum)
 value_list = listed value next_value
 
--- ---- operators, each with where it begins
+-- ---- operators, each with where it starts
 
 -- * | / | %
 unfoldable pub multiplication : Rule (ℕ × Arithmetic)
@@ -322,14 +322,14 @@ or_operand = both (word (is k.Or)) conjunction
 unfoldable pub expression : Rule Located
 expression = made (λ p. or_of p.0 p.1) (both conjunction (many true or_operand))
 
--- ---- the rules that stand a level deeper
+-- ---- the rules that are a level deeper
 
 abbrev pub rule : (r : Nested) → Rule (Tree r)
 rule an_expression = expression
 rule a_negation = negation
 rule a_unary = unary
 
--- the kinds that begin an expression behind its minus signs
+-- the kinds that start an expression after its minus signs
 abbrev pub begins_primary : TokenKind → Bool
 begins_primary k.Number = true
 begins_primary k.SignedMinus = true

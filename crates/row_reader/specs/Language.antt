@@ -10,13 +10,13 @@ use Rattle.row_ast.specs.Ast.{Name, Expr}
 use Rattle.row_reader.specs.declared.reader.Class.{Class}
 use Rattle.row_reader.specs.declared.reader.Class.TheVariants as c
 
--- the rules that stand a level deeper
+-- the rules that are a level deeper
 pub data Nested : Type 0 where
   an_expression : Nested
   a_negation : Nested
   a_unary : Nested
 
--- an expression, and where its first token begins
+-- an expression, and where its first token starts
 abbrev pub Located : Type 0
 Located = ℕ × Expr
 
@@ -32,7 +32,7 @@ language = record { Kind = TokenKind; Token = Word; kind = kind_of; Inner = Nest
 abbrev pub Rule : Type 0 → Type 1
 Rule A = Form language A
 
--- where the next token begins; 0 for none
+-- where the next token starts; 0 for none
 abbrev pub next_at : List Word → ℕ
 next_at [] = 0
 next_at (w ∷ ws) = w.at
@@ -43,7 +43,7 @@ is a b = sameb the_type b a
 
 -- ---- kinds that stand for one another
 
--- what may be a name: all words but the reserved ones, of which not some that begin more than a name in an expression
+-- what may be a name: all words but the reserved ones, of which not some that start more than a name in an expression
 abbrev pub is_plain : TokenKind → Bool
 is_plain k.Name = true
 is_plain k.Create = true
@@ -83,7 +83,7 @@ is_name k.Min = true
 is_name k.Max = true
 is_name other = is_plain other
 
--- a number behind a minus
+-- a number after a minus
 abbrev pub is_magnitude : TokenKind → Bool
 is_magnitude k.Number = true
 is_magnitude k.MinMagnitude = true

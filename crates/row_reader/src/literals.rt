@@ -21,7 +21,7 @@ fn positive(number: u64) -> i64
     i64::try_from(number).unwrap_or(0)
 }
 
-// The number behind a minus; no token is a greater one.
+// The number after a minus; no token is a greater one.
 fn negative(number: u64) -> i64
     ensures { int result ≡ number_of (neg_ℤ (pos number)) }
 {
@@ -48,7 +48,7 @@ fn word_literal<'t, A: Heap>(
     }
 }
 
-// A number, a text in quotes, or one of these words, and where it begins.
+// A number, a string literal, or one of these words, and where it starts.
 #[tactic(auto, unfolding(crate::specs::Expressions::unsigned_literal))]
 fn unsigned_literal<'t, A: Heap>(
     reader: Reader<A>,
@@ -68,7 +68,7 @@ fn unsigned_literal<'t, A: Heap>(
     }
 }
 
-/// A literal in an expression, and where it begins.
+/// A literal in an expression, and where it starts.
 #[tactic(auto, unfolding(crate::specs::Expressions::literal))]
 pub fn literal<'t, A: Heap>(
     reader: Reader<A>,

@@ -69,7 +69,7 @@ pub fn sees(kind: TokenKind, tokens: &[Token<'_>]) -> bool
     }
 }
 
-/// Where the next token begins; 0 for none.
+/// Where the next token starts; 0 for none.
 pub fn next_offset(tokens: &[Token<'_>]) -> u32
     ensures { result ≡ next_at (words_of tokens.now) }
 {
@@ -123,7 +123,7 @@ pub enum Class {
     PlainName,
     /// `sum`, `min`, `max`.
     Aggregate,
-    /// A number behind a minus.
+    /// A number after a minus.
     Magnitude,
     /// A minus, before a number or not.
     Sign,

@@ -5,7 +5,7 @@ use Rattle.row_tokens.specs.Words.{Word, quoted_value, words}
 use Rattle.value.specs.Datum.{text}
 use Rattle.value.specs.Texts.{IsNoNullMark}
 
--- the value of a text in quotes is not the null mark
+-- the value of a string literal is not the null mark
 abbrev pub HasNoNullMark : Word → Type 0
 HasNoNullMark w = w.kind ≡ Quoted → IsNoNullMark (text (quoted_value w.bytes))
 

@@ -26,7 +26,7 @@ abbrev pub at_of : ℕ → List Word → ℕ
 at_of end [] = end
 at_of end (w ∷ ws) = w.at
 
--- where the token begins from which on there are so many; the end of the text for none
+-- where the token starts from which on there are so many; the end of the text for none
 abbrev pub offset_of : List ℕ → ℕ → ℕ
 offset_of text n = at_of (length text) (drop (length (words text) - n) (words text))
 

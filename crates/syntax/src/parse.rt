@@ -226,7 +226,7 @@ fn read_statement<A: Heap>(alloc: A, text: &str) -> Result<Statement<A>, Failure
 
 /// The schema statement that a text is, without a semicolon. The fault is `Syntax` (42601) at the byte from which
 /// on the grammar does not go on, and `Limit` (54000) for more than 65,536 bytes or for nesting or a run that goes
-/// on behind the limit.
+/// on beyond the limit.
 #[tactic(auto, unfolding(crate::specs::Parsing::parsed_statement))]
 pub fn parse_statement<A: Heap>(alloc: A, text: &str) -> Result<Statement<A>, Failure<ParseError>>
     ensures reading { Gives (λ s. statement_of s) result (parsed_statement text.now) }

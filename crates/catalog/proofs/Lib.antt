@@ -1,0 +1,4 @@
+pub mod Named
+pub mod Roles
+pub mod Places
+pub mod Grants

@@ -1,0 +1,17 @@
+use Rattle.std.proofs.Common.{List, ap, map}
+use Rattle.std.proofs.lemmas.Result.{on_ok_weaker, on_err_weaker}
+use Rattle.row_objects.specs.Objects.{Grant, Table}
+use Rattle.row_objects.specs.View.{grant_of, table_entry}
+use Rattle.catalog.specs.GrantSelect.{with_grants_to}
+use Rattle.catalog.proofs.Places.{written_at, unchanged_at}
+use Rattle.catalog.proofs.grant_select.grant_in.Goals as goal
+
+pub returns-clause-done : goal.returns-clause-done
+returns-clause-done g c = on_ok_weaker c.add_grants.result (λ d.
+    written_at table_entry (with_grants_to c.args.roles.now) c.args.tables.now c.args.place c.at_mut-table.result.now _ c.at_mut-table.ensures.value
+    (λ n. ap (λ (gs : List Grant). let t : Table = record (table_entry (n, c.at_mut-table.result.now)) { grants = gs } in t) d)) c.add_grants.ensures.done
+
+pub returns-clause-unchanged : goal.returns-clause-unchanged
+returns-clause-unchanged g c = on_err_weaker c.add_grants.result (λ d.
+    unchanged_at table_entry c.args.tables.now c.args.place c.at_mut-table.result.now _ c.at_mut-table.ensures.value
+    (λ n. ap (λ gs. let t : Table = record (table_entry (n, c.at_mut-table.result.now)) { grants = map grant_of gs } in t) d)) c.add_grants.ensures.unchanged

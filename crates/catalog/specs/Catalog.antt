@@ -1,0 +1,71 @@
+-- A catalogue, who is who in it, and what names stand for.
+use Rattle.std.specs.Prelude.{ℕ, Bool, true, false, ◌&&◌, ◌||◌, codes, List, [], ◌∷◌, Option, Some, None, is_some}
+use Rattle.std.specs.Str.{bytes_eq}
+use Rattle.std.specs.List.{find, position_from}
+use Rattle.value.specs.Columns.{Column}
+use Rattle.row_ast.specs.Ast.{Name, everyone}
+use Rattle.row_objects.specs.Objects.{Role, Table}
+
+-- roles, who was made a member of what, the newest first, and tables
+pub record Catalog : Type 0 where
+  pub roles : List Role
+  pub memberships : List (Name × Name)
+  pub tables : List Table
+
+-- a catalogue at first: the superuser root alone
+abbrev pub at_first : Catalog
+at_first = record { roles = record { name = codes "root"; superuser = true } ∷ []; memberships = []; tables = [] }
+
+-- ---- roles
+
+abbrev pub role_named : Name → Catalog → Option Role
+role_named name cat = find (λ role. bytes_eq name role.name) cat.roles
+
+abbrev pub is_role : Catalog → Name → Bool
+is_role cat name = is_some (role_named name cat)
+
+abbrev pub has_superuser : Option Role → Bool
+has_superuser None = false
+has_superuser (Some role) = role.superuser
+
+abbrev pub is_superuser : Catalog → Name → Bool
+is_superuser cat name = has_superuser (role_named name cat)
+
+-- r is s, or memberships lead from r to s: without the newest one, or through it
+abbrev pub belongs_by : List (Name × Name) → Name → Name → Bool
+belongs_by [] r s = bytes_eq r s
+belongs_by (m ∷ older) r s = belongs_by older r s || (belongs_by older r m.0 && belongs_by older m.1 s)
+
+abbrev pub belongs : Catalog → Name → Name → Bool
+belongs cat r s = belongs_by cat.memberships r s
+
+-- a role, or all
+abbrev pub is_known : Catalog → Name → Bool
+is_known cat name = bytes_eq name everyone || is_role cat name
+
+-- ---- tables
+
+abbrev pub table_named : Name → Catalog → Option Table
+table_named name cat = find (λ t. bytes_eq name t.name) cat.tables
+
+-- the place of the table of that name, from 0
+abbrev pub table_place : Name → Catalog → Option ℕ
+table_place name cat = position_from (λ t. bytes_eq name t.name) 0 cat.tables
+
+-- the actor is a superuser, or belongs to the owner
+abbrev pub owns : Catalog → Name → Table → Bool
+owns cat actor t = is_superuser cat actor || belongs cat actor t.owner
+
+-- ---- columns
+
+abbrev pub column_named : Name → List Column → Option Column
+column_named name columns = find (λ column. bytes_eq name column.name) columns
+
+-- the place of the column of that name, from 0
+abbrev pub place_of : List Column → Name → Option ℕ
+place_of columns name = position_from (λ column. bytes_eq name column.name) 0 columns
+
+-- the name before the dot, if there is one, is the table's
+abbrev pub is_qualified : Name → Option Name → Bool
+is_qualified table None = true
+is_qualified table (Some name) = bytes_eq name table

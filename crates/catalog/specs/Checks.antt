@@ -1,0 +1,52 @@
+-- What the statements share: checks in order, and one table changed.
+use Rattle.std.specs.Prelude.{◌≡◌, ℕ, zero, suc, Bool, nat_le, List, [], ◌∷◌, length, Option, Some, None, Result, Ok, Err, if◌then◌else◌}
+use Rattle.std.specs.Str.{bytes_eq}
+use Rattle.value.specs.declared.refusal.Refusal.{Refusal}
+use Rattle.row_ast.specs.Ast.{Name}
+use Rattle.row_objects.specs.Objects.{Table}
+use Rattle.catalog.specs.Catalog.{Catalog}
+
+-- ---- checks
+
+-- a test, and the refusal where it holds
+abbrev pub Check : Type 0
+Check = Bool × Refusal
+
+abbrev pub first_refusal : List Check → Option Refusal
+first_refusal [] = None
+first_refusal (c ∷ cs) = if c.0 then Some c.1 else first_refusal cs
+
+-- of what was found; else the other
+abbrev pub if_found : {X Y : Type 0} → Y → (X → Y) → Option X → Y
+if_found other f None = other
+if_found other f (Some x) = f x
+
+-- the list has as many members as it may have
+abbrev pub is_full : {X : Type 0} → ℕ → List X → Bool
+is_full most xs = nat_le most (length xs)
+
+-- the checks found a refusal, or none and the place of the table
+abbrev pub Checked : Result ℕ Refusal → Option Refusal → Option ℕ → Type 0
+Checked (Err why) refusal place = refusal ≡ Some why
+Checked (Ok i) refusal place = (refusal ≡ None) × (place ≡ Some i)
+
+-- the catalogue after a statement, unless it is refused
+abbrev pub unless : Option Refusal → Catalog → Result Catalog Refusal
+unless (Some why) cat = Err why
+unless None cat = Ok cat
+
+-- ---- changes
+
+-- the first of that kind, changed
+abbrev pub first_changed : {E : Type 0} → (E → Bool) → (E → E) → List E → List E
+first_changed p f [] = []
+first_changed p f (e ∷ es) = if p e then f e ∷ es else e ∷ first_changed p f es
+
+abbrev pub with_table : Catalog → Name → (Table → Table) → Catalog
+with_table cat name f = record cat { tables = first_changed (λ t. bytes_eq name t.name) f cat.tables }
+
+-- the one at a place, changed
+abbrev pub changed_at : {E : Type 0} → ℕ → (E → E) → List E → List E
+changed_at i f [] = []
+changed_at zero f (e ∷ es) = f e ∷ es
+changed_at (suc i) f (e ∷ es) = e ∷ changed_at i f es

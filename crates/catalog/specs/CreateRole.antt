@@ -1,0 +1,18 @@
+-- CREATE ROLE name.
+use Rattle.std.specs.Prelude.{ℕ, false, not, List, [], ◌∷◌, ◌++◌}
+use Rattle.value.specs.declared.refusal.Refusal.TheVariants as r
+use Rattle.row_ast.specs.Ast.{Name}
+use Rattle.catalog.specs.Catalog.{Catalog, is_known, is_superuser}
+use Rattle.catalog.specs.Checks.{Check, is_full}
+
+abbrev pub most_roles : ℕ
+most_roles = 256
+
+abbrev pub checks_create_role : Catalog → Name → Name → List Check
+checks_create_role cat actor name =
+    (not (is_superuser cat actor), r.InsufficientPrivilege)
+    ∷ (is_known cat name, r.DuplicateObject)
+    ∷ (is_full most_roles cat.roles, r.ProgramLimitExceeded) ∷ []
+
+abbrev pub after_create_role : Catalog → Name → Catalog
+after_create_role cat name = record cat { roles = cat.roles ++ record { name = name; superuser = false } ∷ [] }

@@ -1,0 +1,12 @@
+pub mod Catalog
+pub mod View
+pub mod Checks
+pub mod CreateRole
+pub mod CreateTable
+pub mod SetOwner
+pub mod RowSecurity
+pub mod GrantSelect
+pub mod CreatePolicy
+pub mod Equations
+pub mod Changes
+pub mod Granted

@@ -1,0 +1,89 @@
+//! Statements of an actor.
+
+ghost use Rattle.std.specs.Prelude.{◌≡◌, map};
+ghost use Rattle.row_ast.specs.View.{create_policy_of, statement_of};
+ghost use Rattle.catalog.specs.Checks.{first_refusal, unless};
+ghost use Rattle.catalog.specs.Changes.{after, changed, checks, is_supported, is_supported_policy, IsChange};
+
+use crate::catalog::Catalog;
+use crate::create_policy::equation_in;
+use memory::Heap;
+use row_ast::{CreatePolicy, RowSecurity, Statement};
+use value::Refusal;
+
+fn is_supported_policy<A: Heap>(catalog: &Catalog<A>, policy: &CreatePolicy<A>) -> bool
+    ensures { result ≡ is_supported_policy catalog.now (create_policy_of policy.now) }
+{
+    if policy.restrictive || equation_in(&policy.predicate).is_none() {
+        return false;
+    }
+    match catalog.table(policy.table.as_str()) {
+        Some(table) => table.policies().is_empty(),
+        None => true,
+    }
+}
+
+fn is_supported<A: Heap>(catalog: &Catalog<A>, statement: &Statement<A>) -> bool
+    ensures { result ≡ is_supported catalog.now (statement_of statement.now) }
+{
+    match statement {
+        Statement::CreateRole {
+            superuser,
+            bypass_rls,
+            ..
+        } => !superuser && !bypass_rls,
+        Statement::CreateTable { .. } | Statement::SetOwner { .. } => true,
+        Statement::SetRowSecurity { setting, .. } => matches!(setting, RowSecurity::Enable),
+        Statement::GrantSelect(grant) => grant.columns.is_none(),
+        Statement::CreatePolicy(policy) => is_supported_policy(catalog, policy),
+        Statement::GrantRole { .. }
+        | Statement::RevokeRole { .. }
+        | Statement::CreateIndex { .. }
+        | Statement::RevokeSelect(_)
+        | Statement::DropPolicy { .. } => false,
+    }
+}
+
+impl<A: Heap> Catalog<A> {
+    // A statement that is supported, of an actor that is a role: of the settings of row security only ENABLE, of grants only
+    // those without a list of columns, and none of the last variants.
+    fn apply_supported(&mut self, actor: &str, statement: &Statement<A>) -> Result<(), Refusal>
+        ensures { IsChange self.old self.new (unless (first_refusal (checks self.old actor.now (statement_of statement.now))) (after self.old actor.now (statement_of statement.now))) result }
+    {
+        match statement {
+            Statement::CreateRole { name, .. } => self.create_role(actor, name.as_str()),
+            Statement::CreateTable { name, columns } => {
+                self.create_table(actor, name.as_str(), columns.as_slice())
+            }
+            Statement::SetOwner { table, owner } => {
+                self.set_owner(actor, table.as_str(), owner.as_str())
+            }
+            Statement::SetRowSecurity { table, .. } => {
+                self.enable_row_security(actor, table.as_str())
+            }
+            Statement::GrantSelect(grant) => {
+                self.grant_select(actor, grant.table.as_str(), grant.roles.as_slice())
+            }
+            Statement::CreatePolicy(policy) => self.create_policy(actor, policy),
+            Statement::GrantRole { .. }
+            | Statement::RevokeRole { .. }
+            | Statement::CreateIndex { .. }
+            | Statement::RevokeSelect(_)
+            | Statement::DropPolicy { .. } => Ok(()),
+        }
+    }
+
+    /// Applies a statement of an actor. A refused statement changes nothing. That a statement is not supported yet comes
+    /// before all else (0A000), then that the actor is no role (42704).
+    pub fn apply(&mut self, actor: &str, statement: &Statement<A>) -> Result<(), Refusal>
+        ensures { IsChange self.old self.new (changed self.old actor.now (statement_of statement.now)) result }
+    {
+        if !is_supported(self, statement) {
+            return Err(Refusal::FeatureNotSupported);
+        }
+        if !self.is_role(actor) {
+            return Err(Refusal::UndefinedObject);
+        }
+        self.apply_supported(actor, statement)
+    }
+}

@@ -1,0 +1,132 @@
+//! The sets of the catalogue, and what is found in them.
+
+ghost use Rattle.std.specs.Prelude.{◌≡◌, ◌<◌, length, IfOk, IfSome, map, option_map};
+ghost use Rattle.std.specs.List.{list_all};
+ghost use Rattle.row_objects.specs.View.{table_of};
+ghost use Rattle.catalog.specs.Catalog.{at_first, belongs, is_known, is_role, is_superuser, owns, table_named, table_place};
+
+use memory::Heap;
+use row_objects::{ByName, Role, Table, TableDef};
+use std::alloc::AllocError;
+use std::marker::Model;
+use text::Text;
+
+/// Roles and tables, each in order of creation.
+#[derive(Drop)]
+pub struct Catalog<A: Heap> {
+    pub(crate) alloc: A,
+    pub(crate) roles: ByName<Role, A>,
+    pub(crate) tables: ByName<TableDef<A>, A>,
+}
+
+impl<A: Heap> Model for Catalog<A> {
+    ghost use Rattle.catalog.specs.Catalog as spec;
+
+    ghost Value = { spec.Catalog };
+
+    ghost use Rattle.catalog.specs.View.{catalog_of};
+
+    ghost view = { catalog_of };
+}
+
+impl<A: Heap> Catalog<A> {
+    /// A catalogue with one role, the superuser `root`.
+    pub fn new(alloc: A) -> Result<Catalog<A>, AllocError>
+        ensures { IfOk result (λ cat. cat ≡ at_first) }
+    {
+        let mut roles = ByName::new(alloc);
+        roles.insert(alloc, "root", Role { superuser: true })?;
+        Ok(Catalog {
+            alloc,
+            roles,
+            tables: ByName::new(alloc),
+        })
+    }
+
+    /// How many roles there are.
+    pub fn roles(&self) -> usize
+        ensures { result ≡ length self.now.roles }
+    {
+        self.roles.len()
+    }
+
+    /// How many tables there are.
+    pub fn tables(&self) -> usize
+        ensures { result ≡ length self.now.tables }
+    {
+        self.tables.len()
+    }
+
+    /// Whether there is a role of that name.
+    pub fn is_role(&self, name: &str) -> bool
+        ensures { result ≡ is_role self.now name.now }
+    {
+        self.roles.get(name).is_some()
+    }
+
+    /// Whether the role of that name is a superuser.
+    pub fn is_superuser(&self, name: &str) -> bool
+        ensures { result ≡ is_superuser self.now name.now }
+    {
+        match self.roles.get(name) {
+            Some(role) => role.superuser,
+            None => false,
+        }
+    }
+
+    /// Whether r is s, or memberships lead from r to s (PostgreSQL: Role Membership). There are no memberships yet.
+    pub fn is_member(&self, r: &str, s: &str) -> bool
+        ensures { result ≡ belongs self.now r.now s.now }
+    {
+        let _roles = &self.roles;
+        r == s
+    }
+
+    /// The table of that name.
+    pub fn table(&self, name: &str) -> Option<Table<'_, A>>
+        ensures { option_map (λ t. table_of t) result ≡ table_named name.now self.now }
+    {
+        match self.find_table(name) {
+            Some((_, table)) => Some(table),
+            None => None,
+        }
+    }
+
+    /// The place of the table of that name, from 0, and the table.
+    pub(crate) fn find_table(&self, name: &str) -> Option<(usize, Table<'_, A>)>
+        ensures place { option_map (λ p. p.0) result ≡ table_place name.now self.now }
+        ensures within { IfSome result (λ p. p.0 < length self.now.tables) }
+        ensures table { option_map (λ p. table_of p.1) result ≡ table_named name.now self.now }
+    {
+        match self.tables.get_full(name) {
+            Some((place, name, parts)) => Some((place, Table::new(name, parts))),
+            None => None,
+        }
+    }
+
+    /// Whether a role is a superuser, or belongs to the owner of a table.
+    pub(crate) fn owns(&self, actor: &str, table: Table<'_, A>) -> bool
+        ensures { result ≡ owns self.now actor.now (table_of table.entry) }
+    {
+        self.is_superuser(actor) || self.is_member(actor, table.owner())
+    }
+
+    /// Whether the name is a role's, or `public`.
+    pub(crate) fn is_known(&self, name: &str) -> bool
+        ensures { result ≡ is_known self.now name.now }
+    {
+        name == "public" || self.is_role(name)
+    }
+
+    /// Whether each name is a role's, or `public`.
+    pub(crate) fn are_known(&self, names: &[Text<A>]) -> bool
+        ensures { result ≡ list_all (is_known self.now) names.now }
+    {
+        for name in names {
+            if !self.is_known(name.as_str()) {
+                return false;
+            }
+        }
+        true
+    }
+}

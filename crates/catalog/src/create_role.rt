@@ -1,0 +1,54 @@
+//! `CREATE ROLE name` (PostgreSQL: CREATE ROLE).
+
+ghost use Rattle.std.specs.Prelude.{◌≡◌, false, OnErr, OnOk};
+ghost use Rattle.catalog.specs.Catalog.{is_role};
+ghost use Rattle.catalog.specs.Checks.{first_refusal, unless};
+ghost use Rattle.catalog.specs.CreateRole.{after_create_role, checks_create_role};
+ghost use Rattle.catalog.specs.Changes.{IsChange};
+
+use crate::catalog::Catalog;
+use memory::Heap;
+use row_objects::Role;
+use std::alloc::AllocError;
+use value::Refusal;
+
+/// The most roles of a catalogue.
+pub const MOST_ROLES: usize = 256;
+
+fn check_create_role<A: Heap>(catalog: &Catalog<A>, actor: &str, name: &str) -> Option<Refusal>
+    ensures { result ≡ first_refusal (checks_create_role catalog.now actor.now name.now) }
+{
+    if !catalog.is_superuser(actor) {
+        Some(Refusal::InsufficientPrivilege)
+    } else if catalog.is_known(name) {
+        Some(Refusal::DuplicateObject)
+    } else if catalog.roles() >= MOST_ROLES {
+        Some(Refusal::ProgramLimitExceeded)
+    } else {
+        None
+    }
+}
+
+impl<A: Heap> Catalog<A> {
+    fn add_role(&mut self, name: &str) -> Result<(), AllocError>
+        requires { is_role self.old name.now ≡ false }
+        ensures done { OnOk result (self.new ≡ after_create_role self.old name.now) }
+        ensures unchanged { OnErr result (self.new ≡ self.old) }
+    {
+        self.roles
+            .insert(self.alloc, name, Role { superuser: false })
+    }
+
+    /// Makes a role, if no check refuses it.
+    pub(crate) fn create_role(&mut self, actor: &str, name: &str) -> Result<(), Refusal>
+        ensures { IsChange self.old self.new (unless (first_refusal (checks_create_role self.old actor.now name.now)) (after_create_role self.old name.now)) result }
+    {
+        if let Some(why) = check_create_role(self, actor, name) {
+            return Err(why);
+        }
+        match self.add_role(name) {
+            Ok(()) => Ok(()),
+            Err(_) => Err(Refusal::OutOfMemory),
+        }
+    }
+}

@@ -1,0 +1,19 @@
+//! The roles and tables of a database, who owns and reads what, and the schema statements that change them.
+#![tactic(auto)]
+
+mod apply;
+mod catalog;
+mod copies;
+mod create_policy;
+mod create_role;
+mod create_table;
+mod grant_select;
+mod names;
+mod row_security;
+mod set_owner;
+
+pub use catalog::Catalog;
+pub use create_role::MOST_ROLES;
+pub use create_table::{MOST_COLUMNS, MOST_TABLES};
+pub use grant_select::law_granted_again;
+pub use names::{is_qualified, place};

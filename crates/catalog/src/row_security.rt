@@ -1,0 +1,60 @@
+//! `ALTER TABLE table ENABLE ROW LEVEL SECURITY` (PostgreSQL: ALTER TABLE).
+
+ghost use Rattle.std.specs.Prelude.{◌≡◌, ◌<◌, IfOk, length, map};
+ghost use Rattle.row_objects.specs.View.{table_entry};
+ghost use Rattle.catalog.specs.Catalog.{table_place};
+ghost use Rattle.catalog.specs.Checks.{changed_at, first_refusal, unless, Checked};
+ghost use Rattle.catalog.specs.RowSecurity.{after_row_security, checks_row_security, with_row_security};
+ghost use Rattle.catalog.specs.Changes.{IsChange};
+
+use crate::catalog::Catalog;
+use memory::Heap;
+use row_objects::{ByName, TableDef};
+use value::Refusal;
+
+fn check_row_security<A: Heap>(
+    catalog: &Catalog<A>,
+    actor: &str,
+    table: &str,
+) -> Result<usize, Refusal>
+    ensures checked { Checked result (first_refusal (checks_row_security catalog.now actor.now table.now)) (table_place table.now catalog.now) }
+    ensures within { IfOk result (λ place. place < length catalog.now.tables) }
+{
+    let Some((place, table)) = catalog.find_table(table) else {
+        return Err(Refusal::UndefinedTable);
+    };
+    if !catalog.owns(actor, table) {
+        Err(Refusal::InsufficientPrivilege)
+    } else {
+        Ok(place)
+    }
+}
+
+fn enable_in<A: Heap>(tables: &mut ByName<TableDef<A>, A>, place: usize)
+    requires { place < length tables.old }
+    ensures { map (λ t. table_entry t) tables.new ≡ changed_at place with_row_security (map (λ t. table_entry t) tables.old) }
+{
+    tables.at_mut(place).row_security = true;
+}
+
+impl<A: Heap> Catalog<A> {
+    fn enable_at(&mut self, place: usize)
+        requires { place < length self.old.tables }
+        ensures { self.new ≡ record self.old { tables = changed_at place with_row_security self.old.tables } }
+    {
+        enable_in(&mut self.tables, place);
+    }
+
+    /// Enables row security, if no check refuses it. It takes no memory.
+    pub(crate) fn enable_row_security(&mut self, actor: &str, table: &str) -> Result<(), Refusal>
+        ensures { IsChange self.old self.new (unless (first_refusal (checks_row_security self.old actor.now table.now)) (after_row_security self.old table.now)) result }
+    {
+        match check_row_security(self, actor, table) {
+            Err(why) => Err(why),
+            Ok(place) => {
+                self.enable_at(place);
+                Ok(())
+            }
+        }
+    }
+}

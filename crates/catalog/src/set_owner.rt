@@ -1,0 +1,75 @@
+//! `ALTER TABLE table OWNER TO owner` (PostgreSQL: ALTER TABLE).
+
+ghost use Rattle.std.specs.Prelude.{◌≡◌, ◌<◌, ◌&&◌, ◌||◌, IfOk, OnErr, OnOk, length, map};
+ghost use Rattle.row_objects.specs.View.{table_entry, table_of};
+ghost use Rattle.catalog.specs.Catalog.{belongs, is_superuser, table_place};
+ghost use Rattle.catalog.specs.Checks.{changed_at, first_refusal, unless, Checked};
+ghost use Rattle.catalog.specs.SetOwner.{after_set_owner, checks_set_owner, with_owner};
+ghost use Rattle.catalog.specs.Changes.{IsChange};
+
+use crate::catalog::Catalog;
+use memory::Heap;
+use row_objects::{ByName, Table, TableDef};
+use std::alloc::AllocError;
+use text::Text;
+use value::Refusal;
+
+fn may_give<A: Heap>(catalog: &Catalog<A>, actor: &str, table: Table<'_, A>, owner: &str) -> bool
+    ensures { result ≡ (is_superuser catalog.now actor.now || (belongs catalog.now actor.now (table_of table.entry).owner && belongs catalog.now actor.now owner.now)) }
+{
+    catalog.is_superuser(actor)
+        || (catalog.is_member(actor, table.owner()) && catalog.is_member(actor, owner))
+}
+
+fn check_set_owner<A: Heap>(
+    catalog: &Catalog<A>,
+    actor: &str,
+    table: &str,
+    owner: &str,
+) -> Result<usize, Refusal>
+    ensures checked { Checked result (first_refusal (checks_set_owner catalog.now actor.now table.now owner.now)) (table_place table.now catalog.now) }
+    ensures within { IfOk result (λ place. place < length catalog.now.tables) }
+{
+    let Some((place, table)) = catalog.find_table(table) else {
+        return Err(Refusal::UndefinedTable);
+    };
+    if !catalog.is_role(owner) {
+        Err(Refusal::UndefinedObject)
+    } else if !may_give(catalog, actor, table, owner) {
+        Err(Refusal::InsufficientPrivilege)
+    } else {
+        Ok(place)
+    }
+}
+
+fn set_owner_in<A: Heap>(tables: &mut ByName<TableDef<A>, A>, place: usize, owner: Text<A>)
+    requires { place < length tables.old }
+    ensures { map (λ t. table_entry t) tables.new ≡ changed_at place (with_owner owner) (map (λ t. table_entry t) tables.old) }
+{
+    tables.at_mut(place).owner = owner;
+}
+
+impl<A: Heap> Catalog<A> {
+    fn set_owner_at(&mut self, place: usize, owner: &str) -> Result<(), AllocError>
+        requires { place < length self.old.tables }
+        ensures done { OnOk result (self.new ≡ record self.old { tables = changed_at place (with_owner owner.now) self.old.tables }) }
+        ensures unchanged { OnErr result (self.new ≡ self.old) }
+    {
+        let owner = Text::new(self.alloc, owner)?;
+        set_owner_in(&mut self.tables, place, owner);
+        Ok(())
+    }
+
+    /// Gives a table to an owner, if no check refuses it.
+    pub(crate) fn set_owner(&mut self, actor: &str, table: &str, owner: &str) -> Result<(), Refusal>
+        ensures { IsChange self.old self.new (unless (first_refusal (checks_set_owner self.old actor.now table.now owner.now)) (after_set_owner self.old table.now owner.now)) result }
+    {
+        match check_set_owner(self, actor, table, owner) {
+            Err(why) => Err(why),
+            Ok(place) => match self.set_owner_at(place, owner) {
+                Ok(()) => Ok(()),
+                Err(_) => Err(Refusal::OutOfMemory),
+            },
+        }
+    }
+}

@@ -1,0 +1,4 @@
+pub mod Parts
+pub mod Served
+pub mod Names
+pub mod View

@@ -1,0 +1,4 @@
+pub mod Named
+pub mod Lends
+pub mod Objects
+pub mod View

@@ -1,0 +1,42 @@
+-- What the things of the program's catalogue are.
+use Rattle.std.specs.Prelude.{map}
+use Rattle.value.specs.Datum.{datum}
+use Rattle.value.specs.Columns.{column_of}
+use Rattle.row_ast.specs.Ast.{Name}
+use Rattle.row_objects.specs.declared.objects.Role as declared
+use Rattle.row_objects.specs.declared.objects.Grant as declared_grant
+use Rattle.row_objects.specs.declared.objects.Operand as declared_operand
+use Rattle.row_objects.specs.declared.objects.Operand.TheVariants as operand
+use Rattle.row_objects.specs.declared.objects.Policy as declared_policy
+use Rattle.row_objects.specs.declared.objects.TableDef.{TableDef}
+use Rattle.row_objects.specs.declared.objects.Table as declared_table
+use Rattle.row_objects.specs.Objects.{Role, Grant, Operand, CurrentUser, Literal, Policy, Table}
+
+-- a role by its name
+abbrev pub role_of : Name × declared.Role → Role
+role_of r = record { name = r.0; superuser = r.1.superuser }
+
+abbrev pub grant_of : {A : Type 0} → declared_grant.Grant A → Grant
+grant_of g = record { to = g.to; column = g.column }
+
+abbrev pub operand_of : {A : Type 0} → declared_operand.Operand A → Operand
+operand_of operand.CurrentUser = CurrentUser
+operand_of (operand.Literal value) = Literal (datum value)
+
+abbrev pub policy_of : {A : Type 0} → declared_policy.Policy A → Policy
+policy_of p = record { name = p.name; roles = p.roles; column = p.column; operand = operand_of p.operand }
+
+-- a table by its name
+abbrev pub table_entry : {A : Type 0} → Name × TableDef A → Table
+table_entry t = record {
+  name = t.0;
+  columns = map column_of t.1.columns;
+  owner = t.1.owner;
+  row_security = t.1.row_security;
+  policies = map policy_of t.1.policies;
+  grants = map grant_of t.1.grants;
+}
+
+-- a table that is lent
+abbrev pub table_of : {A : Type 0} → declared_table.Table A → Table
+table_of t = table_entry (t.name.now, t.parts.now)

@@ -1,0 +1,120 @@
+//! Roles, tables, policies and grants.
+
+ghost use Rattle.std.specs.Prelude.{◌≡◌, map};
+ghost use Rattle.value.specs.Columns.{column_of};
+ghost use Rattle.row_objects.specs.View.{grant_of, policy_of, table_entry, table_of};
+
+use memory::Heap;
+use text::{Items, Text};
+use value::{Column, Value};
+
+/// A role, whose name is its key (PostgreSQL: Database Roles).
+#[derive(Drop)]
+pub struct Role {
+    /// Whether it is a superuser.
+    pub superuser: bool,
+}
+
+/// SELECT on a column, or on the whole table, for a role or for everyone (PostgreSQL: GRANT).
+#[derive(Drop)]
+pub struct Grant<A: Heap> {
+    /// The role, `public` for all.
+    pub to: Text<A>,
+    /// The column; without one the whole table.
+    pub column: Option<Text<A>>,
+}
+
+/// What a policy compares its column with.
+#[derive(Drop)]
+pub enum Operand<A: Heap> {
+    /// The name of the role that asks.
+    CurrentUser,
+    /// A value.
+    Literal(Value<A>),
+}
+
+/// A permissive policy for some roles: the column at a place equals the operand (PostgreSQL: CREATE POLICY).
+#[derive(Drop)]
+pub struct Policy<A: Heap> {
+    /// Its name.
+    pub name: Text<A>,
+    /// The roles to which it applies, `public` for all.
+    pub roles: Items<Text<A>, A>,
+    /// The place of its column in the table, from 0.
+    pub column: usize,
+    /// What the column is compared with.
+    pub operand: Operand<A>,
+}
+
+/// A table, whose name is its key.
+#[derive(Drop)]
+pub struct TableDef<A: Heap> {
+    /// The columns, in order.
+    pub columns: Items<Column<A>, A>,
+    /// The role that owns it.
+    pub owner: Text<A>,
+    /// Whether row security is enabled.
+    pub row_security: bool,
+    /// The policies, in order of creation.
+    pub policies: Items<Policy<A>, A>,
+    /// The grants, none twice.
+    pub grants: Items<Grant<A>, A>,
+}
+
+/// A table that a catalogue lends.
+#[derive(Clone, Copy)]
+pub struct Table<'c, A: Heap> {
+    name: &'c str,
+    parts: &'c TableDef<A>,
+}
+
+impl<'c, A: Heap> Table<'c, A> {
+    /// A table of its name and the rest of it.
+    pub fn new(name: &'c str, parts: &'c TableDef<A>) -> Table<'c, A>
+        ensures { table_of result ≡ table_entry (name.now, parts.now) }
+    {
+        Table { name, parts }
+    }
+
+    /// The name of the table.
+    pub fn name(self) -> &'c str
+        ensures { result.now ≡ (table_of self.entry).name }
+    {
+        self.name
+    }
+
+    /// The columns, in order.
+    pub fn columns(self) -> &'c [Column<A>]
+        ensures { map (λ c. column_of c) result.now ≡ (table_of self.entry).columns }
+    {
+        self.parts.columns.as_slice()
+    }
+
+    /// The role that owns it.
+    pub fn owner(self) -> &'c str
+        ensures { result.now ≡ (table_of self.entry).owner }
+    {
+        self.parts.owner.as_str()
+    }
+
+    /// Whether row security is enabled.
+    pub fn row_security(self) -> bool
+        ensures { result ≡ (table_of self.entry).row_security }
+    {
+        self.parts.row_security
+    }
+
+    /// The policies, in order of creation.
+    pub fn policies(self) -> &'c [Policy<A>]
+        ensures { map (λ p. policy_of p) result.now ≡ (table_of self.entry).policies }
+    {
+        self.parts.policies.as_slice()
+    }
+
+    /// The grants, none twice.
+    pub fn grants(self) -> &'c [Grant<A>]
+        ensures { map (λ g. grant_of g) result.now ≡ (table_of self.entry).grants }
+    {
+        self.parts.grants.as_slice()
+    }
+}
