@@ -6,16 +6,19 @@ use Rattle.std.proofs.lemmas.List.Sorted.{IsPermutation-map}
 use Rattle.bags.proofs.Order.{sorted_by-IsPermutation}
 use Rattle.value.specs.Datum.{Row}
 use Rattle.value.specs.Orders.{row_cmp}
-use Rattle.value.specs.declared.refusal.Refusal.TheVariants.{UndefinedObject}
+use Rattle.value.specs.declared.refusal.Refusal.TheVariants.{FeatureNotSupported, UndefinedObject}
 use Rattle.value.proofs.DatumOrder.{row_cmp_total, row_cmp_exact}
-use Rattle.syntax.specs.Tree.{Name, Question}
-use Rattle.engine.specs.Plain.{PlainQuery, plain_query}
-use Rattle.syntax.specs.Parsing.{TextFault, parsed_query}
-use Rattle.engine.specs.declared.resolve.NameFault.{NameFault}
-use Rattle.engine.specs.Entries.{Catalogue, Content}
-use Rattle.engine.specs.Access.{Need, is_role, denial, cell, visible}
-use Rattle.engine.specs.Names.{Bound, resolved, needed}
-use Rattle.engine.specs.Reply.{refused, rows, items_of, answer, denied_or_rows, bound_reply, served_reply, parsed_reply, reply_to}
+use Rattle.row_ast.specs.Ast.{Name, Query}
+use Rattle.syntax.specs.Parsing.{parsed_query}
+use Rattle.syntax.specs.declared.fault.ParseError.{ParseError}
+use Rattle.catalog.specs.Catalog.{Catalog, is_role}
+use Rattle.access.specs.Access.{RequiredPrivilege, denial, cell, visible}
+use Rattle.resolve.specs.declared.binding.NameFault.{NameFault}
+use Rattle.resolve.specs.Names.{Bound, resolved}
+use Rattle.resolve.specs.Served.{is_served}
+use Rattle.report.specs.Reply.{Refused, Rows as RowsReply}
+use Rattle.engine.specs.Database.{Rows}
+use Rattle.engine.specs.Answer.{items_of, answer, required, denied_or_rows, bound_reply, query_reply, parsed_reply, reply_to}
 use Rattle.engine.specs.Hidden.{kept_from, restricted, SeesSame}
 
 -- a column that is kept is as it was
@@ -58,7 +61,7 @@ items_of_all : (ks : List ℕ) (lines : List Row) → map (items_of ks) (map (re
 items_of_all ks [] = refl
 items_of_all ks (row ∷ lines) = ap₂ ◌∷◌ (items_kept ks ks row (among_itself ks)) (items_of_all ks lines)
 
-same_answer : (cat : Catalogue) (role : Name) (b : Bound) (one other : Content) →
+same_answer : (cat : Catalog) (role : Name) (b : Bound) (one other : Rows) →
     IsPermutation (map (restricted b.places) (visible cat role b.table (one b.table.name))) (map (restricted b.places) (visible cat role b.table (other b.table.name))) →
     answer cat one role b ≡ answer cat other role b
 same_answer cat role b one other same =
@@ -66,30 +69,33 @@ same_answer cat role b one other same =
     (subst₂ IsPermutation (items_of_all b.places (visible cat role b.table (one b.table.name))) (items_of_all b.places (visible cat role b.table (other b.table.name)))
     (IsPermutation-map (items_of b.places) _ _ same))
 
-same_rows : (cat : Catalogue) (role : Name) (b : Bound) (one other : Content) (no : Option Need) →
+same_rows : (cat : Catalog) (role : Name) (b : Bound) (one other : Rows) (no : Option RequiredPrivilege) →
     (no ≡ None → answer cat one role b ≡ answer cat other role b) → denied_or_rows cat one role b no ≡ denied_or_rows cat other role b no
-same_rows cat role b one other (Some need) same = refl
-same_rows cat role b one other None same = ap (rows b.names) (same refl)
+same_rows cat role b one other (Some privilege) same = refl
+same_rows cat role b one other None same = ap (RowsReply b.names) (same refl)
 
-same_bound : (cat : Catalogue) (role : Name) (one other : Content) (bound : Result Bound NameFault) →
-    ((b : Bound) → bound ≡ Ok b → denial cat role (needed b) ≡ None → answer cat one role b ≡ answer cat other role b) →
+same_bound : (cat : Catalog) (role : Name) (one other : Rows) (bound : Result Bound NameFault) →
+    ((b : Bound) → bound ≡ Ok b → denial cat role (required b) ≡ None → answer cat one role b ≡ answer cat other role b) →
     bound_reply cat one role bound ≡ bound_reply cat other role bound
 same_bound cat role one other (Err e) same = refl
-same_bound cat role one other (Ok b) same = same_rows cat role b one other (denial cat role (needed b)) (same b refl)
+same_bound cat role one other (Ok b) same = same_rows cat role b one other (denial cat role (required b)) (same b refl)
 
-same_served : (cat : Catalogue) (role : Name) (one other : Content) (plain : Option PlainQuery) →
-    ((p : PlainQuery) (b : Bound) → plain ≡ Some p → resolved cat p ≡ Ok b → denial cat role (needed b) ≡ None → answer cat one role b ≡ answer cat other role b) →
-    served_reply cat one role plain ≡ served_reply cat other role plain
-same_served cat role one other None same = refl
-same_served cat role one other (Some p) same = same_bound cat role one other (resolved cat p) (λ b bound granted. same p b refl bound granted)
+same_query : (cat : Catalog) (role : Name) (one other : Rows) (q : Query) →
+    ((b : Bound) → is_served q ≡ true → resolved cat q ≡ Ok b → denial cat role (required b) ≡ None → answer cat one role b ≡ answer cat other role b) →
+    query_reply cat one role q ≡ query_reply cat other role q
+same_query cat role one other q same = go (is_served q) refl
+  where
+    go : (b : Bool) → is_served q ≡ b → cond b (bound_reply cat one role (resolved cat q)) (Refused FeatureNotSupported None) ≡ cond b (bound_reply cat other role (resolved cat q)) (Refused FeatureNotSupported None)
+    go true served = same_bound cat role one other (resolved cat q) (λ b bound granted. same b served bound granted)
+    go false not_served = refl
 
-same_parsed : (cat : Catalogue) (role : Name) (asked : List ℕ) (one other : Content) (parsed : Result Question TextFault) → parsed_query asked ≡ parsed →
-    SeesSame cat role asked one other → parsed_reply cat one role parsed ≡ parsed_reply cat other role parsed
-same_parsed cat role asked one other (Err e) is same = refl
-same_parsed cat role asked one other (Ok q) is same =
-    same_served cat role one other (plain_query q) (λ p b plain bound granted. same_answer cat role b one other (same q p b is plain bound granted))
+same_parsed : (cat : Catalog) (role : Name) (text : List ℕ) (one other : Rows) (parsed : Result Query ParseError) → parsed_query text ≡ parsed →
+    SeesSame cat role text one other → parsed_reply cat one role parsed ≡ parsed_reply cat other role parsed
+same_parsed cat role text one other (Err e) is same = refl
+same_parsed cat role text one other (Ok q) is same =
+    same_query cat role one other q (λ b served bound granted. same_answer cat role b one other (same q b is served bound granted))
 
 -- what the role does not see makes no difference
-pub same_reply : (cat : Catalogue) (role : Name) (asked : List ℕ) (one other : Content) → SeesSame cat role asked one other → reply_to cat one role asked ≡ reply_to cat other role asked
-same_reply cat role asked one other same =
-    ap (λ reply. cond (is_role cat role) reply (refused UndefinedObject None)) (same_parsed cat role asked one other (parsed_query asked) refl same)
+pub same_reply : (cat : Catalog) (role : Name) (text : List ℕ) (one other : Rows) → SeesSame cat role text one other → reply_to cat one role text ≡ reply_to cat other role text
+same_reply cat role text one other same =
+    ap (λ reply. cond (is_role cat role) reply (Refused UndefinedObject None)) (same_parsed cat role text one other (parsed_query text) refl same)

@@ -1,6 +1,4 @@
-pub mod Grants
 pub mod HiddenRows
 pub mod Places
 pub mod Loads
-pub mod PlainItems
-pub mod Fields
+pub mod Statuses

@@ -1,9 +1,7 @@
 -- An entry changed at its place.
 use Rattle.std.proofs.Common.{◌≡◌, ℕ, zero, suc, ◌+◌, ◌≤◌, Bool, true, false, cond, List, [], ◌∷◌, map, set, get_or, find, Option, Some, None, refl, ap, ◌∙◌, arith}
 use Rattle.std.specs.List.{position_from}
-use Rattle.syntax.specs.Tree.{Name, ColumnEntry}
-use Rattle.engine.specs.Entries.{GrantEntry, PolicyEntry, TableEntry}
-use Rattle.engine.specs.Changes.{first_changed, fresh_table}
+use Rattle.catalog.specs.Checks.{first_changed}
 
 some_is : (i j : ℕ) → ◌≡◌ {A = Option ℕ} (Some i) (Some j) → i ≡ j
 some_is i j e = cc
@@ -82,15 +80,3 @@ module _ {E : Type 0} (p : E → Bool) where
       -- what stands at the place is the one that changes
       pub set_at : (xs : List X) (i : ℕ) → position_from p 0 (map v xs) ≡ Some i → v y ≡ f (v (get_or xs i d)) → map v (set xs i y) ≡ first_changed p f (map v xs)
       set_at xs i h is = set_from xs 0 i (h ∙ some_of i (0 + i) (omega arith)) is
-
--- ---- entries by their parts
-
-pub fresh_parts : (n n' : Name) (cs cs' : List ColumnEntry) (o o' : Name) (ps : List PolicyEntry) (gs : List GrantEntry) → n ≡ n' → cs ≡ cs' → o ≡ o' → ps ≡ [] → gs ≡ []
-    → ◌≡◌ {A = TableEntry} record { name = n; columns = cs; owner = o; secured = false; policies = ps; grants = gs } (fresh_table o' n' cs')
-fresh_parts n n' cs cs' o o' ps gs a b c d e = rw (a, b, c, d, e)
-
-pub same_but_grants : (t : TableEntry) (some more : List GrantEntry) → some ≡ more → ◌≡◌ {A = TableEntry} (record t { grants = some }) (record t { grants = more })
-same_but_grants t some more e = ap (λ gs. record t { grants = gs }) e
-
-pub same_but_policies : (t : TableEntry) (some more : List PolicyEntry) → some ≡ more → ◌≡◌ {A = TableEntry} (record t { policies = some }) (record t { policies = more })
-same_but_policies t some more e = ap (λ ps. record t { policies = ps }) e

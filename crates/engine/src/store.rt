@@ -1,32 +1,33 @@
 //! A catalogue with its tables.
 
-ghost use Rattle.std.specs.Prelude.{◌≡◌, List, IfOk, IfSome, IsErrOf, OnErr, OnOk, ◌<◌, Option, None, length, map, option_map, slice_get};
-ghost use Rattle.tables.specs.Loading.{Fields, col_of, reported};
+ghost use Rattle.std.specs.Prelude.{◌≡◌, List, IfOk, IfSome, IsErrOf, OnErr, OnOk, ◌<◌, None, length, map, option_map, slice_get};
 ghost use Rattle.std.specs.List.{position_from};
-ghost use Rattle.engine.specs.Plain.{create_table};
-ghost use Rattle.syntax.specs.View.{act_of, column_entry};
-ghost use Rattle.engine.specs.PlainView.{plain_act_of};
-ghost use Rattle.engine.specs.Changes.{IsChange};
-ghost use Rattle.engine.specs.Stored.{at_start, changed_world, changed_world_plainly, column_of, columns_in, contents_named, empty_table, is_named, IsLoad, IsLoadFrom, LoadStops};
-ghost use Rattle.engine.specs.World.{stored_entry};
+ghost use Rattle.tables.specs.Loading.{Fields, reported};
+ghost use Rattle.value.specs.Columns.{column_of};
+ghost use Rattle.row_ast.specs.Statements.{CreateTable};
+ghost use Rattle.row_ast.specs.View.{statement_of};
+ghost use Rattle.catalog.specs.Changes.{IsChange};
+ghost use Rattle.engine.specs.Database.{at_start, changed_database, columns_in, contents_named, empty_table, is_named};
+ghost use Rattle.engine.specs.Loads.{IsLoad, IsLoadFrom, LoadStops, store_failure};
+ghost use Rattle.engine.specs.View.{stored_of};
 
-use crate::catalog::Catalog;
-use crate::plain::{PlainStatement, plain_statement};
+use catalog::Catalog;
 use csv_records::Records;
-use memory::Heap;
+use memory::{Failure, Heap};
+use row_ast::Statement;
 use std::alloc::AllocError;
 use std::io::Read;
 use std::marker::Model;
-use syntax::{ColumnDef, Statement};
-use tables::{Column, LoadError, Table};
+use tables::{LoadError, Table};
 use text::{Items, Text};
-use value::Refusal;
+use thiserror::Error;
+use value::{Column, Refusal};
 
-/// The contents of a table.
+/// A table's name and contents.
 #[derive(Drop)]
 pub(crate) struct Stored<A: Heap> {
     pub(crate) name: Text<A>,
-    pub(crate) table: Table<A>,
+    pub(crate) contents: Table<A>,
 }
 
 /// A catalogue with the contents of its tables.
@@ -34,89 +35,91 @@ pub(crate) struct Stored<A: Heap> {
 pub struct Store<A: Heap> {
     pub(crate) alloc: A,
     pub(crate) catalog: Catalog<A>,
-    pub(crate) contents: Vec<Stored<A>, A>,
+    pub(crate) tables: Vec<Stored<A>, A>,
 }
 
 impl<A: Heap> Model for Store<A> {
-    ghost use Rattle.engine.specs.Stored.{World};
+    ghost use Rattle.engine.specs.Database.{Database};
 
-    ghost Value = { World };
+    ghost Value = { Database };
 
-    ghost use Rattle.engine.specs.World.{world_of};
+    ghost use Rattle.engine.specs.View.{database_of};
 
-    ghost view = { world_of };
+    ghost view = { database_of };
 }
 
 /// The contents of the table of that name.
-pub(crate) fn contents_of<'a, A: Heap>(
-    contents: &'a [Stored<A>],
-    name: &str,
-) -> Option<&'a Table<A>>
-    ensures { option_map (λ t. t.now) result ≡ contents_named (map (λ e. stored_entry e) contents.now) name.now }
+pub(crate) fn contents_of<'a, A: Heap>(tables: &'a [Stored<A>], name: &str) -> Option<&'a Table<A>>
+    ensures { option_map (λ t. t.now) result ≡ contents_named (map (λ t. stored_of t) tables.now) name.now }
 {
-    for entry in contents {
-        if entry.name.as_str() == name {
-            return Some(&entry.table);
+    for table in tables {
+        if table.name.as_str() == name {
+            return Some(&table.contents);
         }
     }
     None
 }
 
-/// Why a text of rows is not added.
-#[derive(Clone, Copy, Debug, PartialEq, Eq)]
+/// Why rows are not added.
+#[derive(Clone, Copy, Debug, Error, PartialEq, Eq)]
 pub enum StoreError {
     /// There is no table of that name (42P01).
+    #[error("there is no table of that name")]
     UndefinedTable,
-    /// The first fault of the text.
+    /// The first fault of the rows.
+    #[error("{0}")]
     Data(LoadError),
 }
 
-fn table_columns<A: Heap>(
-    alloc: A,
-    columns: &[ColumnDef<A>],
-) -> Result<Items<Column<A>, A>, AllocError>
-    ensures { IfOk result (λ copy. map (λ c. col_of c) copy ≡ map column_of (map (λ c. column_entry c) columns.now)) }
+// The failure of a load into the store, of that of the load into its table.
+fn store_failure(failure: Failure<LoadError>) -> Failure<StoreError>
+    ensures { result ≡ store_failure failure }
+{
+    match failure {
+        Failure::Fault(error) => Failure::Fault(StoreError::Data(error)),
+        Failure::OutOfMemory => Failure::OutOfMemory,
+    }
+}
+
+fn copy_column<A: Heap>(alloc: A, column: &Column<A>) -> Result<Column<A>, AllocError>
+    ensures { IfOk result (λ copy. column_of copy ≡ column_of column.now) }
+{
+    Ok(Column {
+        name: Text::new(alloc, column.name.as_str())?,
+        data_type: column.data_type,
+        not_null: column.not_null,
+    })
+}
+
+fn copy_columns<A: Heap>(alloc: A, columns: &[Column<A>]) -> Result<Items<Column<A>, A>, AllocError>
+    ensures { IfOk result (λ copy. map (λ c. column_of c) copy ≡ map (λ c. column_of c) columns.now) }
 {
     let mut copy = Items::new(alloc);
     for column in columns {
-        copy.push(table_column(alloc, column)?)?;
+        copy.push(copy_column(alloc, column)?)?;
     }
     Ok(copy)
 }
 
-fn table_column<A: Heap>(alloc: A, column: &ColumnDef<A>) -> Result<Column<A>, AllocError>
-    ensures { IfOk result (λ copy. col_of copy ≡ column_of (column_entry column.now)) }
+// A new table, with no rows.
+fn new_table<A: Heap>(alloc: A, name: &str, columns: &[Column<A>]) -> Result<Stored<A>, AllocError>
+    ensures { IfOk result (λ t. stored_of t ≡ (name.now, empty_table (map (λ c. column_of c) columns.now))) }
 {
-    Ok(Column {
-        name: Text::new(alloc, column.name.as_str())?,
-        kind: column.kind,
-        required: column.required,
-    })
-}
-
-// The contents of a new table.
-fn new_stored<A: Heap>(
-    alloc: A,
-    name: &str,
-    columns: &[ColumnDef<A>],
-) -> Result<Stored<A>, AllocError>
-    ensures { IfOk result (λ s. stored_entry s ≡ (name.now, empty_table (map (λ c. column_entry c) columns.now))) }
-{
-    let columns = table_columns(alloc, columns)?;
+    let columns = copy_columns(alloc, columns)?;
     let name = Text::new(alloc, name)?;
     Ok(Stored {
         name,
-        table: Table::new(alloc, columns),
+        contents: Table::new(alloc, columns),
     })
 }
 
-// The place of the contents of that name.
-fn stored_place<A: Heap>(contents: &[Stored<A>], name: &str) -> Option<usize>
-    ensures place { result ≡ position_from (is_named name.now) 0 (map (λ e. stored_entry e) contents.now) }
-    ensures within { IfSome result (λ i. i < length contents.now) }
+// The place of the table of that name.
+fn table_place<A: Heap>(tables: &[Stored<A>], name: &str) -> Option<usize>
+    ensures place { result ≡ position_from (is_named name.now) 0 (map (λ t. stored_of t) tables.now) }
+    ensures within { IfSome result (λ i. i < length tables.now) }
 {
-    for (i, entry) in contents.iter().enumerate() {
-        if entry.name.as_str() == name {
+    for (i, table) in tables.iter().enumerate() {
+        if table.name.as_str() == name {
             return Some(i);
         }
     }
@@ -131,13 +134,13 @@ impl<A: Heap> Store<A> {
         Ok(Store {
             alloc,
             catalog: Catalog::new(alloc)?,
-            contents: Vec::new(alloc),
+            tables: Vec::new(alloc),
         })
     }
 
     /// The catalogue.
     pub fn catalog(&self) -> &Catalog<A>
-        ensures { result.now ≡ self.now.catalogue }
+        ensures { result.now ≡ self.now.catalog }
     {
         &self.catalog
     }
@@ -146,65 +149,47 @@ impl<A: Heap> Store<A> {
     fn add_table(
         &mut self,
         actor: &str,
-        statement: &PlainStatement<'_, A>,
+        statement: &Statement<A>,
         name: &str,
-        columns: &[ColumnDef<A>],
+        columns: &[Column<A>],
     ) -> Result<(), Refusal>
-        requires { plain_act_of statement.now ≡ create_table name.now (map (λ c. column_entry c) columns.now) }
-        ensures { IsChange self.old self.new (changed_world_plainly self.old actor.now (plain_act_of statement.now)) result }
+        requires { statement_of statement.now ≡ CreateTable name.now (map (λ c. column_of c) columns.now) }
+        ensures { IsChange self.old self.new (changed_database self.old actor.now (statement_of statement.now)) result }
     {
-        let Ok(entry) = new_stored(self.alloc, name, columns) else {
+        let Ok(table) = new_table(self.alloc, name, columns) else {
             return Err(Refusal::OutOfMemory);
         };
-        let before = self.contents.len();
-        if self.contents.push(entry).is_err() {
+        let before = self.tables.len();
+        if self.tables.push(table).is_err() {
             return Err(Refusal::OutOfMemory);
         }
-        match self.catalog.apply_plainly(actor, statement) {
+        match self.catalog.apply(actor, statement) {
             Ok(()) => Ok(()),
-            Err(why) => {
-                self.contents.truncate(before);
-                Err(why)
+            Err(code) => {
+                self.tables.truncate(before);
+                Err(code)
             }
         }
     }
 
     /// Applies a schema statement of an actor; a new table has no rows. A refused statement changes nothing. What is not
-    /// served yet is refused before all else (0A000).
+    /// supported yet is refused before all else (0A000).
     pub fn change(&mut self, actor: &str, statement: &Statement<A>) -> Result<(), Refusal>
-        ensures { IsChange self.old self.new (changed_world self.old actor.now (act_of statement.now)) result }
-    {
-        match plain_statement(statement) {
-            Some(plain) => self.change_plainly(actor, &plain),
-            None => Err(Refusal::FeatureNotSupported),
-        }
-    }
-
-    // The same of a statement that is served.
-    fn change_plainly(
-        &mut self,
-        actor: &str,
-        statement: &PlainStatement<'_, A>,
-    ) -> Result<(), Refusal>
-        ensures { IsChange self.old self.new (changed_world_plainly self.old actor.now (plain_act_of statement.now)) result }
+        ensures { IsChange self.old self.new (changed_database self.old actor.now (statement_of statement.now)) result }
     {
         match statement {
-            PlainStatement::CreateTable(name, columns) => {
+            Statement::CreateTable { name, columns } => {
                 self.add_table(actor, statement, name.as_str(), columns.as_slice())
             }
-            PlainStatement::CreateRole(_)
-            | PlainStatement::SetOwner(_, _)
-            | PlainStatement::EnableRowSecurity(_)
-            | PlainStatement::GrantSelect(_, _)
-            | PlainStatement::CreatePolicy(_) => self.catalog.apply_plainly(actor, statement),
+            _ => self.catalog.apply(actor, statement),
         }
     }
 
     /// The columns of the table of that name; none where it is not there.
     pub fn columns(&self, table: &str) -> &[Column<A>]
-        ensures { map (λ c. col_of c) result.now ≡ columns_in self.now.contents table.now }
+        ensures { map (λ c. column_of c) result.now ≡ columns_in self.now.tables table.now }
     {
-        match contents_of(&self.contents, table) {
+        match contents_of(&self.tables, table) {
             Some(contents) => contents.columns(),
             None => &[],
         }
@@ -212,35 +197,39 @@ impl<A: Heap> Store<A> {
 
     /// The name of the table at a place, in order of creation, from 0.
     pub fn table_name(&self, i: usize) -> Option<&str>
-        ensures { option_map (λ name. name.now) result ≡ option_map (λ e. e.0) (slice_get self.now.contents i) }
+        ensures { option_map (λ name. name.now) result ≡ option_map (λ t. t.0) (slice_get self.now.tables i) }
     {
-        match self.contents.get(i) {
-            Some(entry) => Some(entry.name.as_str()),
+        match self.tables.get(i) {
+            Some(table) => Some(table.name.as_str()),
             None => None,
         }
     }
 
     /// How many tables there are.
     pub fn table_count(&self) -> usize
-        ensures { result ≡ length self.now.contents }
+        ensures { result ≡ length self.now.tables }
     {
-        self.contents.len()
+        self.tables.len()
     }
 
     /// Adds the rows of the records that a reader gives, of which the first is the names of the columns, to the table of that
     /// name. A refusal changes nothing. A read may fail, which is reported at the row that was not read; another fault is the
     /// first one of the records.
-    pub fn load<R: Read + Drop>(&mut self, table: &str, reader: R) -> Result<(), StoreError>
-        ensures catalogue { self.new.catalogue ≡ self.old.catalogue }
+    pub fn load<R: Read + Drop>(
+        &mut self,
+        table: &str,
+        reader: R,
+    ) -> Result<(), Failure<StoreError>>
+        ensures catalog { self.new.catalog ≡ self.old.catalog }
         ensures unchanged { OnErr result (self.new ≡ self.old) }
-        ensures loaded { IsLoadFrom (R.remaining reader) self.old.contents self.new.contents table.now result }
+        ensures loaded { IsLoadFrom (R.remaining reader) self.old.tables self.new.tables table.now result }
     {
-        let Some(i) = stored_place(&self.contents, table) else {
-            return Err(StoreError::UndefinedTable);
+        let Some(i) = table_place(&self.tables, table) else {
+            return Err(Failure::Fault(StoreError::UndefinedTable));
         };
-        match self.contents[i].table.append(reader) {
+        match self.tables[i].contents.append(reader) {
             Ok(()) => Ok(()),
-            Err(error) => Err(StoreError::Data(error)),
+            Err(failure) => Err(store_failure(failure)),
         }
     }
 
@@ -251,24 +240,24 @@ impl<A: Heap> Store<A> {
         &mut self,
         table: &str,
         records: &mut Records<R>,
-    ) -> Result<(), StoreError>
+    ) -> Result<(), Failure<StoreError>>
         requires expected { records.old.expected ≡ None }
         requires given { records.old.given ≡ 0 }
         requires fresh { records.old.failure ≡ None }
-        ensures catalogue { self.new.catalogue ≡ self.old.catalogue }
+        ensures catalog { self.new.catalog ≡ self.old.catalog }
         ensures unchanged { OnErr result (self.new ≡ self.old) }
-        ensures exact { records.new.failure ≡ None → IfSome records.old.records (λ recs. IsLoad self.old.contents self.new.contents table.now recs result) }
+        ensures exact { records.new.failure ≡ None → IfSome records.old.records (λ recs. IsLoad self.old.tables self.new.tables table.now recs result) }
         // The same of records that are not known: what was read were some records, as many as were given.
-        ensures some_records { records.new.failure ≡ None → (recs : List Fields) × IsLoad self.old.contents self.new.contents table.now recs result × OnOk result (length recs ≡ records.new.given) }
-        ensures failed { IfSome records.new.failure (λ why. IsErrOf result (StoreError.Data (reported why records.new.given))) }
-        ensures stops { IfSome records.old.records (λ recs. LoadStops self.old.contents table.now recs result) }
+        ensures some_records { records.new.failure ≡ None → (recs : List Fields) × IsLoad self.old.tables self.new.tables table.now recs result × OnOk result (length recs ≡ records.new.given) }
+        ensures failed { IfSome records.new.failure (λ why. IsErrOf result (store_failure (reported why records.new.given))) }
+        ensures stops { IfSome records.old.records (λ recs. LoadStops self.old.tables table.now recs result) }
     {
-        let Some(i) = stored_place(&self.contents, table) else {
-            return Err(StoreError::UndefinedTable);
+        let Some(i) = table_place(&self.tables, table) else {
+            return Err(Failure::Fault(StoreError::UndefinedTable));
         };
-        match self.contents[i].table.append_records(records) {
+        match self.tables[i].contents.append_records(records) {
             Ok(()) => Ok(()),
-            Err(error) => Err(StoreError::Data(error)),
+            Err(failure) => Err(store_failure(failure)),
         }
     }
 }

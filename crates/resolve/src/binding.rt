@@ -1,6 +1,6 @@
 //! The names of a query as places in a table.
 
-ghost use Rattle.std.specs.Prelude.{◌≡◌, ◌++◌, IfOk, map};
+ghost use Rattle.std.specs.Prelude.{◌≡◌, IfOk, map};
 ghost use Rattle.memory.specs.Gives.{Gives};
 ghost use Rattle.row_ast.specs.View.{column_ref_of, query_of, select_item_of};
 ghost use Rattle.row_objects.specs.View.{table_of};
@@ -11,7 +11,7 @@ ghost use Rattle.resolve.specs.View.{bound_of};
 use crate::parts::{column_in, first_table, items_of};
 use catalog::{Catalog, is_qualified, place};
 use memory::{Failure, Heap};
-use row_ast::{ColumnRef, Query, SelectItem, TableRef};
+use row_ast::{ColumnRef, Query, SelectItem};
 use row_objects::Table;
 use std::alloc::AllocError;
 use text::{Items, Text};
@@ -31,7 +31,7 @@ pub struct NameFault {
 /// A query whose names are places in a table.
 #[derive(Drop)]
 pub struct Bound<'c, A: Heap> {
-    /// The table.
+    /// The table of FROM.
     pub table: Table<'c, A>,
     /// The place of each column, from 0.
     pub places: Items<usize, A>,

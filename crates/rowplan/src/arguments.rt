@@ -1,8 +1,9 @@
 //! The arguments of a command line.
 
-use crate::failure::Failure;
+use crate::failure::ProgramError;
 use clap::{Arg, ArgAction, Command};
-use setup::{Arguments, Fault};
+use memory::Failure;
+use setup::Arguments;
 use std::alloc::Global;
 
 /// The version of the program.
@@ -20,7 +21,7 @@ fn option<'a>(alloc: Global, name: &'a str, value: &'a str, help: &'a str) -> Ar
         .action(ArgAction::Set)
 }
 
-fn command<'a>(alloc: Global) -> Result<Command<'a>, Failure> {
+fn command<'a>(alloc: Global) -> Result<Command<'a>, ProgramError> {
     let text = Arg::new(alloc, "TEXT")
         .help("The query; after -- where it starts with a minus")
         .required(true)
@@ -47,17 +48,20 @@ fn command<'a>(alloc: Global) -> Result<Command<'a>, Failure> {
 }
 
 /// Reads the words of a command line, of which the first is the program's name.
-pub fn read_arguments<'a>(alloc: Global, words: &'a [&'a str]) -> Result<Arguments<'a>, Failure> {
+pub fn read_arguments<'a>(
+    alloc: Global,
+    words: &'a [&'a str],
+) -> Result<Arguments<'a>, ProgramError> {
     let matches = command(alloc)?.try_get_matches_from(words)?;
     // What is required is there, or memory ran out.
     let Some(found) = matches.subcommand_matches("query") else {
-        return Err(Failure::Setup(Fault::OutOfMemory));
+        return Err(ProgramError::Setup(Failure::OutOfMemory));
     };
     let (Some(schema), Some(dir)) = (found.get_str("schema"), found.get_str("dir")) else {
-        return Err(Failure::Setup(Fault::OutOfMemory));
+        return Err(ProgramError::Setup(Failure::OutOfMemory));
     };
     let (Some(role), Some(text)) = (found.get_str("role"), found.get_str("TEXT")) else {
-        return Err(Failure::Setup(Fault::OutOfMemory));
+        return Err(ProgramError::Setup(Failure::OutOfMemory));
     };
     Ok(Arguments {
         schema,

@@ -4,6 +4,7 @@ ghost use Rattle.std.specs.Prelude.{◌≡◌, IfOk, string_bytes};
 ghost use Rattle.rowplan.specs.Files.{csv_path};
 ghost use Rattle.setup.specs.Loads.{IsOfFile};
 
+use memory::Failure;
 use setup::{Fault, Folder};
 use std::alloc::{AllocError, Global};
 use std::fs::File;
@@ -12,15 +13,15 @@ use std::rt::Files;
 use std::{fs, io};
 use text::Text;
 
-// The fault of a file of that path that cannot be read.
-fn unreadable(alloc: Global, path: &str, error: &io::Error) -> Fault<Global>
+// The failure of a file of that path that cannot be read.
+fn unreadable(alloc: Global, path: &str, error: &io::Error) -> Failure<Fault<Global>>
     ensures { IsOfFile path.now result }
 {
     match error.kind() {
-        ErrorKind::OutOfMemory => Fault::OutOfMemory,
+        ErrorKind::OutOfMemory => Failure::OutOfMemory,
         _ => match Text::new(alloc, path) {
-            Ok(path) => Fault::Input(path),
-            Err(_) => Fault::OutOfMemory,
+            Ok(path) => Failure::Fault(Fault::Input { path }),
+            Err(_) => Failure::OutOfMemory,
         },
     }
 }
@@ -30,7 +31,7 @@ pub fn read_text<R: Files + AllocGlobal>(
     rt: &R,
     alloc: Global,
     path: &str,
-) -> Result<String, Fault<Global>> {
+) -> Result<String, Failure<Fault<Global>>> {
     match fs::read_to_string(rt, path) {
         Ok(text) => Ok(text),
         Err(error) => Err(unreadable(alloc, path, &error)),
@@ -62,7 +63,7 @@ impl<R: Files> Folder<Global> for Directory<'_, R> {
 
     ghost path = { λ folder table. csv_path folder.path.now table };
 
-    fn open(&self, alloc: Global, table: &str) -> Result<R::File, Fault<Global>> {
+    fn open(&self, alloc: Global, table: &str) -> Result<R::File, Failure<Fault<Global>>> {
         let path = path_of(alloc, self.path, table)?;
         match File::open(self.files, path.as_str()) {
             Ok(file) => Ok(file),

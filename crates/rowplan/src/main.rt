@@ -6,16 +6,17 @@ mod failure;
 mod files;
 
 use arguments::read_arguments;
-use failure::{Failure, print_failure};
+use failure::{ProgramError, print_error};
 use files::{Directory, read_text};
+use memory::Failure;
 use output::Output;
-use setup::{Arguments, Fault, open_store, reply};
+use setup::{Arguments, open_store, reply};
 use std::alloc::Global;
 use std::process::ExitCode;
 use std::{env, io};
 
 // Writes the reply to standard output, and returns its status.
-fn query(rt: &HostRuntime, alloc: Global, arguments: &Arguments<'_>) -> Result<u8, Failure> {
+fn query(rt: &HostRuntime, alloc: Global, arguments: &Arguments<'_>) -> Result<u8, ProgramError> {
     let schema = read_text(rt, alloc, arguments.schema)?;
     let folder = Directory {
         files: rt,
@@ -29,10 +30,10 @@ fn query(rt: &HostRuntime, alloc: Global, arguments: &Arguments<'_>) -> Result<u
     Ok(reply(alloc, &store, arguments, &mut out))
 }
 
-fn run(rt: &HostRuntime) -> Result<u8, Failure> {
+fn run(rt: &HostRuntime) -> Result<u8, ProgramError> {
     let alloc = rt.alloc();
     let Ok(args) = env::args(rt) else {
-        return Err(Failure::Setup(Fault::OutOfMemory));
+        return Err(ProgramError::Setup(Failure::OutOfMemory));
     };
     let mut owned = Vec::new(alloc);
     for word in args {
@@ -48,6 +49,6 @@ fn run(rt: &HostRuntime) -> Result<u8, Failure> {
 fn main(rt: HostRuntime) -> ExitCode {
     match run(&rt) {
         Ok(status) => ExitCode::from(status),
-        Err(failure) => ExitCode::from(print_failure(&rt, &failure)),
+        Err(error) => ExitCode::from(print_error(&rt, &error)),
     }
 }

@@ -10,10 +10,13 @@ use Rattle.std.specs.Str.{bytes_eq}
 use Rattle.csv_records.specs.Left.{records_of}
 use Rattle.value.specs.Datum.{Row}
 use Rattle.tables.specs.Loading.{Contents, Fields}
-use Rattle.syntax.specs.Tree.{Name}
+use Rattle.memory.specs.declared.failure.Failure as memory
+use Rattle.memory.specs.declared.failure.Failure.TheVariants as failure
+use Rattle.row_ast.specs.Ast.{Name}
 use Rattle.engine.specs.declared.store.StoreError.{StoreError}
-use Rattle.engine.specs.Changes.{first_changed}
-use Rattle.engine.specs.Stored.{IsLoad, IsLoadFrom, is_named, with_rows}
+use Rattle.catalog.specs.Checks.{first_changed}
+use Rattle.engine.specs.Database.{is_named}
+use Rattle.engine.specs.Loads.{IsLoad, IsLoadFrom, with_rows}
 use Rattle.setup.specs.Loads.{AreLoaded, IsFaultOf, IsRowFault, Knows, names_of}
 use Rattle.setup.specs.declared.fault.Fault.{Fault}
 use Rattle.setup.specs.declared.fault.Fault.TheVariants as fault
@@ -76,16 +79,16 @@ module _ (names : List Name) (i : ℕ) (name : Name) (at : slice_get names i ≡
 
 -- ---- what is known of a file
 
-pub load_known : (known left : Option (List ℕ)) (old new : List (Name × Contents)) (name : Name) (r : Result (Unit {0}) StoreError) → Knows known left → IsLoadFrom left old new name r → IsLoadFrom known old new name r
+pub load_known : (known left : Option (List ℕ)) (old new : List (Name × Contents)) (name : Name) (r : Result (Unit {0}) (memory.Failure StoreError)) → Knows known left → IsLoadFrom left old new name r → IsLoadFrom known old new name r
 load_known None None old new name r k h = h
 load_known None (Some bytes) old new name r k h = (records_of bytes, h.0)
 load_known (Some bytes) left old new name r k h = rw k at h
 
-pub fault_known : {A : Type 0} (path : List ℕ) (known left : Option (List ℕ)) (old : List (Name × Contents)) (name : Name) (f : Fault A) → Knows known left → IsRowFault left old name f → IsFaultOf path known old name f
-fault_known path known left old name (fault.Input p) k h = absurd h
-fault_known path known left old name (fault.Schema e) k h = absurd h
-fault_known path known left old name (fault.Data table column e) k h = inr (h.0, h.1, load_known known left old old name _ k h.2)
-fault_known path known left old name fault.OutOfMemory k h = inr tt
+pub fault_known : {A : Type 0} (path : List ℕ) (known left : Option (List ℕ)) (old : List (Name × Contents)) (name : Name) (f : memory.Failure (Fault A)) → Knows known left → IsRowFault left old name f → IsFaultOf path known old name f
+fault_known path known left old name (failure.Fault (fault.Input p)) k h = absurd h
+fault_known path known left old name (failure.Fault (fault.Schema e)) k h = absurd h
+fault_known path known left old name (failure.Fault (fault.Data table column e)) k h = inr (h.0, h.1, load_known known left old old name _ k h.2)
+fault_known path known left old name failure.OutOfMemory k h = inr tt
 
 -- ---- a fact of one outcome, from another fact
 

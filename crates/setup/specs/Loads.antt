@@ -1,11 +1,15 @@
 -- The tables of a store, loaded from the files of a folder.
 use Rattle.std.specs.Prelude.{◌≡◌, ◌⊎◌, ℕ, List, [], ◌∷◌, ◌++◌, map, Option, None, Some, Ok, Err, slice_get, ⊤}
-use Rattle.tables.specs.Loading.{Col, Contents}
+use Rattle.memory.specs.declared.failure.Failure as memory
+use Rattle.memory.specs.declared.failure.Failure.TheVariants as failure
+use Rattle.value.specs.Columns.{Column}
+use Rattle.tables.specs.Loading.{Contents}
 use Rattle.tables.specs.declared.LoadError.{LoadError}
 use Rattle.tables.specs.declared.LoadError.TheVariants as load
-use Rattle.syntax.specs.Tree.{Name}
+use Rattle.row_ast.specs.Ast.{Name}
 use Rattle.engine.specs.declared.store.StoreError.TheVariants.{Data}
-use Rattle.engine.specs.Stored.{IsLoadFrom, columns_in}
+use Rattle.engine.specs.Database.{columns_in}
+use Rattle.engine.specs.Loads.{IsLoadFrom}
 use Rattle.setup.specs.declared.fault.Fault.{Fault}
 use Rattle.setup.specs.declared.fault.Fault.TheVariants as fault
 
@@ -13,18 +17,17 @@ use Rattle.setup.specs.declared.fault.Fault.TheVariants as fault
 abbrev pub names_of : List (Name × Contents) → List Name
 names_of contents = map (λ entry. entry.0) contents
 
-abbrev pub name_at : Option Col → Name
+abbrev pub name_at : Option Column → Name
 name_at None = []
 name_at (Some column) = column.name
 
 -- the name of the column of an error; empty for an error of no column
-abbrev pub column_of : List Col → LoadError → Name
-column_of columns load.Header = []
-column_of columns (load.Reader row) = []
-column_of columns (load.Cell row place) = name_at (slice_get columns place)
-column_of columns (load.NotNull row place) = name_at (slice_get columns place)
-column_of columns load.TooMany = []
-column_of columns load.OutOfMemory = []
+abbrev pub column_name : List Column → LoadError → Name
+column_name columns load.Header = []
+column_name columns (load.Reader row) = []
+column_name columns (load.Cell row place) = name_at (slice_get columns place)
+column_name columns (load.NotNull row place) = name_at (slice_get columns place)
+column_name columns load.TooMany = []
 
 -- each table in turn has the rows of its file, whose bytes may be known
 abbrev pub AreLoaded : (Name → Option (List ℕ)) → List Name → List (Name × Contents) → List (Name × Contents) → Type 0
@@ -37,22 +40,22 @@ Knows None left = ⊤
 Knows (Some bytes) left = left ≡ Some bytes
 
 -- an error of opening the file of a path: it cannot be read, or memory ran out
-abbrev pub IsOfFile : {A : Type 0} → List ℕ → Fault A → Type 0
-IsOfFile path (fault.Input p) = p ≡ path
-IsOfFile path (fault.Schema e) = ⊥
-IsOfFile path (fault.Data table column e) = ⊥
-IsOfFile path fault.OutOfMemory = ⊤
+abbrev pub IsOfFile : {A : Type 0} → List ℕ → memory.Failure (Fault A) → Type 0
+IsOfFile path (failure.Fault (fault.Input p)) = p ≡ path
+IsOfFile path (failure.Fault (fault.Schema e)) = ⊥
+IsOfFile path (failure.Fault (fault.Data table column e)) = ⊥
+IsOfFile path failure.OutOfMemory = ⊤
 
 -- why rows that are read were not loaded: their first fault, or memory ran out
-abbrev pub IsRowFault : {A : Type 0} → Option (List ℕ) → List (Name × Contents) → Name → Fault A → Type 0
-IsRowFault bytes contents name (fault.Input path) = ⊥
-IsRowFault bytes contents name (fault.Schema e) = ⊥
-IsRowFault bytes contents name (fault.Data table column e) =
-    (table ≡ name) × (column ≡ column_of (columns_in contents name) e) × IsLoadFrom bytes contents contents name (Err (Data e))
-IsRowFault bytes contents name fault.OutOfMemory = ⊤
+abbrev pub IsRowFault : {A : Type 0} → Option (List ℕ) → List (Name × Contents) → Name → memory.Failure (Fault A) → Type 0
+IsRowFault bytes contents name (failure.Fault (fault.Input path)) = ⊥
+IsRowFault bytes contents name (failure.Fault (fault.Schema e)) = ⊥
+IsRowFault bytes contents name (failure.Fault (fault.Data table column e)) =
+    (table ≡ name) × (column ≡ column_name (columns_in contents name) e) × IsLoadFrom bytes contents contents name (Err (failure.Fault (Data e)))
+IsRowFault bytes contents name failure.OutOfMemory = ⊤
 
 -- why the rows of a table were not loaded: its file cannot be read, or a fault of its rows
-abbrev pub IsFaultOf : {A : Type 0} → List ℕ → Option (List ℕ) → List (Name × Contents) → Name → Fault A → Type 0
+abbrev pub IsFaultOf : {A : Type 0} → List ℕ → Option (List ℕ) → List (Name × Contents) → Name → memory.Failure (Fault A) → Type 0
 IsFaultOf path bytes contents name f = IsOfFile path f ⊎ IsRowFault bytes contents name f
 
 -- the table at a place, in order of creation, has the rows of its file
@@ -60,10 +63,10 @@ abbrev pub IsLoadedAt : (Name → Option (List ℕ)) → List (Name × Contents)
 IsLoadedAt bytes old new place = (name : Name) × (slice_get (names_of old) place ≡ Some name) × IsLoadFrom (bytes name) old new name (Ok tt)
 
 -- the fault is that of the table at a place
-abbrev pub IsFaultAt : {A : Type 0} → (Name → List ℕ) → (Name → Option (List ℕ)) → List (Name × Contents) → ℕ → Fault A → Type 0
+abbrev pub IsFaultAt : {A : Type 0} → (Name → List ℕ) → (Name → Option (List ℕ)) → List (Name × Contents) → ℕ → memory.Failure (Fault A) → Type 0
 IsFaultAt paths bytes old place f = (name : Name) × (slice_get (names_of old) place ≡ Some name) × IsFaultOf (paths name) (bytes name) old name f
 
 -- the tables before one were loaded, and this is the fault of that one
-abbrev pub StopsAtTable : {A : Type 0} → (Name → List ℕ) → (Name → Option (List ℕ)) → List (Name × Contents) → List (Name × Contents) → Fault A → Type 0
+abbrev pub StopsAtTable : {A : Type 0} → (Name → List ℕ) → (Name → Option (List ℕ)) → List (Name × Contents) → List (Name × Contents) → memory.Failure (Fault A) → Type 0
 StopsAtTable paths bytes old new f =
     (front : List Name) × (name : Name) × (rest : List Name) × (names_of old ≡ front ++ name ∷ rest) × AreLoaded bytes front old new × IsFaultOf (paths name) (bytes name) new name f

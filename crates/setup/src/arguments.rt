@@ -3,9 +3,11 @@
 ghost use Rattle.std.specs.Prelude.{◌≡◌, ◌≢◌, ◌⊎◌};
 ghost use Rattle.std.specs.Io.KnownBytes.{Appends};
 ghost use Rattle.output.specs.Taken.{one_more};
-ghost use Rattle.engine.specs.Reply.{no_memory, reply_text, reply_to};
-ghost use Rattle.engine.specs.Replying.{Begins, IsWhole};
-ghost use Rattle.engine.specs.Stored.{content_of};
+ghost use Rattle.report.specs.Reply.{no_memory};
+ghost use Rattle.report.specs.ReplyText.{reply_text};
+ghost use Rattle.engine.specs.Answer.{reply_to};
+ghost use Rattle.engine.specs.Database.{rows_of};
+ghost use Rattle.engine.specs.Serving.{Begins, IsWhole};
 
 use engine::{Store, serve};
 use memory::Heap;
@@ -32,14 +34,14 @@ pub fn reply<A: Heap, W: Out>(
     out: &mut W,
 ) -> u8
     // The whole reply, and its status.
-    ensures answered { result ≢ 7 → result ≢ 8 → IsWhole (W.taken out.old) (W.taken out.new) result (reply_to store.now.catalogue (content_of store.now) arguments.now.role.now arguments.now.text.now) }
+    ensures answered { result ≢ 7 → result ≢ 8 → IsWhole (W.taken out.old) (W.taken out.new) result (reply_to store.now.catalog (rows_of store.now) arguments.now.role.now arguments.now.text.now) }
     // Memory ran out: one line, and nothing of the reply.
     ensures memory { result ≡ 7 → Appends (W.taken out.old) (W.taken out.new) (reply_text no_memory) }
     // The writer failed in this call, and a front of either went out.
     ensures failed { result ≡ 8 → W.failures out.new ≡ one_more (W.failures out.old) }
     ensures fine { result ≢ 8 → W.failures out.new ≡ W.failures out.old }
     ensures beginning { result ≡ 8 →
-        Begins (W.taken out.old) (W.taken out.new) (reply_text (reply_to store.now.catalogue (content_of store.now) arguments.now.role.now arguments.now.text.now))
+        Begins (W.taken out.old) (W.taken out.new) (reply_text (reply_to store.now.catalog (rows_of store.now) arguments.now.role.now arguments.now.text.now))
         ⊎ Begins (W.taken out.old) (W.taken out.new) (reply_text no_memory) }
 {
     serve(alloc, store, arguments.role, arguments.text, out)

@@ -2,11 +2,11 @@
 
 ghost use Rattle.std.specs.Prelude.{◌≡◌, ◌++◌, ◌∷◌, ◌⊎◌, [], IfOk, OnOk};
 ghost use Rattle.std.specs.Fmt.{decimal};
-ghost use Rattle.setup.specs.Lines.{IsReported, data_line, data_status, fault_line, fault_status, in_column, in_row, memory_line, schema_line, schema_status, syntax_line};
+ghost use Rattle.setup.specs.Lines.{IsReported, data_line, failure_line, failure_status, fault_line, fault_status, in_column, in_row, memory_line, schema_line, syntax_line};
 
 use crate::fault::{Fault, SchemaError};
 use itoa::Buffer;
-use memory::Heap;
+use memory::{Failure, Heap};
 use output::{Out, write_whole};
 use std::alloc::AllocError;
 use tables::LoadError;
@@ -24,26 +24,25 @@ fn push_number<A: Heap>(line: &mut Vec<u8, A>, n: u64) -> Result<(), AllocError>
     push_str(line, buffer.format(n))
 }
 
-fn push_syntax_error<A: Heap>(line: &mut Vec<u8, A>, at: u64) -> Result<(), AllocError>
-    ensures { OnOk result (line.new.items ≡ line.old.items ++ syntax_line at) }
+fn push_syntax_error<A: Heap>(line: &mut Vec<u8, A>, offset: u64) -> Result<(), AllocError>
+    ensures { OnOk result (line.new.items ≡ line.old.items ++ syntax_line offset) }
 {
     push_str(line, "schema refused 42601 at ")?;
-    push_number(line, at)
+    push_number(line, offset)
 }
 
 fn push_schema_error<A: Heap>(line: &mut Vec<u8, A>, error: SchemaError) -> Result<(), AllocError>
     ensures { OnOk result (line.new.items ≡ line.old.items ++ schema_line error) }
 {
     match error {
-        SchemaError::Syntax(at) => push_syntax_error(line, at as u64),
+        SchemaError::Syntax { offset } => push_syntax_error(line, offset as u64),
         SchemaError::Limit => push_str(line, "schema refused 54000"),
-        SchemaError::Statement(number, code) => {
+        SchemaError::Statement { number, code } => {
             push_str(line, "schema statement ")?;
             push_number(line, number as u64)?;
             push_str(line, " refused ")?;
             push_str(line, code.code())
         }
-        SchemaError::OutOfMemory => push_str(line, "memory"),
     }
 }
 
@@ -69,9 +68,6 @@ fn push_data_error<A: Heap>(
 ) -> Result<(), AllocError>
     ensures { OnOk result (line.new.items ≡ line.old.items ++ data_line table.now column.now error) }
 {
-    if let LoadError::OutOfMemory = error {
-        return push_str(line, "memory");
-    }
     push_str(line, "data ")?;
     push_str(line, table)?;
     match error {
@@ -87,7 +83,6 @@ fn push_data_error<A: Heap>(
             push_str(line, " null")
         }
         LoadError::TooMany => push_str(line, " limit"),
-        LoadError::OutOfMemory => unreachable!(),
     }
 }
 
@@ -95,7 +90,7 @@ fn push_fault<A: Heap>(line: &mut Vec<u8, A>, fault: &Fault<A>) -> Result<(), Al
     ensures { OnOk result (line.new.items ≡ line.old.items ++ fault_line fault.now) }
 {
     match fault {
-        Fault::Input(path) => {
+        Fault::Input { path } => {
             push_str(line, "input ")?;
             push_str(line, path.as_str())
         }
@@ -105,64 +100,60 @@ fn push_fault<A: Heap>(line: &mut Vec<u8, A>, fault: &Fault<A>) -> Result<(), Al
             column,
             error,
         } => push_data_error(line, table.as_str(), column.as_str(), *error),
-        Fault::OutOfMemory => push_str(line, "memory"),
     }
 }
 
-/// The line of a fault, with LF.
-pub fn line_of<A: Heap>(alloc: A, fault: &Fault<A>) -> Result<Vec<u8, A>, AllocError>
-    ensures { IfOk result (λ line. line.items ≡ fault_line fault.now ++ 10 ∷ []) }
+fn push_failure<A: Heap>(
+    line: &mut Vec<u8, A>,
+    failure: &Failure<Fault<A>>,
+) -> Result<(), AllocError>
+    ensures { OnOk result (line.new.items ≡ line.old.items ++ failure_line failure.now) }
+{
+    match failure {
+        Failure::Fault(fault) => push_fault(line, fault),
+        Failure::OutOfMemory => push_str(line, "memory"),
+    }
+}
+
+/// The line of a failure, with LF.
+pub fn line_of<A: Heap>(alloc: A, failure: &Failure<Fault<A>>) -> Result<Vec<u8, A>, AllocError>
+    ensures { IfOk result (λ line. line.items ≡ failure_line failure.now ++ 10 ∷ []) }
 {
     let mut line = Vec::new(alloc);
-    push_fault(&mut line, fault)?;
+    push_failure(&mut line, failure)?;
     line.push(b'\n')?;
     Ok(line)
 }
 
-fn schema_status(error: SchemaError) -> u8
-    ensures { result ≡ schema_status error }
-{
-    match error {
-        SchemaError::Syntax(_) | SchemaError::Limit | SchemaError::Statement(_, _) => 6,
-        SchemaError::OutOfMemory => 7,
-    }
-}
-
-fn data_status(error: LoadError) -> u8
-    ensures { result ≡ data_status error }
-{
-    match error {
-        LoadError::Header
-        | LoadError::Reader { .. }
-        | LoadError::Cell { .. }
-        | LoadError::NotNull { .. }
-        | LoadError::TooMany => 6,
-        LoadError::OutOfMemory => 7,
-    }
-}
-
-/// The exit status of a fault: 6 a refused schema or refused rows, 7 out of memory, 8 a file that cannot be read.
-pub fn status_of<A: Heap>(fault: &Fault<A>) -> u8
+fn fault_status<A: Heap>(fault: &Fault<A>) -> u8
     ensures { result ≡ fault_status fault.now }
 {
     match fault {
-        Fault::Input(_) => 8,
-        Fault::Schema(error) => schema_status(*error),
-        Fault::Data { error, .. } => data_status(*error),
-        Fault::OutOfMemory => 7,
+        Fault::Input { .. } => 8,
+        Fault::Schema(_) | Fault::Data { .. } => 6,
     }
 }
 
-/// Writes the line of a fault, and returns its exit status; where memory runs out, the line and status of that. A writer
-/// that fails is not reported.
-pub fn report<A: Heap, W: Out>(alloc: A, fault: &Fault<A>, out: &mut W) -> u8
-    ensures status { (result ≡ fault_status fault.now) ⊎ (result ≡ 7) }
-    ensures reported { W.failures out.new ≡ W.failures out.old → IsReported (W.taken out.old) (W.taken out.new) fault.now result }
+/// The exit status of a failure: 6 a refused schema or refused rows, 7 out of memory, 8 a file that cannot be read.
+pub fn status_of<A: Heap>(failure: &Failure<Fault<A>>) -> u8
+    ensures { result ≡ failure_status failure.now }
 {
-    match line_of(alloc, fault) {
+    match failure {
+        Failure::Fault(fault) => fault_status(fault),
+        Failure::OutOfMemory => 7,
+    }
+}
+
+/// Writes the line of a failure, and returns its exit status; where memory runs out, the line and status of that. A writer
+/// that fails is not reported.
+pub fn report<A: Heap, W: Out>(alloc: A, failure: &Failure<Fault<A>>, out: &mut W) -> u8
+    ensures status { (result ≡ failure_status failure.now) ⊎ (result ≡ 7) }
+    ensures reported { W.failures out.new ≡ W.failures out.old → IsReported (W.taken out.old) (W.taken out.new) failure.now result }
+{
+    match line_of(alloc, failure) {
         Ok(line) => {
             let _ = write_whole(out, &line);
-            status_of(fault)
+            status_of(failure)
         }
         Err(_) => {
             let _ = write_whole(out, b"memory\n".as_slice());

@@ -2,17 +2,19 @@
 
 ghost use Rattle.std.specs.Prelude.{◌≡◌, ◌<◌, ℕ, List, length, map, None, Option, Ok, IfErr, IfOk, IsSome, OnErr, OnOk, slice_get};
 ghost use Rattle.std.specs.List.{find};
-ghost use Rattle.tables.specs.Loading.{col_of};
-ghost use Rattle.engine.specs.Stored.{IsLoadFrom, is_named, columns_in};
-ghost use Rattle.setup.specs.Loads.{AreLoaded, IsFaultAt, IsFaultOf, IsLoadedAt, IsOfFile, IsRowFault, Knows, StopsAtTable, column_of, name_at, names_of};
+ghost use Rattle.value.specs.Columns.{column_of};
+ghost use Rattle.engine.specs.Database.{is_named, columns_in};
+ghost use Rattle.engine.specs.Loads.{IsLoadFrom};
+ghost use Rattle.setup.specs.Loads.{AreLoaded, IsFaultAt, IsFaultOf, IsLoadedAt, IsOfFile, IsRowFault, Knows, StopsAtTable, column_name, name_at, names_of};
 
 use crate::fault::Fault;
 use engine::{Store, StoreError};
-use memory::Heap;
+use memory::{Failure, Heap};
 use std::alloc::AllocError;
 use std::io::Read;
-use tables::{Column, LoadError};
+use tables::LoadError;
 use text::Text;
+use value::Column;
 
 /// The files of tables.
 pub trait Folder<A: Heap> {
@@ -25,14 +27,14 @@ pub trait Folder<A: Heap> {
     // The bytes of a table's file, where they are known.
     ghost bytes: { Self → List ℕ → Option (List ℕ) } = { λ _ _. None };
 
-    /// Opens the file of a table. The error is `Input`, with its path, or `OutOfMemory`.
-    fn open(&self, alloc: A, table: &str) -> Result<Self::File, Fault<A>>
+    /// Opens the file of a table. The fault is `Input`, with its path.
+    fn open(&self, alloc: A, table: &str) -> Result<Self::File, Failure<Fault<A>>>
         ensures bytes { IfOk result (λ file. Knows (bytes self.now table.now) (Self.File.remaining file)) }
         ensures fault { IfErr result (λ f. IsOfFile (path self.now table.now) f) };
 }
 
 fn name_at<A: Heap>(columns: &[Column<A>], place: u64) -> &str
-    ensures { result.now ≡ name_at (slice_get (map (λ c. col_of c) columns.now) place) }
+    ensures { result.now ≡ name_at (slice_get (map (λ c. column_of c) columns.now) place) }
 {
     match columns.get(place as usize) {
         Some(column) => column.name.as_str(),
@@ -41,17 +43,14 @@ fn name_at<A: Heap>(columns: &[Column<A>], place: u64) -> &str
 }
 
 // The name of the column of an error.
-fn column_of<A: Heap>(columns: &[Column<A>], error: LoadError) -> &str
-    ensures { result.now ≡ column_of (map (λ c. col_of c) columns.now) error }
+fn column_name<A: Heap>(columns: &[Column<A>], error: LoadError) -> &str
+    ensures { result.now ≡ column_name (map (λ c. column_of c) columns.now) error }
 {
     match error {
         LoadError::Cell { row: _, column } | LoadError::NotNull { row: _, column } => {
             name_at(columns, column)
         }
-        LoadError::Header
-        | LoadError::Reader { .. }
-        | LoadError::TooMany
-        | LoadError::OutOfMemory => "",
+        LoadError::Header | LoadError::Reader { .. } | LoadError::TooMany => "",
     }
 }
 
@@ -61,9 +60,9 @@ fn data_fault<A: Heap>(
     table: &str,
     error: LoadError,
 ) -> Result<Fault<A>, AllocError>
-    ensures { IfOk result (λ f. f ≡ Fault.Data table.now (column_of (columns_in store.now.contents table.now) error) error) }
+    ensures { IfOk result (λ f. f ≡ Fault.Data table.now (column_name (columns_in store.now.tables table.now) error) error) }
 {
-    let column = column_of(store.columns(table), error);
+    let column = column_name(store.columns(table), error);
     Ok(Fault::Data {
         table: Text::new(alloc, table)?,
         column: Text::new(alloc, column)?,
@@ -71,24 +70,27 @@ fn data_fault<A: Heap>(
     })
 }
 
-/// Adds the rows of a file to a table that is there. The error is `Data`, with the first fault of the rows, or
-/// `OutOfMemory`; it changes nothing.
+/// Adds the rows of a file to a table that is there. The fault is `Data`, with the first fault of the rows; it
+/// changes nothing.
 pub fn load_table<A: Heap, R: Read + Drop>(
     alloc: A,
     store: &mut Store<A>,
     table: &str,
     file: R,
-) -> Result<(), Fault<A>>
-    requires { IsSome (find (is_named table.now) store.old.contents) }
-    ensures catalogue { store.new.catalogue ≡ store.old.catalogue }
-    ensures loaded { OnOk result (IsLoadFrom (R.remaining file) store.old.contents store.new.contents table.now (Ok tt)) }
+) -> Result<(), Failure<Fault<A>>>
+    requires { IsSome (find (is_named table.now) store.old.tables) }
+    ensures catalog { store.new.catalog ≡ store.old.catalog }
+    ensures loaded { OnOk result (IsLoadFrom (R.remaining file) store.old.tables store.new.tables table.now (Ok tt)) }
     ensures unchanged { OnErr result (store.new ≡ store.old) }
-    ensures fault { IfErr result (λ f. IsRowFault (R.remaining file) store.old.contents table.now f) }
+    ensures fault { IfErr result (λ f. IsRowFault (R.remaining file) store.old.tables table.now f) }
 {
     match store.load(table, file) {
         Ok(()) => Ok(()),
-        Err(StoreError::Data(error)) => Err(data_fault(alloc, store, table, error)?),
-        Err(StoreError::UndefinedTable) => unreachable!(),
+        Err(Failure::Fault(StoreError::Data(error))) => {
+            Err(Failure::Fault(data_fault(alloc, store, table, error)?))
+        }
+        Err(Failure::Fault(StoreError::UndefinedTable)) => unreachable!(),
+        Err(Failure::OutOfMemory) => Err(Failure::OutOfMemory),
     }
 }
 
@@ -98,12 +100,12 @@ fn load_named<A: Heap, F: Folder<A>>(
     store: &mut Store<A>,
     folder: &F,
     table: &str,
-) -> Result<(), Fault<A>>
-    requires { IsSome (find (is_named table.now) store.old.contents) }
-    ensures catalogue { store.new.catalogue ≡ store.old.catalogue }
-    ensures loaded { OnOk result (IsLoadFrom (F.bytes folder.now table.now) store.old.contents store.new.contents table.now (Ok tt)) }
+) -> Result<(), Failure<Fault<A>>>
+    requires { IsSome (find (is_named table.now) store.old.tables) }
+    ensures catalog { store.new.catalog ≡ store.old.catalog }
+    ensures loaded { OnOk result (IsLoadFrom (F.bytes folder.now table.now) store.old.tables store.new.tables table.now (Ok tt)) }
     ensures unchanged { OnErr result (store.new ≡ store.old) }
-    ensures fault { IfErr result (λ f. IsFaultOf (F.path folder.now table.now) (F.bytes folder.now table.now) store.old.contents table.now f) }
+    ensures fault { IfErr result (λ f. IsFaultOf (F.path folder.now table.now) (F.bytes folder.now table.now) store.old.tables table.now f) }
 {
     match folder.open(alloc, table) {
         Ok(file) => load_table(alloc, store, table, file),
@@ -117,18 +119,18 @@ fn load_at<A: Heap, F: Folder<A>>(
     store: &mut Store<A>,
     folder: &F,
     place: usize,
-) -> Result<(), Fault<A>>
-    requires { place < length store.old.contents }
-    ensures catalogue { store.new.catalogue ≡ store.old.catalogue }
-    ensures loaded { OnOk result (IsLoadedAt (F.bytes folder.now) store.old.contents store.new.contents place) }
+) -> Result<(), Failure<Fault<A>>>
+    requires { place < length store.old.tables }
+    ensures catalog { store.new.catalog ≡ store.old.catalog }
+    ensures loaded { OnOk result (IsLoadedAt (F.bytes folder.now) store.old.tables store.new.tables place) }
     ensures unchanged { OnErr result (store.new ≡ store.old) }
-    ensures fault { IfErr result (λ f. IsFaultAt (F.path folder.now) (F.bytes folder.now) store.old.contents place f) }
+    ensures fault { IfErr result (λ f. IsFaultAt (F.path folder.now) (F.bytes folder.now) store.old.tables place f) }
 {
     let Some(name) = store.table_name(place) else {
         unreachable!();
     };
     let Ok(name) = Text::new(alloc, name) else {
-        return Err(Fault::OutOfMemory);
+        return Err(Failure::OutOfMemory);
     };
     let loaded = load_named(alloc, store, folder, name.as_str());
     drop(name);
@@ -141,10 +143,10 @@ pub fn load_tables<A: Heap, F: Folder<A>>(
     alloc: A,
     store: &mut Store<A>,
     folder: &F,
-) -> Result<(), Fault<A>>
-    ensures catalogue { store.new.catalogue ≡ store.old.catalogue }
-    ensures loaded { OnOk result (AreLoaded (F.bytes folder.now) (names_of store.old.contents) store.old.contents store.new.contents) }
-    ensures stops { IfErr result (λ f. StopsAtTable (F.path folder.now) (F.bytes folder.now) store.old.contents store.new.contents f) }
+) -> Result<(), Failure<Fault<A>>>
+    ensures catalog { store.new.catalog ≡ store.old.catalog }
+    ensures loaded { OnOk result (AreLoaded (F.bytes folder.now) (names_of store.old.tables) store.old.tables store.new.tables) }
+    ensures stops { IfErr result (λ f. StopsAtTable (F.path folder.now) (F.bytes folder.now) store.old.tables store.new.tables f) }
 {
     for i in 0..store.table_count() {
         match load_at(alloc, store, folder, i) {

@@ -7,15 +7,15 @@ use crate::fault::{Fault, SchemaError};
 use crate::load::{Folder, load_tables};
 use crate::schema::apply_schema;
 use engine::Store;
-use memory::Heap;
+use memory::{Failure, Heap};
 
-// The fault of a schema text that is not applied.
-fn schema_fault<A: Heap>(error: SchemaError) -> Fault<A>
-    ensures { result ≡ schema_fault error }
+// The failure of a schema text that is not applied.
+fn schema_fault<A: Heap>(failure: Failure<SchemaError>) -> Failure<Fault<A>>
+    ensures { result ≡ schema_fault failure }
 {
-    match error {
-        SchemaError::OutOfMemory => Fault::OutOfMemory,
-        _ => Fault::Schema(error),
+    match failure {
+        Failure::Fault(error) => Failure::Fault(Fault::Schema(error)),
+        Failure::OutOfMemory => Failure::OutOfMemory,
     }
 }
 
@@ -25,7 +25,7 @@ pub fn open_store<A: Heap, F: Folder<A>>(
     alloc: A,
     schema: &str,
     folder: &F,
-) -> Result<Store<A>, Fault<A>>
+) -> Result<Store<A>, Failure<Fault<A>>>
     ensures opened { IfOk result (λ store. IsOpened schema.now (F.bytes folder.now) store) }
     ensures fault { IfErr result (λ f. IsNotOpened schema.now (F.path folder.now) (F.bytes folder.now) f) }
 {

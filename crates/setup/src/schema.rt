@@ -1,23 +1,25 @@
 //! Schema texts.
 
 ghost use Rattle.std.specs.Prelude.{◌≡◌, ◌+◌, IfErr, map};
+ghost use Rattle.memory.specs.Gives.{Gives};
+ghost use Rattle.row_ast.specs.View.{statement_of};
 ghost use Rattle.syntax.specs.Parsing.{parsed_schema};
-ghost use Rattle.syntax.specs.View.{act_of};
-ghost use Rattle.setup.specs.Schema.{Applies, IsStep, StopsAfter, StopsAfterFront, applied, refused_by, schema_applied};
+ghost use Rattle.setup.specs.Schema.{IsStep, StopsAfter, StopsAfterFront, applied, refused_by, schema_applied};
 
 use crate::fault::SchemaError;
 use engine::Store;
-use memory::Heap;
-use syntax::{ParseError, Statement, parse_schema};
+use memory::{Failure, Heap};
+use row_ast::Statement;
+use syntax::{ParseError, parse_schema};
 use value::Refusal;
 
 // The error of a statement that is refused by a code.
-fn refused_by(number: usize, code: Refusal) -> SchemaError
+fn refused_by(number: usize, code: Refusal) -> Failure<SchemaError>
     ensures { result ≡ refused_by number code }
 {
     match code {
-        Refusal::OutOfMemory => SchemaError::OutOfMemory,
-        _ => SchemaError::Statement(number, code),
+        Refusal::OutOfMemory => Failure::OutOfMemory,
+        _ => Failure::Fault(SchemaError::Statement { number, code }),
     }
 }
 
@@ -26,8 +28,8 @@ fn apply_statement<A: Heap>(
     store: &mut Store<A>,
     number: usize,
     statement: &Statement<A>,
-) -> Result<(), SchemaError>
-    ensures { IsStep number store.old store.new (act_of statement.now) result }
+) -> Result<(), Failure<SchemaError>>
+    ensures { IsStep number store.old store.new (statement_of statement.now) result }
 {
     match store.change("root", statement) {
         Ok(()) => Ok(()),
@@ -39,9 +41,9 @@ fn apply_statement<A: Heap>(
 fn apply_statements<A: Heap>(
     store: &mut Store<A>,
     statements: &[Statement<A>],
-) -> Result<(), SchemaError>
-    ensures applied { Applies store.new (applied store.old (map (λ s. act_of s) statements.now)) result }
-    ensures stops { IfErr result (λ e. StopsAfter store.old store.new (map (λ s. act_of s) statements.now) e) }
+) -> Result<(), Failure<SchemaError>>
+    ensures applied { Gives (λ _. store.new) result (applied store.old (map (λ s. statement_of s) statements.now)) }
+    ensures stops { IfErr result (λ e. StopsAfter store.old store.new (map (λ s. statement_of s) statements.now) e) }
 {
     for (i, statement) in statements.iter().enumerate() {
         match apply_statement(store, i + 1, statement) {
@@ -54,14 +56,20 @@ fn apply_statements<A: Heap>(
 
 /// Applies the statements of a schema text in turn, by the superuser `root`. The first refusal ends it and is reported with
 /// the number of its statement, from 1; the statements before it stay applied. A text that is no schema changes nothing.
-pub fn apply_schema<A: Heap>(alloc: A, store: &mut Store<A>, text: &str) -> Result<(), SchemaError>
-    ensures applied { Applies store.new (schema_applied store.old text.now) result }
+pub fn apply_schema<A: Heap>(
+    alloc: A,
+    store: &mut Store<A>,
+    text: &str,
+) -> Result<(), Failure<SchemaError>>
+    ensures applied { Gives (λ _. store.new) result (schema_applied store.old text.now) }
     ensures stops { IfErr result (λ e. StopsAfterFront store.old store.new (parsed_schema text.now) e) }
 {
     match parse_schema(alloc, text) {
         Ok(statements) => apply_statements(store, statements.as_slice()),
-        Err(ParseError::Syntax(at)) => Err(SchemaError::Syntax(at)),
-        Err(ParseError::Limit) => Err(SchemaError::Limit),
-        Err(ParseError::Memory) => Err(SchemaError::OutOfMemory),
+        Err(Failure::Fault(ParseError::Syntax { offset })) => {
+            Err(Failure::Fault(SchemaError::Syntax { offset }))
+        }
+        Err(Failure::Fault(ParseError::Limit)) => Err(Failure::Fault(SchemaError::Limit)),
+        Err(Failure::OutOfMemory) => Err(Failure::OutOfMemory),
     }
 }

@@ -1,11 +1,11 @@
 use Rattle.std.proofs.Common.{subst}
-use Rattle.engine.specs.Stored.{content_of}
-use Rattle.engine.specs.Replying.{IsWhole}
+use Rattle.engine.specs.Database.{rows_of}
+use Rattle.engine.specs.Serving.{IsWhole}
 use Rattle.engine.proofs.HiddenRows.{same_reply}
 use Rattle.engine.proofs.serving.serve.Goals as goal
 
 pub returns-clause-hidden : goal.returns-clause-hidden
 returns-clause-hidden g c = λ other same no_memory no_failure.
     subst (IsWhole (g.W.Out.taken c.args.out.now) (g.W.Out.taken c.write_reply.new.out) c.write_reply.result)
-    (same_reply c.args.store.now.catalogue c.args.role.now c.args.text.now (content_of c.args.store.now) other same)
+    (same_reply c.args.store.now.catalog c.args.role.now c.args.text.now (rows_of c.args.store.now) other same)
     (c.write_reply.ensures.answered no_memory no_failure)

@@ -1,16 +1,16 @@
 use Rattle.std.proofs.Common.{◌≡◌, ◌⊎◌, ◌∙◌, Err, ap, subst, map}
 use Rattle.value.specs.declared.refusal.Refusal.TheVariants.{OutOfMemory}
-use Rattle.engine.specs.PlainView.{plain_act_of}
-use Rattle.engine.specs.Changes.{changed_plainly}
-use Rattle.engine.specs.World.{stored_entry}
-use Rattle.engine.proofs.Loads.{same_world, still_refused, taken_back}
+use Rattle.row_ast.specs.View.{statement_of}
+use Rattle.catalog.specs.Changes.{changed}
+use Rattle.engine.specs.View.{stored_of}
+use Rattle.engine.proofs.Loads.{same_database, still_refused, taken_back}
 use Rattle.engine.proofs.store.Store.add_table.Goals as goal
 
 pub returns-in-Err : goal.returns-in-Err
 returns-in-Err g c =
-    let kept = c.truncate.ensures.items ∙ (rw c.push.ensures.items (taken_back _ _ _ _ (c.len-before.ensures ∙ c.self.inside.contents.ok.0))) in
-    let cat = ap (λ w. w.catalogue) c.self.view_is in
-    let refused = subst (λ cat. (c.in-Err.why ≡ OutOfMemory) ⊎ (changed_plainly cat c.args.actor.now (plain_act_of c.args.statement.now) ≡ Err c.in-Err.why)) cat c.in-Err.ensures.1 in (
-      rw (← c.self.view_is) (same_world _ _ _ _ c.in-Err.ensures.0 (ap (λ es. map (λ e. stored_entry e) es) kept)),
-      still_refused c.args.self.now (plain_act_of c.args.statement.now) _ _ refused,
+    let kept = c.truncate.ensures.items ∙ (rw c.push.ensures.items (taken_back _ _ _ _ (c.len-before.ensures ∙ c.self.inside.tables.ok.0))) in
+    let cat = ap (λ d. d.catalog) c.self.view_is in
+    let refused = subst (λ cat. (c.in-Err.code ≡ OutOfMemory) ⊎ (changed cat c.args.actor.now (statement_of c.args.statement.now) ≡ Err c.in-Err.code)) cat c.in-Err.ensures.1 in (
+      rw (← c.self.view_is) (same_database _ _ _ _ c.in-Err.ensures.0 (ap (λ ts. map (λ t. stored_of t) ts) kept)),
+      still_refused c.args.self.now (statement_of c.args.statement.now) _ _ refused,
     )

@@ -1,6 +1,6 @@
 use Rattle.std.proofs.Common.{[], Err, map, sym, refl}
-use Rattle.engine.specs.Stored.{is_named}
-use Rattle.engine.specs.World.{stored_entry}
+use Rattle.engine.specs.Database.{is_named}
+use Rattle.engine.specs.View.{stored_of}
 use Rattle.engine.proofs.Places.{none_found}
 use Rattle.engine.proofs.Loads.{IfSome-all, IfSome-map, rows_loaded, fault_reported, stops_loaded}
 use Rattle.engine.proofs.store.Store.load_records.Goals as goal
@@ -17,28 +17,28 @@ returns-in_default-clause-some_records g c =
 pub returns-clause-exact : goal.returns-clause-exact
 returns-clause-exact g c =
     λ fine.
-    let entries = c.self.inside.contents.items in
+    let entries = c.self.inside.tables.items in
     let at = sym (rw c.deref.ensures.value at c.in-Some.ensures.place) in
     elim c.match-append_records.branch [
-      | in-Ok w ↦ rw (← c.self.view_is, w.result-is) (IfSome-map c.args.records.now.records _ _ (λ recs h. rows_loaded (λ e. stored_entry e) c.args.table.now c.index_mut.result.now entries c.in-Some.i at c.index_mut.ensures.value recs _ _ refl c.append_records.ensures.columns h) ((rw w.in-Ok.is at c.append_records.ensures.exact) fine))
-      | in-Err w ↦ rw (← c.self.view_is, w.result-is) (IfSome-map c.args.records.now.records _ _ (λ recs h. fault_reported (λ e. stored_entry e) c.args.table.now c.index_mut.result.now entries c.in-Some.i at c.index_mut.ensures.value recs (map (λ e. stored_entry e) entries) _ h) ((rw w.in-Err.is at c.append_records.ensures.exact) fine))
+      | in-Ok w ↦ rw (← c.self.view_is, w.result-is) (IfSome-map c.args.records.now.records _ _ (λ recs h. rows_loaded (λ e. stored_of e) c.args.table.now c.index_mut.result.now entries c.in-Some.i at c.index_mut.ensures.value recs _ _ refl c.append_records.ensures.columns h) ((rw w.in-Ok.is at c.append_records.ensures.exact) fine))
+      | in-Err w ↦ rw (← c.self.view_is, w.result-is, w.store_failure.ensures) (IfSome-map c.args.records.now.records _ _ (λ recs h. fault_reported (λ e. stored_of e) c.args.table.now c.index_mut.result.now entries c.in-Some.i at c.index_mut.ensures.value recs (map (λ e. stored_of e) entries) _ h) ((rw w.in-Err.is at c.append_records.ensures.exact) fine))
     ]
 
 pub returns-clause-some_records : goal.returns-clause-some_records
 returns-clause-some_records g c =
     λ fine.
-    let entries = c.self.inside.contents.items in
+    let entries = c.self.inside.tables.items in
     let at = sym (rw c.deref.ensures.value at c.in-Some.ensures.place) in
     elim c.match-append_records.branch [
-      | in-Ok w ↦ let h = (rw w.in-Ok.is at c.append_records.ensures.some_records) fine in rw (← c.self.view_is, w.result-is) (h.0, rows_loaded (λ e. stored_entry e) c.args.table.now c.index_mut.result.now entries c.in-Some.i at c.index_mut.ensures.value h.0 _ _ refl c.append_records.ensures.columns h.1, h.2)
-      | in-Err w ↦ let h = (rw w.in-Err.is at c.append_records.ensures.some_records) fine in rw (← c.self.view_is, w.result-is) (h.0, fault_reported (λ e. stored_entry e) c.args.table.now c.index_mut.result.now entries c.in-Some.i at c.index_mut.ensures.value h.0 (map (λ e. stored_entry e) entries) _ h.1, tt)
+      | in-Ok w ↦ let h = (rw w.in-Ok.is at c.append_records.ensures.some_records) fine in rw (← c.self.view_is, w.result-is) (h.0, rows_loaded (λ e. stored_of e) c.args.table.now c.index_mut.result.now entries c.in-Some.i at c.index_mut.ensures.value h.0 _ _ refl c.append_records.ensures.columns h.1, h.2)
+      | in-Err w ↦ let h = (rw w.in-Err.is at c.append_records.ensures.some_records) fine in rw (← c.self.view_is, w.result-is, w.store_failure.ensures) (h.0, fault_reported (λ e. stored_of e) c.args.table.now c.index_mut.result.now entries c.in-Some.i at c.index_mut.ensures.value h.0 (map (λ e. stored_of e) entries) _ h.1, tt)
     ]
 
 pub returns-clause-stops : goal.returns-clause-stops
 returns-clause-stops g c =
-    let entries = c.self.inside.contents.items in
+    let entries = c.self.inside.tables.items in
     let at = sym (rw c.deref.ensures.value at c.in-Some.ensures.place) in
     elim c.match-append_records.branch [
       | in-Ok w ↦ rw w.result-is (IfSome-all c.args.records.now.records _ (λ recs. tt))
-      | in-Err w ↦ rw (← c.self.view_is, w.result-is) (IfSome-map c.args.records.now.records _ _ (λ recs h. stops_loaded (λ e. stored_entry e) c.args.table.now c.index_mut.result.now entries c.in-Some.i at c.index_mut.ensures.value recs (Err _) h) (rw w.in-Err.is at c.append_records.ensures.stops))
+      | in-Err w ↦ rw (← c.self.view_is, w.result-is, w.store_failure.ensures) (IfSome-map c.args.records.now.records _ _ (λ recs h. stops_loaded (λ e. stored_of e) c.args.table.now c.index_mut.result.now entries c.in-Some.i at c.index_mut.ensures.value recs (Err _) h) (rw w.in-Err.is at c.append_records.ensures.stops))
     ]
