@@ -1,8 +1,7 @@
 //! Worked rows: a schema, texts of rows, and what a role is answered.
 
-use crate::fixtures::{DEALS, SCHEMA, apply, deals, load, made, store_of};
-use engine::{Store, serve};
-use output::Output;
+use crate::stores::{DEALS, SCHEMA, apply, deals, load, made, served, store_of};
+use engine::Store;
 use std::alloc::{AllocError, Global};
 use std::process::Abort;
 use std::test::Fail;
@@ -32,11 +31,7 @@ pub fn answered(
 ) {
     let (role, text) = question;
     let (want, status) = answer;
-    let mut out = Output {
-        inner: Vec::new(rt.alloc()),
-        failed: 0,
-    };
-    let got = serve(rt.alloc(), store, role, text, &mut out);
+    let (got, out) = served(rt.alloc(), store, role, text);
     assert_eq!(rt; got, status, "{name}: {role}: {text}");
     assert_eq!(rt;
         out.inner.as_slice(),
@@ -300,7 +295,7 @@ static NOT_SERVED: [&str; 17] = [
     "SELECT id FROM deal LIMIT 1",
 ];
 
-fn not_served() -> &'static [&'static str] {
+fn not_supported() -> &'static [&'static str] {
     &NOT_SERVED
 }
 
@@ -308,7 +303,7 @@ fn served_to_nobody(rt: &(impl Abort + AllocGlobal), store: &Store<Global>, text
     for role in ["alice", "boss", "lone", "root"] {
         answered(
             rt,
-            "not_served_yet",
+            "not_supported_yet",
             store,
             (role, text),
             ("refused 0A000\n", 3),
@@ -316,7 +311,7 @@ fn served_to_nobody(rt: &(impl Abort + AllocGlobal), store: &Store<Global>, text
     }
     answered(
         rt,
-        "not_served_yet",
+        "not_supported_yet",
         store,
         ("zed", text),
         ("refused 42704\n", 6),
@@ -326,7 +321,7 @@ fn served_to_nobody(rt: &(impl Abort + AllocGlobal), store: &Store<Global>, text
 #[test]
 fn not_supported_yet_comes_before_names_and_grants(rt: HostRuntime) {
     let store = made(&rt, deals(rt.alloc()));
-    for text in not_served() {
+    for text in not_supported() {
         served_to_nobody(&rt, &store, text);
     }
 }

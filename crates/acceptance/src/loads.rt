@@ -1,12 +1,13 @@
 //! Texts of rows for a store, and their first fault.
 
 use crate::answers::{FLAGS, answered};
-use crate::fixtures::{DEALS, SCHEMA, Stop, deals, load, made, store_of};
+use crate::stores::{DEALS, SCHEMA, StoreFault, deals, load, made, store_of};
 use csv_records::Records;
-use engine::StoreError;
 use engine::StoreError::Data;
-use std::io;
-use std::io::{ErrorKind, Read};
+use engine::{Store, StoreError};
+use fixtures::in_pieces;
+use memory::Failure;
+use std::alloc::Global;
 use std::process::Abort;
 use tables::LoadError;
 
@@ -138,15 +139,23 @@ fn faults() -> &'static [RefusedTexts] {
     &FAULTS
 }
 
+// The store before a refused text.
+fn store_before(rt: &(impl Abort + AllocGlobal), faults: &RefusedTexts) -> Store<Global> {
+    let mut store = made(rt, store_of(rt.alloc(), faults.schema));
+    if !faults.held.is_empty() {
+        let done = load(&mut store, "deal", faults.held);
+        assert_eq!(rt; done, Ok(()), "{}", faults.name);
+    }
+    store
+}
+
 // A store that is refused a text of rows has its tables and rows as before.
 fn refused(rt: &(impl Abort + AllocGlobal), faults: &RefusedTexts, text: &str, fault: StoreError) {
     let name = faults.name;
-    let mut store = made(rt, store_of(rt.alloc(), faults.schema));
-    if !faults.held.is_empty() {
-        assert_eq!(rt; load(&mut store, "deal", faults.held), Ok(()), "{name}");
-    }
+    let mut store = store_before(rt, faults);
     let found = load(&mut store, faults.table, text);
-    assert_eq!(rt; found, Err(Stop::Data(fault)), "{name}: {text}");
+    let want = Err(Failure::Fault(StoreFault::Data(fault)));
+    assert_eq!(rt; found, want, "{name}: {text}");
     assert_eq!(rt; store.table_count(), 1, "{name}: {text}");
     answered(rt, name, &store, ("root", faults.query), (faults.shown, 0));
 }
@@ -198,40 +207,19 @@ fn is_accepted(rt: &(impl Abort + AllocGlobal), row: &Accepted) {
     assert_eq!(rt; load(&mut store, table, text), Ok(()), "{name}: {text}");
 }
 
-/// Gives one byte a call, and fails at a call, counted from 0.
-#[derive(Drop)]
-struct Slow<'a> {
-    bytes: &'a [u8],
-    left: u64,
-}
-
-impl Read for Slow<'_> {
-    fn read(&mut self, buf: &mut [u8]) -> io::Result<usize> {
-        if self.left == 0 {
-            return Err(io::Error::from(ErrorKind::Other));
-        }
-        self.left -= 1;
-        let (Some(byte), Some(place)) = (self.bytes.first(), buf.first_mut()) else {
-            return Ok(0);
-        };
-        *place = *byte;
-        self.bytes = &self.bytes[1..];
-        Ok(1)
-    }
-}
-
 // The deals are loaded byte by byte, up to so many reads.
-fn loaded_slowly(rt: &(impl Abort + AllocGlobal), left: u64) -> Result<(), StoreError> {
+fn loaded_slowly(rt: &(impl Abort + AllocGlobal), left: u64) -> Result<(), Failure<StoreError>> {
     let mut store = made(rt, deals(rt.alloc()));
-    let bytes = DEALS.as_bytes();
-    store.load("deal", Slow { bytes, left })
+    store.load("deal", in_pieces(DEALS, 1, left))
 }
 
 // The same over records, which keep why a read failed.
-fn records_loaded_slowly(rt: &(impl Abort + AllocGlobal), left: u64) -> Result<(), StoreError> {
+fn records_loaded_slowly(
+    rt: &(impl Abort + AllocGlobal),
+    left: u64,
+) -> Result<(), Failure<StoreError>> {
     let mut store = made(rt, deals(rt.alloc()));
-    let bytes = DEALS.as_bytes();
-    let mut records = Records::new(rt.alloc(), Slow { bytes, left });
+    let mut records = Records::new(rt.alloc(), in_pieces(DEALS, 1, left));
     store.load_records("deal", &mut records)
 }
 
@@ -244,7 +232,7 @@ fn cut_records() -> &'static [(u64, u64)] {
 
 fn records_report_the_row_that_was_not_read(rt: &(impl Abort + AllocGlobal)) {
     for (left, row) in cut_records() {
-        let want = Err(Data(LoadError::Reader { row: *row }));
+        let want = Err(Failure::Fault(Data(LoadError::Reader { row: *row })));
         assert_eq!(rt; records_loaded_slowly(rt, *left), want, "{left}");
     }
     assert_eq!(rt; records_loaded_slowly(rt, 10_000), Ok(()));
@@ -253,7 +241,9 @@ fn records_report_the_row_that_was_not_read(rt: &(impl Abort + AllocGlobal)) {
 fn failed_reader_adds_nothing(rt: &(impl Abort + AllocGlobal)) {
     for left in 0..30u64 {
         match loaded_slowly(rt, left) {
-            Err(StoreError::Data(LoadError::Reader { row })) => assert!(rt; row <= 3, "{left}"),
+            Err(Failure::Fault(Data(LoadError::Reader { row }))) => {
+                assert!(rt; row <= 3, "{left}");
+            }
             other => panic!(rt; "failed_reader_adds_nothing: {left}: {other:?}"),
         }
     }

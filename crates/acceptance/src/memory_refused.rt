@@ -1,45 +1,53 @@
 //! Each request for memory refused in turn.
 
-use crate::fixtures::{DEALS, SCHEMA, Stop, deals, load, store_of};
 use crate::opening::open_or_out_of_memory;
-use crate::table_texts::{append_or_refusal_of_memory, load_or_refusal_of_memory};
-use engine::{StoreError, serve};
-use memory::Heap;
+use crate::stores::{DEALS, SCHEMA, StoreFault, deals, load, made, served, store_of};
+use memory::{Failure, Heap};
 use metered::Metered;
-use output::Output;
 use std::alloc::AllocError;
 use std::process::Abort;
-use std::test::Fail;
-use syntax::ParseError;
-use tables::LoadError;
 use value::Refusal;
 
 const TEXT: &str = "SELECT id FROM deal";
 
-fn reply_or_refusal_of_memory(rt: &(impl Abort + AllocGlobal)) {
+// How many requests the store of the worked rows takes.
+fn requests_of_deals(rt: &(impl Abort + AllocGlobal)) -> u64 {
     let counting = Metered::counting(rt.alloc());
     assert!(rt; deals(&counting).is_ok());
-    let built = counting.requests(0);
+    counting.requests(0)
+}
+
+// How many of them its schema takes.
+fn requests_of_schema(rt: &(impl Abort + AllocGlobal)) -> u64 {
+    let counting = Metered::counting(rt.alloc());
+    assert!(rt; store_of(&counting, SCHEMA).is_ok());
+    counting.requests(0)
+}
+
+// A reply where the nth request after the store is refused: out of memory, or there are fewer requests and it is whole.
+fn replies_without(rt: &(impl Abort + AllocGlobal), built: u64, n: u64) -> bool {
+    let nth = built.saturating_add(n);
+    let heap = Metered::refusing(rt.alloc(), nth);
+    let store = made(rt, deals(&heap));
+    let (status, out) = served(&heap, &store, "alice", TEXT);
+    let text = out.inner.as_slice();
+    if heap.requests(nth) < nth {
+        assert_eq!(rt; status, 0, "at {n}");
+        assert_eq!(rt; text, b"id\n1\n2\n".as_slice(), "at {n}");
+        return true;
+    }
+    assert_eq!(rt; status, 7, "at {n}");
+    assert_eq!(rt; text, b"refused 53200\n".as_slice(), "at {n}");
+    false
+}
+
+fn reply_or_refusal_of_memory(rt: &(impl Abort + AllocGlobal)) {
+    let built = requests_of_deals(rt);
     let mut refused = 0u64;
     for n in 1..1000u64 {
-        let nth = built.saturating_add(n);
-        let heap = Metered::refusing(rt.alloc(), nth);
-        let Ok(store) = deals(&heap) else {
-            panic!(rt; "built with fewer requests before");
-        };
-        let mut out = Output {
-            inner: Vec::new(rt.alloc()),
-            failed: 0,
-        };
-        let status = serve(&heap, &store, "alice", TEXT, &mut out);
-        let text = out.inner.as_slice();
-        if heap.requests(nth) < nth {
-            assert_eq!(rt; status, 0, "at {n}");
-            assert_eq!(rt; text, b"id\n1\n2\n".as_slice(), "at {n}");
+        if replies_without(rt, built, n) {
             break;
         }
-        assert_eq!(rt; status, 7, "at {n}");
-        assert_eq!(rt; text, b"refused 53200\n".as_slice(), "at {n}");
         refused = n;
     }
     assert!(rt; refused > 5, "{refused}");
@@ -47,26 +55,33 @@ fn reply_or_refusal_of_memory(rt: &(impl Abort + AllocGlobal)) {
 }
 
 // What a refused request gives where a store is made.
-fn is_memory(stop: Stop) -> bool {
+fn is_memory(failure: Failure<StoreFault>) -> bool {
     matches!(
-        stop,
-        Stop::Memory
-            | Stop::Parse(ParseError::Memory)
-            | Stop::Statement(Refusal::OutOfMemory)
-            | Stop::Data(StoreError::Data(LoadError::OutOfMemory))
+        failure,
+        Failure::OutOfMemory | Failure::Fault(StoreFault::Statement(Refusal::OutOfMemory))
     )
+}
+
+// A store where the nth request is refused: out of memory, or there are fewer requests and it is made.
+fn made_without(rt: &(impl Abort + AllocGlobal), nth: u64) -> bool {
+    let heap = Metered::refusing(rt.alloc(), nth);
+    match deals(&heap) {
+        Ok(_) => {
+            assert!(rt; heap.requests(nth) < nth, "at {nth}");
+            true
+        }
+        Err(failure) => {
+            assert!(rt; is_memory(failure), "at {nth}: {failure:?}");
+            false
+        }
+    }
 }
 
 fn store_or_refusal_of_memory(rt: &(impl Abort + AllocGlobal)) {
     let mut refused = 0u64;
     for nth in 1..1000u64 {
-        let heap = Metered::refusing(rt.alloc(), nth);
-        match deals(&heap) {
-            Ok(_) => {
-                assert!(rt; heap.requests(nth) < nth, "at {nth}");
-                break;
-            }
-            Err(stop) => assert!(rt; is_memory(stop), "at {nth}: {stop:?}"),
+        if made_without(rt, nth) {
+            break;
         }
         refused = nth;
     }
@@ -80,22 +95,13 @@ fn answered_after_load<A: Heap>(alloc: A) -> Result<usize, AllocError> {
         return Err(AllocError);
     };
     let _done = load(&mut store, "deal", DEALS);
-    let mut out = Output {
-        inner: Vec::new(alloc.global()),
-        failed: 0,
-    };
-    let _status = serve(alloc, &store, "boss", TEXT, &mut out);
+    let (_status, out) = served(alloc, &store, "boss", TEXT);
     Ok(out.inner.len())
 }
 
 fn refused_load_adds_nothing(rt: &(impl Abort + AllocGlobal)) {
-    let counting = Metered::counting(rt.alloc());
-    assert!(rt; store_of(&counting, SCHEMA).is_ok());
-    let built = counting.requests(0);
-    let counting = Metered::counting(rt.alloc());
-    assert!(rt; deals(&counting).is_ok());
-    let loaded = counting.requests(0);
-    for n in 0..loaded.saturating_sub(built) {
+    let built = requests_of_schema(rt);
+    for n in 0..requests_of_deals(rt).saturating_sub(built) {
         let nth = built.saturating_add(n).saturating_add(1);
         let heap = Metered::refusing(rt.alloc(), nth);
         // The heading alone: three bytes.
@@ -109,11 +115,4 @@ fn refused_memory_of_stores_and_answers_is_reported(rt: HostRuntime) {
     store_or_refusal_of_memory(&rt);
     refused_load_adds_nothing(&rt);
     open_or_out_of_memory(&rt);
-}
-
-#[test]
-fn refused_memory_of_tables_is_reported(rt: HostRuntime) -> Result<(), Fail> {
-    load_or_refusal_of_memory(&rt)?;
-    append_or_refusal_of_memory(&rt)?;
-    Ok(())
 }

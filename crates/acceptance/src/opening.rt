@@ -1,9 +1,11 @@
 //! Stores from a schema text and the files of their tables, the lines for what stops them, and the reply to arguments.
 
-use memory::Heap;
+use engine::Store;
+use memory::{Failure, Heap};
 use metered::Metered;
 use output::Output;
 use setup::{Arguments, Fault, Folder, open_store, reply, report};
+use std::alloc::Global;
 use std::process::Abort;
 use text::Text;
 
@@ -18,13 +20,14 @@ impl<'a, A: Heap> Folder<A> for Files<'a> {
 
     ghost path = { λ _ table. table };
 
-    fn open(&self, alloc: A, table: &str) -> Result<&'a [u8], Fault<A>> {
+    fn open(&self, alloc: A, table: &str) -> Result<&'a [u8], Failure<Fault<A>>> {
         for (name, text) in self.files {
             if *name == table {
                 return Ok(text.as_bytes());
             }
         }
-        Err(Fault::Input(Text::new(alloc, table)?))
+        let path = Text::new(alloc, table)?;
+        Err(Failure::Fault(Fault::Input { path }))
     }
 }
 
@@ -134,6 +137,23 @@ fn order() -> &'static [Opening] {
     &ORDER
 }
 
+// The status and the line for a store that is not opened; no status for one that is.
+fn stop_of<A: Heap>(
+    alloc: A,
+    schema: &str,
+    files: &[(&str, &str)],
+) -> (Option<u8>, Output<Vec<u8>>) {
+    let mut out = Output {
+        inner: Vec::new(alloc.global()),
+        failed: 0,
+    };
+    let status = match open_store(alloc, schema, &Files { files }) {
+        Ok(_) => None,
+        Err(failure) => Some(report(alloc, &failure, &mut out)),
+    };
+    (status, out)
+}
+
 fn stopped(
     rt: &(impl Abort + AllocGlobal),
     name: &str,
@@ -142,16 +162,9 @@ fn stopped(
     want: (&str, u8),
 ) {
     let (line, status) = want;
-    let mut out = Output {
-        inner: Vec::new(rt.alloc()),
-        failed: 0,
-    };
-    let got = match open_store(rt.alloc(), schema, &Files { files }) {
-        Ok(_) => 0,
-        Err(fault) => report(rt.alloc(), &fault, &mut out),
-    };
+    let (got, out) = stop_of(rt.alloc(), schema, files);
     assert_eq!(rt; out.inner.as_slice(), line.as_bytes(), "{name}: {line}");
-    assert_eq!(rt; got, status, "{name}: {line}");
+    assert_eq!(rt; got.unwrap_or(0), status, "{name}: {line}");
 }
 
 fn by_schema(rt: &(impl Abort + AllocGlobal), name: &str) {
@@ -184,28 +197,32 @@ fn answers() -> &'static [(&'static str, &'static str, u8)] {
     &ANSWERS
 }
 
-fn asked(rt: &(impl Abort + AllocGlobal), role: &str, answer: &str, status: u8) {
+// The store of a table that alice may read, with one row.
+fn asked_store(rt: &(impl Abort + AllocGlobal)) -> Store<Global> {
     let schema =
         "CREATE ROLE alice; CREATE ROLE bob; CREATE TABLE t (a bigint); GRANT SELECT ON t TO alice;";
+    let files = [("t", "a\n4\n")];
+    match open_store(rt.alloc(), schema, &Files { files: &files }) {
+        Ok(store) => store,
+        Err(_) => panic!(rt; "no store"),
+    }
+}
+
+fn asked(rt: &(impl Abort + AllocGlobal), role: &str, answer: &str, status: u8) {
+    let store = asked_store(rt);
     let arguments = Arguments {
         schema: "schema.sql",
         dir: "tables",
         role,
         text: "SELECT a FROM t",
     };
-    let files = [("t", "a\n4\n")];
     let mut out = Output {
         inner: Vec::new(rt.alloc()),
         failed: 0,
     };
-    match open_store(rt.alloc(), schema, &Files { files: &files }) {
-        Ok(store) => {
-            let got = reply(rt.alloc(), &store, &arguments, &mut out);
-            assert_eq!(rt; got, status, "{role}");
-            assert_eq!(rt; out.inner.as_slice(), answer.as_bytes(), "{role}");
-        }
-        Err(_) => panic!(rt; "{role}"),
-    }
+    let got = reply(rt.alloc(), &store, &arguments, &mut out);
+    assert_eq!(rt; got, status, "{role}");
+    assert_eq!(rt; out.inner.as_slice(), answer.as_bytes(), "{role}");
 }
 
 #[test]
@@ -215,34 +232,30 @@ fn arguments_ask_as_their_role(rt: HostRuntime) {
     }
 }
 
-// The status and the line for a store that is not opened; no status for one that is.
-fn status_of<A: Heap>(alloc: A, out: &mut Output<Vec<u8>>) -> Option<u8> {
+// An opening whose nth request for memory is refused: out of memory, or there are fewer requests and the store is opened.
+fn opens_without(rt: &(impl Abort + AllocGlobal), nth: u64) -> bool {
     let files = [
         ("deal", "id,owner,open\n1,alice,t\n"),
         ("region", "id\n7\n"),
     ];
-    match open_store(alloc, SCHEMA, &Files { files: &files }) {
-        Ok(_) => None,
-        Err(fault) => Some(report(alloc, &fault, out)),
+    let heap = Metered::refusing(rt.alloc(), nth);
+    let (status, out) = stop_of(&heap, SCHEMA, &files);
+    if heap.requests(nth) < nth {
+        assert_eq!(rt; status, None, "at {nth}");
+        return true;
     }
+    assert_eq!(rt; status, Some(7), "at {nth}");
+    assert_eq!(rt; out.inner.as_slice(), b"memory\n".as_slice(), "at {nth}");
+    false
 }
 
 /// An opening, with each request for memory refused in turn.
 pub fn open_or_out_of_memory(rt: &(impl Abort + AllocGlobal)) {
     let mut refused = 0u64;
     for nth in 1..1000u64 {
-        let heap = Metered::refusing(rt.alloc(), nth);
-        let mut out = Output {
-            inner: Vec::new(rt.alloc()),
-            failed: 0,
-        };
-        let status = status_of(&heap, &mut out);
-        if heap.requests(nth) < nth {
-            assert_eq!(rt; status, None, "at {nth}");
+        if opens_without(rt, nth) {
             break;
         }
-        assert_eq!(rt; status, Some(7), "at {nth}");
-        assert_eq!(rt; out.inner.as_slice(), b"memory\n".as_slice(), "at {nth}");
         refused = nth;
     }
     assert!(rt; refused > 20, "{refused}");

@@ -1,7 +1,9 @@
 //! Statements by roles, and what a store says of them.
 
-use crate::fixtures::{Stop, apply, deals, made};
+use crate::stores::StoreFault::{Parse, Statement};
+use crate::stores::{StoreFault, apply, deals, made};
 use engine::Store;
+use memory::Failure;
 use std::alloc::{AllocError, Global};
 use std::process::Abort;
 use std::test::Fail;
@@ -9,7 +11,7 @@ use syntax::ParseError;
 use value::Refusal;
 
 // An actor, a schema text, and why it is refused.
-type Row = (&'static str, &'static str, Stop);
+type Row = (&'static str, &'static str, StoreFault);
 
 // A name, what root applies to the store of the deals before each row, and the rows.
 type Group = (&'static str, &'static str, &'static [Row]);
@@ -22,67 +24,67 @@ static REFUSED: [Group; 4] = [
             (
                 "root",
                 "CREATE ROLE alice;",
-                Stop::Statement(Refusal::DuplicateObject),
+                Statement(Refusal::DuplicateObject),
             ),
             (
                 "root",
                 "CREATE ROLE root;",
-                Stop::Statement(Refusal::DuplicateObject),
+                Statement(Refusal::DuplicateObject),
             ),
             (
                 "root",
                 "CREATE ROLE Public;",
-                Stop::Statement(Refusal::DuplicateObject),
+                Statement(Refusal::DuplicateObject),
             ),
             (
                 "root",
                 "CREATE TABLE deal (a bigint);",
-                Stop::Statement(Refusal::DuplicateTable),
+                Statement(Refusal::DuplicateTable),
             ),
             (
                 "root",
                 "CREATE TABLE t (a bigint, b text, A text);",
-                Stop::Statement(Refusal::DuplicateColumn),
+                Statement(Refusal::DuplicateColumn),
             ),
             (
                 "root",
                 "ALTER TABLE nosuch OWNER TO nosuch;",
-                Stop::Statement(Refusal::UndefinedTable),
+                Statement(Refusal::UndefinedTable),
             ),
             (
                 "root",
                 "ALTER TABLE deal OWNER TO nosuch;",
-                Stop::Statement(Refusal::UndefinedObject),
+                Statement(Refusal::UndefinedObject),
             ),
             (
                 "root",
                 "ALTER TABLE deal OWNER TO public;",
-                Stop::Statement(Refusal::UndefinedObject),
+                Statement(Refusal::UndefinedObject),
             ),
             (
                 "root",
                 "ALTER TABLE nosuch ENABLE ROW LEVEL SECURITY;",
-                Stop::Statement(Refusal::UndefinedTable),
+                Statement(Refusal::UndefinedTable),
             ),
             (
                 "root",
                 "GRANT SELECT ON nosuch TO nosuch;",
-                Stop::Statement(Refusal::UndefinedTable),
+                Statement(Refusal::UndefinedTable),
             ),
             (
                 "root",
                 "GRANT SELECT ON deal TO alice, nosuch;",
-                Stop::Statement(Refusal::UndefinedObject),
+                Statement(Refusal::UndefinedObject),
             ),
             (
                 "root",
                 "CREATE POLICY p ON nosuch USING (a = 1);",
-                Stop::Statement(Refusal::UndefinedTable),
+                Statement(Refusal::UndefinedTable),
             ),
             (
                 "root",
                 "CREATE POLICY p ON deal USING (id = 1);",
-                Stop::Statement(Refusal::FeatureNotSupported),
+                Statement(Refusal::FeatureNotSupported),
             ),
         ],
     ),
@@ -93,47 +95,47 @@ static REFUSED: [Group; 4] = [
             (
                 "root",
                 "CREATE POLICY p ON t TO nosuch USING (c = 1);",
-                Stop::Statement(Refusal::UndefinedObject),
+                Statement(Refusal::UndefinedObject),
             ),
             (
                 "root",
                 "CREATE POLICY p ON t USING (deal.a = 1);",
-                Stop::Statement(Refusal::UndefinedTable),
+                Statement(Refusal::UndefinedTable),
             ),
             (
                 "root",
                 "CREATE POLICY p ON t USING (c = 1);",
-                Stop::Statement(Refusal::UndefinedColumn),
+                Statement(Refusal::UndefinedColumn),
             ),
             (
                 "root",
                 "CREATE POLICY p ON t USING (a = 'x');",
-                Stop::Statement(Refusal::DatatypeMismatch),
+                Statement(Refusal::DatatypeMismatch),
             ),
             (
                 "root",
                 "CREATE POLICY p ON t USING (b = 1);",
-                Stop::Statement(Refusal::DatatypeMismatch),
+                Statement(Refusal::DatatypeMismatch),
             ),
             (
                 "root",
                 "CREATE POLICY p ON t USING (b = TRUE);",
-                Stop::Statement(Refusal::DatatypeMismatch),
+                Statement(Refusal::DatatypeMismatch),
             ),
             (
                 "root",
                 "CREATE POLICY p ON t USING (a = CURRENT_USER);",
-                Stop::Statement(Refusal::DatatypeMismatch),
+                Statement(Refusal::DatatypeMismatch),
             ),
             (
                 "root",
                 "CREATE POLICY p ON t USING (d = 't');",
-                Stop::Statement(Refusal::DatatypeMismatch),
+                Statement(Refusal::DatatypeMismatch),
             ),
             (
                 "root",
                 "CREATE POLICY p ON t USING (d = CURRENT_USER);",
-                Stop::Statement(Refusal::DatatypeMismatch),
+                Statement(Refusal::DatatypeMismatch),
             ),
         ],
     ),
@@ -144,32 +146,32 @@ static REFUSED: [Group; 4] = [
             (
                 "zed",
                 "CREATE TABLE t (a bigint);",
-                Stop::Statement(Refusal::UndefinedObject),
+                Statement(Refusal::UndefinedObject),
             ),
             (
                 "boss",
                 "CREATE ROLE new;",
-                Stop::Statement(Refusal::InsufficientPrivilege),
+                Statement(Refusal::InsufficientPrivilege),
             ),
             (
                 "alice",
                 "ALTER TABLE deal ENABLE ROW LEVEL SECURITY;",
-                Stop::Statement(Refusal::InsufficientPrivilege),
+                Statement(Refusal::InsufficientPrivilege),
             ),
             (
                 "alice",
                 "GRANT SELECT ON deal TO nosuch;",
-                Stop::Statement(Refusal::InsufficientPrivilege),
+                Statement(Refusal::InsufficientPrivilege),
             ),
             (
                 "boss",
                 "ALTER TABLE deal OWNER TO alice;",
-                Stop::Statement(Refusal::InsufficientPrivilege),
+                Statement(Refusal::InsufficientPrivilege),
             ),
             (
                 "alice",
                 "ALTER TABLE deal OWNER TO alice;",
-                Stop::Statement(Refusal::InsufficientPrivilege),
+                Statement(Refusal::InsufficientPrivilege),
             ),
         ],
     ),
@@ -177,37 +179,41 @@ static REFUSED: [Group; 4] = [
         "refused_schema_texts",
         "",
         &[
-            ("root", "CREATE", Stop::Parse(ParseError::Syntax(6))),
-            ("root", "CREATE ROLE a", Stop::Parse(ParseError::Syntax(13))),
+            ("root", "CREATE", Parse(ParseError::Syntax { offset: 6 })),
+            (
+                "root",
+                "CREATE ROLE a",
+                Parse(ParseError::Syntax { offset: 13 }),
+            ),
             (
                 "root",
                 "CREATE ROLE select;",
-                Stop::Parse(ParseError::Syntax(12)),
+                Parse(ParseError::Syntax { offset: 12 }),
             ),
             (
                 "root",
                 "CREATE TABLE t ();",
-                Stop::Parse(ParseError::Syntax(16)),
+                Parse(ParseError::Syntax { offset: 16 }),
             ),
             (
                 "root",
                 "CREATE POLICY p ON t USING (a = 9223372036854775808);",
-                Stop::Parse(ParseError::Syntax(32)),
+                Parse(ParseError::Syntax { offset: 32 }),
             ),
             (
                 "root",
                 "CREATE POLICY p ON t USING (a = '\\N');",
-                Stop::Parse(ParseError::Syntax(32)),
+                Parse(ParseError::Syntax { offset: 32 }),
             ),
             (
                 "root",
                 "; CREATE ROLE a;",
-                Stop::Parse(ParseError::Syntax(0)),
+                Parse(ParseError::Syntax { offset: 0 }),
             ),
             (
                 "root",
                 "CREATE ROLE a; -- more",
-                Stop::Parse(ParseError::Syntax(15)),
+                Parse(ParseError::Syntax { offset: 15 }),
             ),
         ],
     ),
@@ -244,7 +250,7 @@ fn refused() -> &'static [Group] {
     &REFUSED
 }
 
-fn not_served() -> &'static [&'static str] {
+fn not_supported() -> &'static [&'static str] {
     &NOT_SERVED
 }
 
@@ -263,12 +269,16 @@ fn store_after(rt: &(impl Abort + AllocGlobal), before: &str) -> Store<Global> {
 
 // A refused text, and that the store has its roles and tables as before.
 fn is_refused(rt: &(impl Abort + AllocGlobal), name: &str, before: &str, row: &Row) {
-    let (actor, text, why) = row;
+    let (actor, text, fault) = row;
     let mut store = store_after(rt, before);
     let roles = store.catalog().roles();
     let tables = store.catalog().tables();
     let done = apply(rt.alloc(), &mut store, actor, text);
-    assert_eq!(rt; done, Err(*why), "{name}: {actor}: {text}");
+    assert_eq!(rt;
+        done,
+        Err(Failure::Fault(*fault)),
+        "{name}: {actor}: {text}"
+    );
     assert_eq!(rt; store.catalog().roles(), roles, "{name}: {actor}: {text}");
     assert_eq!(rt; store.catalog().tables(), tables, "{name}: {actor}: {text}");
 }
@@ -291,7 +301,7 @@ fn served_to_nobody(rt: &(impl Abort + AllocGlobal), text: &str) {
     for actor in ["root", "lone", "zed"] {
         let mut store = made(rt, deals(rt.alloc()));
         let done = apply(rt.alloc(), &mut store, actor, text);
-        let want = Err(Stop::Statement(Refusal::FeatureNotSupported));
+        let want = Err(Failure::Fault(Statement(Refusal::FeatureNotSupported)));
         assert_eq!(rt; done, want, "{actor}: {text}");
         assert_eq!(rt; store.catalog().roles(), 4, "{actor}: {text}");
         assert_eq!(rt; store.catalog().tables(), 1, "{actor}: {text}");
@@ -300,7 +310,7 @@ fn served_to_nobody(rt: &(impl Abort + AllocGlobal), text: &str) {
 
 #[test]
 fn statements_not_supported_yet_are_refused_before_all_else(rt: HostRuntime) {
-    for text in not_served() {
+    for text in not_supported() {
         served_to_nobody(&rt, text);
     }
 }
@@ -386,7 +396,7 @@ fn applied_times(
 }
 
 fn past_limit(rt: &(impl Abort + AllocGlobal), store: &mut Store<Global>, text: &str) {
-    let want = Err(Stop::Statement(Refusal::ProgramLimitExceeded));
+    let want = Err(Failure::Fault(Statement(Refusal::ProgramLimitExceeded)));
     assert_eq!(rt; apply(rt.alloc(), store, "root", text), want, "{text}");
 }
 

@@ -1,6 +1,6 @@
 //! Writers that fail, and what went out before.
 
-use crate::fixtures::{deals, made};
+use crate::stores::{deals, made};
 use engine::{Store, serve};
 use output::Output;
 use std::alloc::Global;
@@ -57,7 +57,6 @@ fn has_the_start_in_steps(rt: &(impl Abort + AllocGlobal), store: &Store<Global>
     }
 }
 
-// a_beginning_goes_out
 #[test]
 fn failed_writer_has_the_start_of_the_answer(rt: HostRuntime) {
     let store = made(&rt, deals(rt.alloc()));

@@ -9,7 +9,7 @@ use Rattle.tables.specs.declared.LoadError.{LoadError}
 use Rattle.tables.specs.declared.LoadError.TheVariants as faults
 use Rattle.csv_records.specs.Left.{records_of}
 use Rattle.tables.specs.declared.TheConstants.{MAX_ROWS}
-use Rattle.tables.specs.Loading.{Contents, Fields, StopsAfterGood, UnlessUnread, appended}
+use Rattle.tables.specs.Loading.{TableRows, Fields, StopsAfterGood, UnlessUnread, appended}
 use Rattle.tables.proofs.Follow.{fault_appended, rows_appended}
 use Rattle.memory.specs.Gives.{Gives, IsFailure}
 use Rattle.memory.specs.declared.failure.Failure.{Failure}
@@ -33,14 +33,14 @@ IfSome-all None P f = tt
 IfSome-all (Some x) P f = f x
 
 -- a database is its catalogue and its tables
-pub same_database : (cat cat' : Catalog) (ts ts' : List (Name × Contents)) → cat' ≡ cat → ts' ≡ ts → ◌≡◌ {A = Database} record { catalog = cat'; tables = ts' } record { catalog = cat; tables = ts }
+pub same_database : (cat cat' : Catalog) (ts ts' : List (Name × TableRows)) → cat' ≡ cat → ts' ≡ ts → ◌≡◌ {A = Database} record { catalog = cat'; tables = ts' } record { catalog = cat; tables = ts }
 same_database cat cat' ts ts' a b = rw (a, b)
 
 pub still_refused : (database : Database) (statement : Statement) (due : Result Catalog Refusal) (why : Refusal) → (why ≡ r.OutOfMemory) ⊎ (due ≡ Err why) → (why ≡ r.OutOfMemory) ⊎ (with_catalog database statement due ≡ Err why)
 still_refused database statement due why (inl e) = inl e
 still_refused database statement due why (inr e) = inr (rw e refl)
 
-parts : (e e' : Name × Contents) (rows : List Row) → e.0 ≡ e'.0 → e.1.columns ≡ e'.1.columns → e.1.rows ≡ e'.1.rows ++ rows → e ≡ with_rows rows e'
+parts : (e e' : Name × TableRows) (rows : List Row) → e.0 ≡ e'.0 → e.1.columns ≡ e'.1.columns → e.1.rows ≡ e'.1.rows ++ rows → e ≡ with_rows rows e'
 parts e e' rows a b c = rw (← a, ← b, ← c)
 
 -- the same of a whole result
@@ -48,10 +48,10 @@ abbrev pub store_result : Result (Unit {0}) (Failure LoadError) → Result (Unit
 store_result (Ok u) = Ok u
 store_result (Err e) = Err (store_failure e)
 
-module _ {X : Type 0} (v : X → Name × Contents) (name : Name) (x : X) (xs : List X) (i : ℕ)
+module _ {X : Type 0} (v : X → Name × TableRows) (name : Name) (x : X) (xs : List X) (i : ℕ)
     (at : position_from (is_named name) 0 (map v xs) ≡ Some i) (is : x ≡ get_or xs i x) where
   found : find (is_named name) (map v xs) ≡ Some (v x)
-  found = found_at (is_named name) v x xs i at ∙ ap (λ (y : X). let o : Option (Name × Contents) = Some (v y) in o) (sym is)
+  found = found_at (is_named name) v x xs i at ∙ ap (λ (y : X). let o : Option (Name × TableRows) = Some (v y) in o) (sym is)
 
   -- the rows of the records came to the table's
   pub rows_loaded : (recs : List Fields) (y : X) (u : Unit {0}) → (v y).0 ≡ (v x).0 → (v y).1.columns ≡ (v x).1.columns → appended (v x).1.rows (due_rows (v x).1 recs) ≡ Ok (v y).1.rows
@@ -62,7 +62,7 @@ module _ {X : Type 0} (v : X → Name × Contents) (name : Name) (x : X) (xs : L
       (v x, h.0, found, h.1, set_at (is_named name) v x (with_rows h.0) y xs i at (whole ∙ ap (λ (z : X). with_rows h.0 (v z)) is))
 
   -- a fault of the records
-  pub fault_reported : (recs : List Fields) (new : List (Name × Contents)) (e : Failure LoadError) → IsFailure e (appended (v x).1.rows (due_rows (v x).1 recs)) → IsLoad (map v xs) new name recs (Err (store_failure e))
+  pub fault_reported : (recs : List Fields) (new : List (Name × TableRows)) (e : Failure LoadError) → IsFailure e (appended (v x).1.rows (due_rows (v x).1 recs)) → IsLoad (map v xs) new name recs (Err (store_failure e))
   fault_reported recs new (Fault e) h = (v x, found, fault_appended (v x).1.rows (due_rows (v x).1 recs) e h)
   fault_reported recs new OutOfMemory h = (v x, found)
 
@@ -107,7 +107,7 @@ module _ {X : Type 0} (v : X → Name × Contents) (name : Name) (x : X) (xs : L
     loaded_from (Some bytes) r exact some stops = (loads_rows (records_of bytes) r exact, stops_loaded (records_of bytes) r stops)
 
 -- there is no table of that name
-pub none_loaded : (known : Option (List ℕ)) (old new : List (Name × Contents)) (name : Name) → find (is_named name) old ≡ None → IsLoadFrom known old new name (Err (Fault errors.UndefinedTable))
+pub none_loaded : (known : Option (List ℕ)) (old new : List (Name × TableRows)) (name : Name) → find (is_named name) old ≡ None → IsLoadFrom known old new name (Err (Fault errors.UndefinedTable))
 none_loaded None old new name e = ([], e)
 none_loaded (Some bytes) old new name e = (e, tt)
 

@@ -57,7 +57,7 @@ module _ {E : Type 0} (p : E → Bool) where
         go true h more = absurd (let q = some_is k (k + suc i) h in omega arith)
         go false h more = more (h ∙ some_of (k + suc i) (k + 1 + i) (omega arith))
 
-    -- what stands at the place is what is found
+    -- what is at the place is what is found
     pub found_at : (xs : List X) (i : ℕ) → position_from p 0 (map v xs) ≡ Some i → find p (map v xs) ≡ Some (v (get_or xs i d))
     found_at xs i h = found_from xs 0 i (h ∙ some_of i (0 + i) (omega arith))
 
@@ -77,6 +77,6 @@ module _ {E : Type 0} (p : E → Bool) where
           go true h more = absurd (let q = some_is k (k + suc i) h in omega arith)
           go false h more = ap (λ l. v x ∷ l) (more (h ∙ some_of (k + suc i) (k + 1 + i) (omega arith)))
 
-      -- what stands at the place is the one that changes
+      -- what is at the place is the one that changes
       pub set_at : (xs : List X) (i : ℕ) → position_from p 0 (map v xs) ≡ Some i → v y ≡ f (v (get_or xs i d)) → map v (set xs i y) ≡ first_changed p f (map v xs)
       set_at xs i h is = set_from xs 0 i (h ∙ some_of i (0 + i) (omega arith)) is

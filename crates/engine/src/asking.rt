@@ -83,7 +83,7 @@ fn answer_bound<A: Heap>(
     }
 }
 
-// The reply to a query that is served.
+// The reply to a query that is supported.
 fn answer_served<A: Heap>(
     alloc: A,
     store: &Store<A>,

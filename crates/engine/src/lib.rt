@@ -3,9 +3,9 @@
 
 mod answer;
 mod asking;
-mod serving;
 mod store;
+mod writing;
 
 pub use asking::ask;
-pub use serving::{law_hidden_rows, serve};
 pub use store::{Store, StoreError};
+pub use writing::{law_hidden_rows, serve};

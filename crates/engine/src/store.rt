@@ -145,7 +145,7 @@ impl<A: Heap> Store<A> {
         &self.catalog
     }
 
-    // A new table, with no rows; a refused one leaves no contents behind.
+    // A new table, with no rows; a refused one adds nothing.
     fn add_table(
         &mut self,
         actor: &str,

@@ -46,7 +46,7 @@ abbrev pub bound_in : List ast.ColumnRef → ℕ → Option Table → Result Bou
 bound_in columns offset None = Err (fault r.UndefinedTable offset)
 bound_in columns offset (Some t) = bound_at t columns (places_of t columns)
 
--- A query that is served has one table. None at all, which no query of the grammar has, is not supported; and tables after
+-- A query that is supported has one table. None at all, which no query of the grammar has, is not supported; and tables after
 -- the first are not looked at.
 abbrev pub bound_from : Catalog → List ast.ColumnRef → List ast.TableRef → Result Bound NameFault
 bound_from cat columns [] = Err (fault r.FeatureNotSupported 0)

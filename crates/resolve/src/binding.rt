@@ -115,7 +115,7 @@ fn bind_columns<'c, A: Heap>(
 }
 
 /// The query with its names resolved, or the first name that stands for nothing: the table of FROM, then the columns as
-/// written. It is asked of a query that is served.
+/// written. It is asked of a query that is supported.
 pub fn bind<'c, A: Heap>(
     alloc: A,
     catalog: &'c Catalog<A>,

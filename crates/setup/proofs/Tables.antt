@@ -9,7 +9,7 @@ use Rattle.std.specs.List.{slice_get}
 use Rattle.std.specs.Str.{bytes_eq}
 use Rattle.csv_records.specs.Left.{records_of}
 use Rattle.value.specs.Datum.{Row}
-use Rattle.tables.specs.Loading.{Contents, Fields}
+use Rattle.tables.specs.Loading.{TableRows, Fields}
 use Rattle.memory.specs.declared.failure.Failure as memory
 use Rattle.memory.specs.declared.failure.Failure.TheVariants as failure
 use Rattle.row_ast.specs.Ast.{Name}
@@ -23,7 +23,7 @@ use Rattle.setup.specs.declared.fault.Fault.TheVariants as fault
 
 -- ---- the names stay
 
-names_changed : (name : Name) (rows : List Row) (es : List (Name × Contents)) → names_of (first_changed (is_named name) (with_rows rows) es) ≡ names_of es
+names_changed : (name : Name) (rows : List Row) (es : List (Name × TableRows)) → names_of (first_changed (is_named name) (with_rows rows) es) ≡ names_of es
 names_changed name rows [] = refl
 names_changed name rows (e ∷ es) = go (is_named name e) (names_changed name rows es)
   where
@@ -32,10 +32,10 @@ names_changed name rows (e ∷ es) = go (is_named name e) (names_changed name ro
     go true h = refl
     go false h = ap (λ ns. e.0 ∷ ns) h
 
-loaded_names : (old new : List (Name × Contents)) (name : Name) (recs : List Fields) → IsLoad old new name recs (Ok tt) → names_of new ≡ names_of old
+loaded_names : (old new : List (Name × TableRows)) (name : Name) (recs : List Fields) → IsLoad old new name recs (Ok tt) → names_of new ≡ names_of old
 loaded_names old new name recs h = ap names_of h.4 ∙ names_changed name h.1 old
 
-pub names_kept : (known : Option (List ℕ)) (old new : List (Name × Contents)) (name : Name) → IsLoadFrom known old new name (Ok tt) → names_of new ≡ names_of old
+pub names_kept : (known : Option (List ℕ)) (old new : List (Name × TableRows)) (name : Name) → IsLoadFrom known old new name (Ok tt) → names_of new ≡ names_of old
 names_kept None old new name h = loaded_names old new name h.0 h.1
 names_kept (Some bytes) old new name h = loaded_names old new name (records_of bytes) h.0
 
@@ -45,7 +45,7 @@ same_bytes : (s t : List ℕ) → s ≡ t → bytes_eq s t ≡ true
 same_bytes s t e = grind (arith, bytes_eq-Decides)
 
 -- its name is that of a table that is there
-pub named : (es : List (Name × Contents)) (i : ℕ) (name : Name) → slice_get (names_of es) i ≡ Some name → IsSome (find (is_named name) es)
+pub named : (es : List (Name × TableRows)) (i : ℕ) (name : Name) → slice_get (names_of es) i ≡ Some name → IsSome (find (is_named name) es)
 named [] i name h = cc
 named (e ∷ es) zero name h = let same : e.0 ≡ name = cc in rw (same_bytes e.0 name same) refl
 named (e ∷ es) (suc i) name h = go (is_named name e) (named es i name h)
@@ -67,24 +67,24 @@ module _ (names : List Name) (i : ℕ) (name : Name) (at : slice_get names i ≡
   front : take (i + 1) names ≡ take i names ++ name ∷ []
   front = rw (add-one, take-suc names i name below, is) refl
 
-  loaded_after : (bytes : Name → Option (List ℕ)) (done : List Name) (old mid new : List (Name × Contents)) → AreLoaded bytes done old mid → IsLoadFrom (bytes name) mid new name (Ok tt)
+  loaded_after : (bytes : Name → Option (List ℕ)) (done : List Name) (old mid new : List (Name × TableRows)) → AreLoaded bytes done old mid → IsLoadFrom (bytes name) mid new name (Ok tt)
       → AreLoaded bytes (done ++ name ∷ []) old new
   loaded_after bytes [] old mid new h l = let same : mid ≡ old = h in (new, rw same at l, refl)
   loaded_after bytes (n ∷ ns) old mid new h l = (h.0, h.1, loaded_after bytes ns h.0 mid new h.2 l)
 
   -- one table more is loaded
-  pub loaded_more : (bytes : Name → Option (List ℕ)) (old mid new : List (Name × Contents)) → AreLoaded bytes (take i names) old mid → IsLoadFrom (bytes name) mid new name (Ok tt)
+  pub loaded_more : (bytes : Name → Option (List ℕ)) (old mid new : List (Name × TableRows)) → AreLoaded bytes (take i names) old mid → IsLoadFrom (bytes name) mid new name (Ok tt)
       → AreLoaded bytes (take (i + 1) names) old new
   loaded_more bytes old mid new h l = rw front (loaded_after bytes (take i names) old mid new h l)
 
 -- ---- what is known of a file
 
-pub load_known : (known left : Option (List ℕ)) (old new : List (Name × Contents)) (name : Name) (r : Result (Unit {0}) (memory.Failure StoreError)) → Knows known left → IsLoadFrom left old new name r → IsLoadFrom known old new name r
+pub load_known : (known left : Option (List ℕ)) (old new : List (Name × TableRows)) (name : Name) (r : Result (Unit {0}) (memory.Failure StoreError)) → Knows known left → IsLoadFrom left old new name r → IsLoadFrom known old new name r
 load_known None None old new name r k h = h
 load_known None (Some bytes) old new name r k h = (records_of bytes, h.0)
 load_known (Some bytes) left old new name r k h = rw k at h
 
-pub fault_known : {A : Type 0} (path : List ℕ) (known left : Option (List ℕ)) (old : List (Name × Contents)) (name : Name) (f : memory.Failure (Fault A)) → Knows known left → IsRowFault left old name f → IsFaultOf path known old name f
+pub fault_known : {A : Type 0} (path : List ℕ) (known left : Option (List ℕ)) (old : List (Name × TableRows)) (name : Name) (f : memory.Failure (Fault A)) → Knows known left → IsRowFault left old name f → IsFaultOf path known old name f
 fault_known path known left old name (failure.Fault (fault.Input p)) k h = absurd h
 fault_known path known left old name (failure.Fault (fault.Schema e)) k h = absurd h
 fault_known path known left old name (failure.Fault (fault.Data table column e)) k h = inr (h.0, h.1, load_known known left old old name _ k h.2)
@@ -101,7 +101,7 @@ if_err (Ok x) P Q f h = tt
 if_err (Err e) P Q f h = f e h
 
 -- there is a table at each place below their number
-pub no_place : (es : List (Name × Contents)) (i : ℕ) → i < length es → ◌≡◌ {A = Option Name} None (option_map (λ e. e.0) (slice_get es i)) → ⊥
+pub no_place : (es : List (Name × TableRows)) (i : ℕ) → i < length es → ◌≡◌ {A = Option Name} None (option_map (λ e. e.0) (slice_get es i)) → ⊥
 no_place [] i h e = absurd (omega arith)
 no_place (x ∷ es) zero h e = cc
 no_place (x ∷ es) (suc i) h e = no_place es i (omega arith) e

@@ -3,7 +3,7 @@ use Rattle.std.specs.Prelude.{◌≡◌, ◌⊎◌, ℕ, List, [], ◌∷◌, �
 use Rattle.memory.specs.declared.failure.Failure as memory
 use Rattle.memory.specs.declared.failure.Failure.TheVariants as failure
 use Rattle.value.specs.Columns.{Column}
-use Rattle.tables.specs.Loading.{Contents}
+use Rattle.tables.specs.Loading.{TableRows}
 use Rattle.tables.specs.declared.LoadError.{LoadError}
 use Rattle.tables.specs.declared.LoadError.TheVariants as load
 use Rattle.row_ast.specs.Ast.{Name}
@@ -14,7 +14,7 @@ use Rattle.setup.specs.declared.fault.Fault.{Fault}
 use Rattle.setup.specs.declared.fault.Fault.TheVariants as fault
 
 -- the names of the tables, in order of creation
-abbrev pub names_of : List (Name × Contents) → List Name
+abbrev pub names_of : List (Name × TableRows) → List Name
 names_of contents = map (λ entry. entry.0) contents
 
 abbrev pub name_at : Option Column → Name
@@ -30,9 +30,9 @@ column_name columns (load.NotNull row place) = name_at (slice_get columns place)
 column_name columns load.TooMany = []
 
 -- each table in turn has the rows of its file, whose bytes may be known
-abbrev pub AreLoaded : (Name → Option (List ℕ)) → List Name → List (Name × Contents) → List (Name × Contents) → Type 0
+abbrev pub AreLoaded : (Name → Option (List ℕ)) → List Name → List (Name × TableRows) → List (Name × TableRows) → Type 0
 AreLoaded bytes [] old new = new ≡ old
-AreLoaded bytes (name ∷ names) old new = (mid : List (Name × Contents)) × IsLoadFrom (bytes name) old mid name (Ok tt) × AreLoaded bytes names mid new
+AreLoaded bytes (name ∷ names) old new = (mid : List (Name × TableRows)) × IsLoadFrom (bytes name) old mid name (Ok tt) × AreLoaded bytes names mid new
 
 -- a reader has these bytes left, where they are known
 abbrev pub Knows : Option (List ℕ) → Option (List ℕ) → Type 0
@@ -47,7 +47,7 @@ IsOfFile path (failure.Fault (fault.Data table column e)) = ⊥
 IsOfFile path failure.OutOfMemory = ⊤
 
 -- why rows that are read were not loaded: their first fault, or memory ran out
-abbrev pub IsRowFault : {A : Type 0} → Option (List ℕ) → List (Name × Contents) → Name → memory.Failure (Fault A) → Type 0
+abbrev pub IsRowFault : {A : Type 0} → Option (List ℕ) → List (Name × TableRows) → Name → memory.Failure (Fault A) → Type 0
 IsRowFault bytes contents name (failure.Fault (fault.Input path)) = ⊥
 IsRowFault bytes contents name (failure.Fault (fault.Schema e)) = ⊥
 IsRowFault bytes contents name (failure.Fault (fault.Data table column e)) =
@@ -55,18 +55,18 @@ IsRowFault bytes contents name (failure.Fault (fault.Data table column e)) =
 IsRowFault bytes contents name failure.OutOfMemory = ⊤
 
 -- why the rows of a table were not loaded: its file cannot be read, or a fault of its rows
-abbrev pub IsFaultOf : {A : Type 0} → List ℕ → Option (List ℕ) → List (Name × Contents) → Name → memory.Failure (Fault A) → Type 0
+abbrev pub IsFaultOf : {A : Type 0} → List ℕ → Option (List ℕ) → List (Name × TableRows) → Name → memory.Failure (Fault A) → Type 0
 IsFaultOf path bytes contents name f = IsOfFile path f ⊎ IsRowFault bytes contents name f
 
 -- the table at a place, in order of creation, has the rows of its file
-abbrev pub IsLoadedAt : (Name → Option (List ℕ)) → List (Name × Contents) → List (Name × Contents) → ℕ → Type 0
+abbrev pub IsLoadedAt : (Name → Option (List ℕ)) → List (Name × TableRows) → List (Name × TableRows) → ℕ → Type 0
 IsLoadedAt bytes old new place = (name : Name) × (slice_get (names_of old) place ≡ Some name) × IsLoadFrom (bytes name) old new name (Ok tt)
 
 -- the fault is that of the table at a place
-abbrev pub IsFaultAt : {A : Type 0} → (Name → List ℕ) → (Name → Option (List ℕ)) → List (Name × Contents) → ℕ → memory.Failure (Fault A) → Type 0
+abbrev pub IsFaultAt : {A : Type 0} → (Name → List ℕ) → (Name → Option (List ℕ)) → List (Name × TableRows) → ℕ → memory.Failure (Fault A) → Type 0
 IsFaultAt paths bytes old place f = (name : Name) × (slice_get (names_of old) place ≡ Some name) × IsFaultOf (paths name) (bytes name) old name f
 
 -- the tables before one were loaded, and this is the fault of that one
-abbrev pub StopsAtTable : {A : Type 0} → (Name → List ℕ) → (Name → Option (List ℕ)) → List (Name × Contents) → List (Name × Contents) → memory.Failure (Fault A) → Type 0
+abbrev pub StopsAtTable : {A : Type 0} → (Name → List ℕ) → (Name → Option (List ℕ)) → List (Name × TableRows) → List (Name × TableRows) → memory.Failure (Fault A) → Type 0
 StopsAtTable paths bytes old new f =
     (front : List Name) × (name : Name) × (rest : List Name) × (names_of old ≡ front ++ name ∷ rest) × AreLoaded bytes front old new × IsFaultOf (paths name) (bytes name) new name f

@@ -1,6 +1,6 @@
 -- The store that a schema text and the files of its tables make, or why there is none.
 use Rattle.std.specs.Prelude.{◌≡◌, ℕ, List, Option, Ok, Err, ⊤}
-use Rattle.tables.specs.Loading.{Contents}
+use Rattle.tables.specs.Loading.{TableRows}
 use Rattle.memory.specs.declared.failure.Failure as memory
 use Rattle.memory.specs.declared.failure.Failure.TheVariants as failure
 use Rattle.row_ast.specs.Ast.{Name}
@@ -23,7 +23,7 @@ schema_fault failure.OutOfMemory = failure.OutOfMemory
 
 -- the schema text makes tables, and this is the fault of the first whose rows are not loaded
 abbrev pub IsOfTable : {A : Type 0} → List ℕ → (Name → List ℕ) → (Name → Option (List ℕ)) → memory.Failure (Fault A) → Type 0
-IsOfTable schema paths bytes f = (empty : Database) × (loaded : List (Name × Contents)) × (schema_applied at_start schema ≡ Ok empty) × StopsAtTable paths bytes empty.tables loaded f
+IsOfTable schema paths bytes f = (empty : Database) × (loaded : List (Name × TableRows)) × (schema_applied at_start schema ≡ Ok empty) × StopsAtTable paths bytes empty.tables loaded f
 
 -- the fault is that of the schema text, or else that of a table; or memory ran out
 abbrev pub IsNotOpened : {A : Type 0} → List ℕ → (Name → List ℕ) → (Name → Option (List ℕ)) → memory.Failure (Fault A) → Type 0

@@ -13,7 +13,7 @@ use Rattle.tables.specs.declared.LoadError.{LoadError}
 use Rattle.tables.specs.declared.LoadError.TheVariants as error
 
 -- what a table holds
-pub record Contents : Type 0 where
+pub record TableRows : Type 0 where
   pub columns : List Column
   pub rows : List Row
 
@@ -105,5 +105,5 @@ abbrev pub rows_data : {A : Type 0} → List (List (Value A)) → List Row
 rows_data rs = map (λ r. row_of r) rs
 
 -- the value of a cell
-abbrev pub cell_at : Contents → ℕ → ℕ → Datum
+abbrev pub cell_at : TableRows → ℕ → ℕ → Datum
 cell_at t row column = get_or (get_or t.rows row []) column null

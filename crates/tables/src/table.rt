@@ -26,9 +26,9 @@ pub struct Table<A: Heap> {
 }
 
 impl<A: Heap> Model for Table<A> {
-    ghost use Rattle.tables.specs.Loading.{Contents};
+    ghost use Rattle.tables.specs.Loading.{TableRows};
 
-    ghost Value = { Contents };
+    ghost Value = { TableRows };
 
     ghost use Rattle.tables.specs.Holding.{contents_of, IsHeld};
 

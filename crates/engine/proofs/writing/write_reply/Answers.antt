@@ -3,7 +3,7 @@ use Rattle.std.specs.Io.KnownBytes.{Appends}
 use Rattle.report.specs.ReplyText.{reply_text}
 use Rattle.report.specs.View.{reply_of}
 use Rattle.engine.proofs.Statuses.{only_no_memory}
-use Rattle.engine.proofs.serving.write_reply.Goals as goal
+use Rattle.engine.proofs.writing.write_reply.Goals as goal
 
 pub returns-in-Ok-clause-memory : goal.returns-in-Ok-clause-memory
 returns-in-Ok-clause-memory g c = λ is.

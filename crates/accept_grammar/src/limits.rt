@@ -1,5 +1,6 @@
 //! Texts at the limits and one past them.
 
+use memory::Failure;
 use std::alloc::{AllocError, Global};
 use std::process::Abort;
 use std::test::Fail;
@@ -278,7 +279,7 @@ static RUNS: [Group; 6] = [
                 ("SELECT a", " FROM t FROM"),
                 (", a", "", ""),
                 64,
-                Some(Syntax(208)),
+                Some(Syntax { offset: 208 }),
             ),
         ],
     ),
@@ -291,14 +292,24 @@ static BYTES: [Group; 4] = [
         Parser::Query,
         &[
             (("SELECT ", " FROM t"), ("", NAME, ""), 0, None),
-            (("SELECT ", "x FROM t"), ("", NAME, ""), 0, Some(Syntax(7))),
+            (
+                ("SELECT ", "x FROM t"),
+                ("", NAME, ""),
+                0,
+                Some(Syntax { offset: 7 }),
+            ),
         ],
     ),
     (
         "at_most_65536_bytes",
         Parser::Query,
         &[
-            (("", ""), (" ", "", ""), 65_536, Some(Syntax(65_536))),
+            (
+                ("", ""),
+                (" ", "", ""),
+                65_536,
+                Some(Syntax { offset: 65_536 }),
+            ),
             (("", ""), (" ", "", ""), 65_537, PAST),
         ],
     ),
@@ -309,7 +320,12 @@ static BYTES: [Group; 4] = [
         &[
             (("CREATE ROLE a", ""), (" ", "", ""), 65_523, None),
             (("CREATE ROLE a", ""), (" ", "", ""), 65_524, PAST),
-            (("", ""), (" ", "", ""), 65_536, Some(Syntax(65_536))),
+            (
+                ("", ""),
+                (" ", "", ""),
+                65_536,
+                Some(Syntax { offset: 65_536 }),
+            ),
         ],
     ),
     // The 14 bytes of a schema and spaces after it.
@@ -330,31 +346,41 @@ static FIRST: [Group; 2] = [
         "a_token_with_both_faults_is_no_limit",
         Parser::Query,
         &[
-            (("SELECT ", "(2"), ("(", "1", ""), 64, Some(Syntax(72))),
+            (
+                ("SELECT ", "(2"),
+                ("(", "1", ""),
+                64,
+                Some(Syntax { offset: 72 }),
+            ),
             (
                 ("SELECT ", "NOT b"),
                 ("(", "a = ", ""),
                 64,
-                Some(Syntax(75)),
+                Some(Syntax { offset: 75 }),
             ),
             (
                 ("SELECT ", "CASE WHEN"),
                 ("(", "a.", ""),
                 64,
-                Some(Syntax(73)),
+                Some(Syntax { offset: 73 }),
             ),
             (
                 ("SELECT ", "CASE"),
                 ("(", "a IS NULL ", ""),
                 64,
-                Some(Syntax(81)),
+                Some(Syntax { offset: 81 }),
             ),
-            (("SELECT ", "(1)"), ("(", "f", ""), 64, Some(Syntax(72))),
+            (
+                ("SELECT ", "(1)"),
+                ("(", "f", ""),
+                64,
+                Some(Syntax { offset: 72 }),
+            ),
             (
                 ("SELECT ", "NOT b"),
                 ("(", "a BETWEEN ", ""),
                 64,
-                Some(Syntax(81)),
+                Some(Syntax { offset: 81 }),
             ),
         ],
     ),
@@ -369,13 +395,13 @@ static FIRST: [Group; 2] = [
                 ("SELECT a = b = c", ""),
                 ("(", "1", ""),
                 65,
-                Some(Syntax(13)),
+                Some(Syntax { offset: 13 }),
             ),
             (
                 ("SELECT a FROM ", ";"),
                 ("", "a", ", a"),
                 8,
-                Some(Syntax(39)),
+                Some(Syntax { offset: 39 }),
             ),
         ],
     ),
@@ -398,11 +424,23 @@ fn built(alloc: Global, row: &Row) -> Result<String, AllocError> {
     Ok(text)
 }
 
-fn refusal(alloc: Global, parser: &Parser, text: &str) -> Option<ParseError> {
+fn query_refusal(alloc: Global, text: &str) -> Option<Failure<ParseError>> {
+    parse_query(alloc, text).err()
+}
+
+fn statement_refusal(alloc: Global, text: &str) -> Option<Failure<ParseError>> {
+    parse_statement(alloc, text).err()
+}
+
+fn schema_refusal(alloc: Global, text: &str) -> Option<Failure<ParseError>> {
+    parse_schema(alloc, text).err()
+}
+
+fn refusal(alloc: Global, parser: &Parser, text: &str) -> Option<Failure<ParseError>> {
     match parser {
-        Parser::Query => parse_query(alloc, text).err(),
-        Parser::Statement => parse_statement(alloc, text).err(),
-        Parser::Schema => parse_schema(alloc, text).err(),
+        Parser::Query => query_refusal(alloc, text),
+        Parser::Statement => statement_refusal(alloc, text),
+        Parser::Schema => schema_refusal(alloc, text),
     }
 }
 
@@ -410,7 +448,8 @@ fn refused(rt: &(impl Abort + AllocGlobal), name: &str, parser: &Parser, row: &R
     match built(rt.alloc(), row) {
         Ok(text) => {
             let found = refusal(rt.alloc(), parser, text.as_str());
-            assert_eq!(rt; found, row.3, "{name}: {text}");
+            let want = row.3.map(|error| Failure::Fault(error));
+            assert_eq!(rt; found, want, "{name}: {text}");
         }
         Err(_) => panic!(rt; "{name}: out of memory"),
     }

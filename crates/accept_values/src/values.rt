@@ -1,11 +1,12 @@
 //! Values: arithmetic, logic of three values, comparison, and texts.
 
+use memory::Failure;
 use std::alloc::{AllocError, Global};
 use std::process::Abort;
 use std::test::Fail;
 use value::{
-    CastError, ColType, Kind, ReadError, Truth, Val, Value, add, and3, as_condition, cast, div,
-    eq3, lt3, mul, neg, not3, of_truth, or3, read_bigint, read_value, rem, sub, text_of,
+    ColType, FaultKind, Truth, Val, Value, add, and3, as_condition, cast, div, eq3, lt3, mul, neg,
+    not3, of_truth, or3, read_bigint, read_value, rem, sub, text_of,
 };
 
 // A value of a row.
@@ -41,7 +42,7 @@ enum Operation {
 use Operation::{Add, Div, Mul, Neg, Rem, Sub};
 
 // An operation, its operands, and its result; a Neg has one operand.
-type Computed = (Operation, Sample, Sample, Result<Option<i64>, Kind>);
+type Computed = (Operation, Sample, Sample, Result<Option<i64>, FaultKind>);
 
 const MOST: Sample = Int(i64::MAX);
 
@@ -52,15 +53,15 @@ static ARITHMETIC: [(&str, &[Computed]); 4] = [
         "sums_differences_and_products",
         &[
             (Add, Int(2), Int(-5), Ok(Some(-3))),
-            (Add, MOST, Int(1), Err(Kind::Range)),
-            (Add, LEAST, Int(-1), Err(Kind::Range)),
+            (Add, MOST, Int(1), Err(FaultKind::Range)),
+            (Add, LEAST, Int(-1), Err(FaultKind::Range)),
             (Sub, Int(2), Int(5), Ok(Some(-3))),
             (Sub, Int(-1), LEAST, Ok(Some(i64::MAX))),
-            (Sub, Int(0), LEAST, Err(Kind::Range)),
+            (Sub, Int(0), LEAST, Err(FaultKind::Range)),
             (Mul, Int(-7), Int(6), Ok(Some(-42))),
-            (Mul, LEAST, Int(-1), Err(Kind::Range)),
+            (Mul, LEAST, Int(-1), Err(FaultKind::Range)),
             (Neg, MOST, Null, Ok(Some(-9_223_372_036_854_775_807))),
-            (Neg, LEAST, Null, Err(Kind::Range)),
+            (Neg, LEAST, Null, Err(FaultKind::Range)),
         ],
     ),
     // The quotient and the remainder of each pair.
@@ -86,11 +87,11 @@ static ARITHMETIC: [(&str, &[Computed]); 4] = [
     (
         "least_by_minus_one_and_division_by_zero",
         &[
-            (Div, LEAST, Int(-1), Err(Kind::Range)),
+            (Div, LEAST, Int(-1), Err(FaultKind::Range)),
             (Rem, LEAST, Int(-1), Ok(Some(0))),
-            (Div, Int(1), Int(0), Err(Kind::Div0)),
-            (Rem, Int(1), Int(0), Err(Kind::Div0)),
-            (Div, Int(0), Int(0), Err(Kind::Div0)),
+            (Div, Int(1), Int(0), Err(FaultKind::Div0)),
+            (Rem, Int(1), Int(0), Err(FaultKind::Div0)),
+            (Div, Int(0), Int(0), Err(FaultKind::Div0)),
         ],
     ),
     (
@@ -115,7 +116,7 @@ fn computed<'r>(
     operation: Operation,
     a: &Val<'_, Global>,
     b: &Val<'_, Global>,
-) -> Result<Val<'r, Global>, Kind> {
+) -> Result<Val<'r, Global>, FaultKind> {
     match operation {
         Add => add(a, b),
         Sub => sub(a, b),
@@ -238,47 +239,47 @@ fn truth_tables_conditions_and_comparisons(rt: HostRuntime) {
 
 // ---- texts
 
-static BIGINTS: [(&str, Result<i64, Kind>); 12] = [
-    ("-0", Err(Kind::BadText)),
-    ("007", Err(Kind::BadText)),
-    ("+1", Err(Kind::BadText)),
-    ("", Err(Kind::BadText)),
-    ("-", Err(Kind::BadText)),
-    (" 1", Err(Kind::BadText)),
+static BIGINTS: [(&str, Result<i64, FaultKind>); 12] = [
+    ("-0", Err(FaultKind::BadText)),
+    ("007", Err(FaultKind::BadText)),
+    ("+1", Err(FaultKind::BadText)),
+    ("", Err(FaultKind::BadText)),
+    ("-", Err(FaultKind::BadText)),
+    (" 1", Err(FaultKind::BadText)),
     ("0", Ok(0)),
     ("-1", Ok(-1)),
     ("9223372036854775807", Ok(i64::MAX)),
-    ("9223372036854775808", Err(Kind::Range)),
+    ("9223372036854775808", Err(FaultKind::Range)),
     ("-9223372036854775808", Ok(i64::MIN)),
-    ("-9223372036854775809", Err(Kind::Range)),
+    ("-9223372036854775809", Err(FaultKind::Range)),
 ];
 
-fn bigints() -> &'static [(&'static str, Result<i64, Kind>)] {
+fn bigints() -> &'static [(&'static str, Result<i64, FaultKind>)] {
     &BIGINTS
 }
 
-static BOOLEANS: [(&str, Result<bool, Kind>); 7] = [
+static BOOLEANS: [(&str, Result<bool, FaultKind>); 7] = [
     ("t", Ok(true)),
     ("f", Ok(false)),
-    ("T", Err(Kind::BadText)),
-    ("F", Err(Kind::BadText)),
-    ("true", Err(Kind::BadText)),
-    ("", Err(Kind::BadText)),
-    ("0", Err(Kind::BadText)),
+    ("T", Err(FaultKind::BadText)),
+    ("F", Err(FaultKind::BadText)),
+    ("true", Err(FaultKind::BadText)),
+    ("", Err(FaultKind::BadText)),
+    ("0", Err(FaultKind::BadText)),
 ];
 
-fn booleans() -> &'static [(&'static str, Result<bool, Kind>)] {
+fn booleans() -> &'static [(&'static str, Result<bool, FaultKind>)] {
     &BOOLEANS
 }
 
-fn is_boolean(rt: &(impl Abort + AllocGlobal), text: &str, want: Result<bool, Kind>) {
+fn is_boolean(rt: &(impl Abort + AllocGlobal), text: &str, want: Result<bool, FaultKind>) {
     match read_value(rt.alloc(), ColType::Boolean, text) {
         Ok(Value::Bool(found)) => assert_eq!(rt; Ok(found), want, "texts_of_booleans: {text}"),
         Ok(_) => panic!(rt; "texts_of_booleans: {text}: no boolean"),
-        Err(ReadError::Kind(kind)) => {
+        Err(Failure::Fault(kind)) => {
             assert_eq!(rt; Err(kind), want, "texts_of_booleans: {text}");
         }
-        Err(ReadError::Memory) => panic!(rt; "texts_of_booleans: {text}: out of memory"),
+        Err(Failure::OutOfMemory) => panic!(rt; "texts_of_booleans: {text}: out of memory"),
     }
 }
 
@@ -349,7 +350,7 @@ fn casts(rt: &(impl Abort + AllocGlobal)) -> Result<(), AllocError> {
     let found = cast(alloc, ColType::Bigint, wrong.as_val());
     assert_eq!(rt;
         found.err(),
-        Some(CastError::Kind(Kind::BadText)),
+        Some(Failure::Fault(FaultKind::BadText)),
         "casts: 012"
     );
     assert!(rt;
@@ -360,9 +361,9 @@ fn casts(rt: &(impl Abort + AllocGlobal)) -> Result<(), AllocError> {
 }
 
 fn faults_are_reported_by_code(rt: &impl Abort) {
-    assert_eq!(rt; Kind::Div0.code(), "22012");
-    assert_eq!(rt; Kind::Range.code(), "22003");
-    assert_eq!(rt; Kind::BadText.code(), "22P02");
+    assert_eq!(rt; FaultKind::Div0.code(), "22012");
+    assert_eq!(rt; FaultKind::Range.code(), "22003");
+    assert_eq!(rt; FaultKind::BadText.code(), "22P02");
 }
 
 #[test]

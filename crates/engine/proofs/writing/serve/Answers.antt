@@ -2,7 +2,7 @@ use Rattle.std.proofs.Common.{subst}
 use Rattle.engine.specs.Database.{rows_of}
 use Rattle.engine.specs.Serving.{IsWhole}
 use Rattle.engine.proofs.HiddenRows.{same_reply}
-use Rattle.engine.proofs.serving.serve.Goals as goal
+use Rattle.engine.proofs.writing.serve.Goals as goal
 
 pub returns-clause-hidden : goal.returns-clause-hidden
 returns-clause-hidden g c = λ other same no_memory no_failure.

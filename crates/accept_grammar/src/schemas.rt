@@ -1,13 +1,13 @@
 //! Schema texts, and the statements that they are or where they are refused.
 
-use crate::shown::{Printer, show_statement};
+use fixtures::{Printer, show_statement};
+use memory::Failure;
 use std::alloc::Global;
 use std::process::Abort;
-use syntax::ParseError::Syntax;
 use syntax::{ParseError, parse_schema, parse_statement};
 
 // A text, and its statements or the byte at which it is refused.
-type Row = (&'static str, Result<&'static str, ParseError>);
+type Row = (&'static str, Result<&'static str, u32>);
 
 // Roles.
 static ROLES: [Row; 18] = [
@@ -23,18 +23,18 @@ static ROLES: [Row; 18] = [
         Ok("CREATE ROLE superuser BYPASSRLS"),
     ),
     ("CREATE ROLE public", Ok("CREATE ROLE public")),
-    ("CREATE ROLE a BYPASSRLS SUPERUSER", Err(Syntax(24))),
-    ("CREATE ROLE a SUPERUSER SUPERUSER", Err(Syntax(24))),
-    ("CREATE ROLE select", Err(Syntax(12))),
-    ("CREATE ROLE", Err(Syntax(11))),
-    ("CREATE ROLE a, b", Err(Syntax(13))),
+    ("CREATE ROLE a BYPASSRLS SUPERUSER", Err(24)),
+    ("CREATE ROLE a SUPERUSER SUPERUSER", Err(24)),
+    ("CREATE ROLE select", Err(12)),
+    ("CREATE ROLE", Err(11)),
+    ("CREATE ROLE a, b", Err(13)),
     ("GRANT g TO m", Ok("GRANT g TO m")),
     ("GRANT role TO PUBLIC", Ok("GRANT role TO public")),
-    ("GRANT g TO m, n", Err(Syntax(12))),
-    ("GRANT g, h TO m", Err(Syntax(7))),
-    ("GRANT g FROM m", Err(Syntax(8))),
+    ("GRANT g TO m, n", Err(12)),
+    ("GRANT g, h TO m", Err(7)),
+    ("GRANT g FROM m", Err(8)),
     ("REVOKE g FROM m", Ok("REVOKE g FROM m")),
-    ("REVOKE g TO m", Err(Syntax(9))),
+    ("REVOKE g TO m", Err(9)),
 ];
 
 // Tables and indexes.
@@ -48,23 +48,23 @@ static TABLES: [Row; 17] = [
         "CREATE TABLE table (text text, bigint boolean)",
         Ok("CREATE TABLE table (text text, bigint boolean)"),
     ),
-    ("CREATE TABLE t ()", Err(Syntax(16))),
-    ("CREATE TABLE t (a int)", Err(Syntax(18))),
-    ("CREATE TABLE t (a bigint NULL)", Err(Syntax(25))),
-    ("CREATE TABLE t (a bigint NOT)", Err(Syntax(28))),
-    ("CREATE TABLE t (a bigint,)", Err(Syntax(25))),
-    ("CREATE TABLE t (a, b text)", Err(Syntax(17))),
-    ("CREATE TABLE t a bigint", Err(Syntax(15))),
-    ("CREATE TABLE t (a bigint", Err(Syntax(24))),
-    ("CREATE VIEW v", Err(Syntax(7))),
+    ("CREATE TABLE t ()", Err(16)),
+    ("CREATE TABLE t (a int)", Err(18)),
+    ("CREATE TABLE t (a bigint NULL)", Err(25)),
+    ("CREATE TABLE t (a bigint NOT)", Err(28)),
+    ("CREATE TABLE t (a bigint,)", Err(25)),
+    ("CREATE TABLE t (a, b text)", Err(17)),
+    ("CREATE TABLE t a bigint", Err(15)),
+    ("CREATE TABLE t (a bigint", Err(24)),
+    ("CREATE VIEW v", Err(7)),
     ("CREATE INDEX i ON t (c)", Ok("CREATE INDEX i ON t (c)")),
     (
         "create index index on index ( index )",
         Ok("CREATE INDEX index ON index (index)"),
     ),
-    ("CREATE INDEX i ON t (c, d)", Err(Syntax(22))),
-    ("CREATE INDEX ON t (c)", Err(Syntax(13))),
-    ("CREATE INDEX i ON t", Err(Syntax(19))),
+    ("CREATE INDEX i ON t (c, d)", Err(22)),
+    ("CREATE INDEX ON t (c)", Err(13)),
+    ("CREATE INDEX i ON t", Err(19)),
 ];
 
 // ALTER TABLE.
@@ -90,16 +90,13 @@ static ALTERED: [Row; 13] = [
         "ALTER TABLE no NO FORCE row level security",
         Ok("ALTER TABLE no NO FORCE"),
     ),
-    (
-        "ALTER TABLE t NO ENABLE ROW LEVEL SECURITY",
-        Err(Syntax(17)),
-    ),
-    ("ALTER TABLE t ENABLE ROW SECURITY", Err(Syntax(25))),
-    ("ALTER TABLE t ENABLE", Err(Syntax(20))),
-    ("ALTER TABLE t ROW LEVEL SECURITY", Err(Syntax(14))),
-    ("ALTER TABLE t OWNER r", Err(Syntax(20))),
-    ("ALTER TABLE t RENAME TO u", Err(Syntax(14))),
-    ("ALTER ROLE r", Err(Syntax(6))),
+    ("ALTER TABLE t NO ENABLE ROW LEVEL SECURITY", Err(17)),
+    ("ALTER TABLE t ENABLE ROW SECURITY", Err(25)),
+    ("ALTER TABLE t ENABLE", Err(20)),
+    ("ALTER TABLE t ROW LEVEL SECURITY", Err(14)),
+    ("ALTER TABLE t OWNER r", Err(20)),
+    ("ALTER TABLE t RENAME TO u", Err(14)),
+    ("ALTER ROLE r", Err(6)),
 ];
 
 // GRANT SELECT and REVOKE SELECT.
@@ -117,13 +114,13 @@ static GRANTS: [Row; 15] = [
         "GRANT SELECT ON t TO alice, Public, bob",
         Ok("GRANT SELECT ON t TO alice, public, bob"),
     ),
-    ("GRANT SELECT () ON t TO r", Err(Syntax(14))),
-    ("GRANT SELECT (a,) ON t TO r", Err(Syntax(16))),
-    ("GRANT SELECT TO m", Err(Syntax(13))),
-    ("GRANT SELECT ON t FROM r", Err(Syntax(18))),
-    ("GRANT SELECT ON t TO", Err(Syntax(20))),
-    ("GRANT SELECT ON t, u TO r", Err(Syntax(17))),
-    ("GRANT SELECT, INSERT ON t TO r", Err(Syntax(12))),
+    ("GRANT SELECT () ON t TO r", Err(14)),
+    ("GRANT SELECT (a,) ON t TO r", Err(16)),
+    ("GRANT SELECT TO m", Err(13)),
+    ("GRANT SELECT ON t FROM r", Err(18)),
+    ("GRANT SELECT ON t TO", Err(20)),
+    ("GRANT SELECT ON t, u TO r", Err(17)),
+    ("GRANT SELECT, INSERT ON t TO r", Err(12)),
     (
         "REVOKE SELECT ON t FROM PUBLIC",
         Ok("REVOKE SELECT ON t FROM public"),
@@ -132,8 +129,8 @@ static GRANTS: [Row; 15] = [
         "REVOKE SELECT (a, b) ON t FROM r, p",
         Ok("REVOKE SELECT (a, b) ON t FROM r, p"),
     ),
-    ("REVOKE SELECT ON t TO r", Err(Syntax(19))),
-    ("REVOKE SELECT FROM t", Err(Syntax(14))),
+    ("REVOKE SELECT ON t TO r", Err(19)),
+    ("REVOKE SELECT FROM t", Err(14)),
 ];
 
 // Policies.
@@ -158,43 +155,37 @@ static POLICIES: [Row; 20] = [
         "CREATE POLICY p ON t TO q USING ((a OR b) OR NOT count(*) IN (1))",
         Ok("CREATE POLICY p ON t PERMISSIVE TO q USING OR[a, b, (NOT (count(*) IN [1]))]"),
     ),
-    ("CREATE POLICY p ON t FOR UPDATE USING (a)", Err(Syntax(25))),
+    ("CREATE POLICY p ON t FOR UPDATE USING (a)", Err(25)),
     (
         "CREATE POLICY p ON t FOR ALL AS RESTRICTIVE USING (a)",
-        Err(Syntax(29)),
+        Err(29),
     ),
-    (
-        "CREATE POLICY p ON t TO r FOR ALL USING (a)",
-        Err(Syntax(26)),
-    ),
-    ("CREATE POLICY p ON t AS strict USING (a)", Err(Syntax(24))),
-    ("CREATE POLICY p ON t USING a", Err(Syntax(27))),
-    ("CREATE POLICY p ON t USING ()", Err(Syntax(28))),
-    ("CREATE POLICY p ON t USING (a", Err(Syntax(29))),
-    (
-        "CREATE POLICY p ON t USING (a) WITH CHECK (a)",
-        Err(Syntax(31)),
-    ),
-    ("CREATE POLICY p ON t", Err(Syntax(20))),
-    ("CREATE POLICY p USING (a)", Err(Syntax(16))),
+    ("CREATE POLICY p ON t TO r FOR ALL USING (a)", Err(26)),
+    ("CREATE POLICY p ON t AS strict USING (a)", Err(24)),
+    ("CREATE POLICY p ON t USING a", Err(27)),
+    ("CREATE POLICY p ON t USING ()", Err(28)),
+    ("CREATE POLICY p ON t USING (a", Err(29)),
+    ("CREATE POLICY p ON t USING (a) WITH CHECK (a)", Err(31)),
+    ("CREATE POLICY p ON t", Err(20)),
+    ("CREATE POLICY p USING (a)", Err(16)),
     (
         "CREATE POLICY p ON t USING (a = 9223372036854775808)",
-        Err(Syntax(32)),
+        Err(32),
     ),
-    ("CREATE POLICY p ON t USING (a = '\\N')", Err(Syntax(32))),
+    ("CREATE POLICY p ON t USING (a = '\\N')", Err(32)),
     ("DROP POLICY p ON t", Ok("DROP POLICY p ON t")),
-    ("DROP POLICY p", Err(Syntax(13))),
-    ("DROP TABLE t", Err(Syntax(5))),
+    ("DROP POLICY p", Err(13)),
+    ("DROP TABLE t", Err(5)),
 ];
 
 // A statement alone has no semicolon.
 static ENDS: [Row; 6] = [
-    ("CREATE ROLE a;", Err(Syntax(13))),
-    ("", Err(Syntax(0))),
-    (";", Err(Syntax(0))),
-    ("SELECT a FROM t", Err(Syntax(0))),
-    ("INSERT INTO t", Err(Syntax(0))),
-    ("CREATE ROLE a -- b", Err(Syntax(14))),
+    ("CREATE ROLE a;", Err(13)),
+    ("", Err(0)),
+    (";", Err(0)),
+    ("SELECT a FROM t", Err(0)),
+    ("INSERT INTO t", Err(0)),
+    ("CREATE ROLE a -- b", Err(14)),
 ];
 
 // Schemas, each statement of the tree followed by a semicolon.
@@ -206,33 +197,26 @@ static SCHEMAS: [Row; 12] = [
         "CREATE ROLE a; GRANT a TO b ;\nDROP POLICY p ON t;",
         Ok("CREATE ROLE a;GRANT a TO b;DROP POLICY p ON t;"),
     ),
-    ("CREATE ROLE a", Err(Syntax(13))),
-    ("CREATE ROLE a; CREATE ROLE b", Err(Syntax(28))),
-    ("CREATE ROLE a CREATE ROLE b;", Err(Syntax(14))),
-    (";", Err(Syntax(0))),
-    ("CREATE ROLE a;;", Err(Syntax(14))),
-    ("CREATE ROLE a; -- more", Err(Syntax(15))),
-    ("CREATE ROLE a; SELECT a FROM t;", Err(Syntax(15))),
-    ("CREATE", Err(Syntax(6))),
+    ("CREATE ROLE a", Err(13)),
+    ("CREATE ROLE a; CREATE ROLE b", Err(28)),
+    ("CREATE ROLE a CREATE ROLE b;", Err(14)),
+    (";", Err(0)),
+    ("CREATE ROLE a;;", Err(14)),
+    ("CREATE ROLE a; -- more", Err(15)),
+    ("CREATE ROLE a; SELECT a FROM t;", Err(15)),
+    ("CREATE", Err(6)),
 ];
 
-fn empty(alloc: Global) -> Printer {
-    Printer {
-        text: String::new(alloc),
-        placed: false,
-    }
-}
-
-fn shown_statement(alloc: Global, text: &str) -> Result<String, ParseError> {
+fn shown_statement(alloc: Global, text: &str) -> Result<String, Failure<ParseError>> {
     let statement = parse_statement(alloc, text)?;
-    let mut out = empty(alloc);
+    let mut out = Printer::new(alloc, false);
     show_statement(&statement, &mut out)?;
     Ok(out.text)
 }
 
-fn shown_schema(alloc: Global, text: &str) -> Result<String, ParseError> {
+fn shown_schema(alloc: Global, text: &str) -> Result<String, Failure<ParseError>> {
     let statements = parse_schema(alloc, text)?;
-    let mut out = empty(alloc);
+    let mut out = Printer::new(alloc, false);
     for statement in statements.as_slice() {
         show_statement(statement, &mut out)?;
         out.text.push(';')?;
@@ -242,14 +226,17 @@ fn shown_schema(alloc: Global, text: &str) -> Result<String, ParseError> {
 
 fn is_shown(
     rt: &impl Abort,
-    found: Result<String, ParseError>,
-    want: Result<&str, ParseError>,
+    found: Result<String, Failure<ParseError>>,
+    want: Result<&str, u32>,
     row: (&str, &str),
 ) {
     let (name, text) = row;
     match found {
         Ok(found) => assert_eq!(rt; Ok(found.as_str()), want, "{name}: {text}"),
-        Err(error) => assert_eq!(rt; Err(error), want, "{name}: {text}"),
+        Err(Failure::Fault(ParseError::Syntax { offset })) => {
+            assert_eq!(rt; Err(offset), want, "{name}: {text}");
+        }
+        Err(error) => panic!(rt; "{name}: {text}: {error:?}"),
     }
 }
 

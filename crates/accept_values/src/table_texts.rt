@@ -1,90 +1,13 @@
 //! Tables that are read from comma-separated text, and how they are refused.
 
-ghost use Rattle.std.specs.Prelude.{◌<◌, length};
-
-use memory::Heap;
-use metered::Metered;
+use crate::deals::{DEAL, DEAL_ROWS, load, loaded, shows};
+use fixtures::in_pieces;
+use memory::Failure;
 use std::alloc::{AllocError, Global};
-use std::io;
-use std::io::{ErrorKind, Read};
+use std::io::Read;
 use std::process::Abort;
 use std::test::Fail;
-use tables::{Column, LoadError, Table};
-use text::{Items, Text};
-use value::{ColType, Val};
-
-/// Five deals: numbers, texts, truth values and nulls.
-const DEAL: &str =
-    "id,owner,region,parts,open\n1,alice,1,4,t\n2,alice,2,0,f\n3,bob,1,7,t\n4,bob,2,\\N,\\N\n5,alice,\\N,5,f\n";
-
-/// The same deals, as `shown` writes them.
-const DEAL_ROWS: &str =
-    "1;'alice';1;4;t;/2;'alice';2;0;f;/3;'bob';1;7;t;/4;'bob';2;null;null;/5;'alice';null;5;f;/";
-
-fn deal_columns<A: Heap>(alloc: A) -> Result<Items<Column<A>, A>, AllocError> {
-    let mut columns = Items::new(alloc);
-    let rows = [
-        ("id", ColType::Bigint, true),
-        ("owner", ColType::Text, true),
-        ("region", ColType::Bigint, false),
-        ("parts", ColType::Bigint, false),
-        ("open", ColType::Boolean, false),
-    ];
-    for (name, kind, required) in rows {
-        let name = Text::new(alloc, name)?;
-        columns.push(Column {
-            name,
-            kind,
-            required,
-        })?;
-    }
-    Ok(columns)
-}
-
-fn load<A: Heap, R: Read + Drop>(alloc: A, rdr: R) -> Result<Table<A>, LoadError> {
-    Table::load(alloc, rdr, deal_columns(alloc)?)
-}
-
-fn loaded(rt: &(impl Abort + AllocGlobal), text: &str) -> Table<Global> {
-    match load(rt.alloc(), text.as_bytes()) {
-        Ok(table) => table,
-        Err(error) => panic!(rt; "{text}: {error:?}"),
-    }
-}
-
-fn shown_value<A: Heap>(alloc: Global, value: &Val<'_, A>) -> Result<String, AllocError> {
-    match value {
-        Val::Null => format!(in alloc; "null;"),
-        Val::Int(n) => format!(in alloc; "{n};"),
-        Val::Text(text) => format!(in alloc; "'{}';", text.as_str()),
-        Val::Bool(true) => format!(in alloc; "t;"),
-        Val::Bool(false) => format!(in alloc; "f;"),
-    }
-}
-
-fn show_row<A: Heap>(
-    alloc: Global,
-    text: &mut String,
-    table: &Table<A>,
-    row: u64,
-) -> Result<(), AllocError>
-    requires { row < length table.now.rows }
-{
-    for column in 0..table.columns().len() {
-        text.push_str(shown_value(alloc, &table.cell(row, column as u64))?.as_str())?;
-    }
-    text.push('/')?;
-    Ok(())
-}
-
-// The rows of a table in one text.
-fn shown<A: Heap>(alloc: Global, table: &Table<A>) -> Result<String, AllocError> {
-    let mut text = String::new(alloc);
-    for row in 0..table.rows() {
-        show_row(alloc, &mut text, table, row)?;
-    }
-    Ok(text)
-}
+use tables::{LoadError, Table};
 
 // A name, a text before each row and one after it, and the rows with the fault of the whole.
 type Group = (
@@ -271,7 +194,7 @@ fn is_refused(
     let (before, row, after) = parts;
     let text = format!(in rt.alloc(); "{before}{row}{after}")?;
     let found = load(rt.alloc(), text.as_str().as_bytes()).err();
-    assert_eq!(rt; found, Some(want), "{name}: {text}");
+    assert_eq!(rt; found, Some(Failure::Fault(want)), "{name}: {text}");
     Ok(())
 }
 
@@ -286,7 +209,8 @@ fn are_refused(rt: &(impl Abort + AllocGlobal), group: &Group) -> Result<(), All
 fn bytes_of_no_text_are_reported(rt: &(impl Abort + AllocGlobal)) {
     for (bytes, want) in no_texts() {
         let found = load(rt.alloc(), *bytes).err();
-        assert_eq!(rt; found, Some(*want), "bytes_of_no_text_are_reported");
+        let want = Some(Failure::Fault(*want));
+        assert_eq!(rt; found, want, "bytes_of_no_text_are_reported");
     }
 }
 
@@ -299,65 +223,19 @@ fn refused_texts_of_tables(rt: HostRuntime) -> Result<(), Fail> {
     Ok(())
 }
 
-/// Gives at most `step` bytes a call, and fails once `left` calls are over.
-#[derive(Drop)]
-struct Pieces<'a> {
-    bytes: &'a [u8],
-    step: usize,
-    left: u64,
-}
-
-impl Read for Pieces<'_> {
-    fn read(&mut self, buf: &mut [u8]) -> io::Result<usize> {
-        if self.left == 0 {
-            return Err(io::Error::from(ErrorKind::Other));
-        }
-        self.left -= 1;
-        let n = self.bytes.len().min(buf.len()).min(self.step);
-        buf[..n].copy_from_slice(&self.bytes[..n]);
-        self.bytes = &self.bytes[n..];
-        Ok(n)
-    }
-}
-
-fn in_pieces(text: &str, step: usize, left: u64) -> Pieces<'_> {
-    Pieces {
-        bytes: text.as_bytes(),
-        step,
-        left,
-    }
-}
-
 // A reader gives a text, of which the rows are shown.
-fn gives<R: Read + Drop>(
-    rt: &(impl Abort + AllocGlobal),
-    name: &str,
-    reader: R,
-    want: &str,
-) -> Result<(), AllocError> {
+fn gives<R: Read + Drop>(rt: &(impl Abort + AllocGlobal), name: &str, reader: R, want: &str) {
     match load(rt.alloc(), reader) {
-        Ok(table) => {
-            assert_eq!(rt; shown(rt.alloc(), &table)?.as_str(), want, "{name}");
-            Ok(())
-        }
+        Ok(table) => shows(rt, &table, want, name),
         Err(error) => panic!(rt; "{name}: {want}: {error:?}"),
     }
 }
 
-fn rows_do_not_depend_on_pieces(
-    rt: &(impl Abort + AllocGlobal),
-    text: &str,
-    want: &str,
-) -> Result<(), AllocError> {
+fn rows_do_not_depend_on_pieces(rt: &(impl Abort + AllocGlobal), text: &str, want: &str) {
+    let name = "rows_do_not_depend_on_pieces";
     for step in [1usize, 2, 3, 5] {
-        gives(
-            rt,
-            "rows_do_not_depend_on_pieces",
-            in_pieces(text, step, 1000),
-            want,
-        )?;
+        gives(rt, name, in_pieces(text, step, 1000), want);
     }
-    Ok(())
 }
 
 fn cells_by_their_place(rt: &(impl Abort + AllocGlobal)) {
@@ -374,13 +252,12 @@ fn cells_by_their_place(rt: &(impl Abort + AllocGlobal)) {
 }
 
 #[test]
-fn rows_of_texts_whole_and_in_pieces(rt: HostRuntime) -> Result<(), Fail> {
+fn rows_of_texts_whole_and_in_pieces(rt: HostRuntime) {
     for (text, want) in good() {
-        gives(&rt, "rows_of_texts", text.as_bytes(), want)?;
-        rows_do_not_depend_on_pieces(&rt, text, want)?;
+        gives(&rt, "rows_of_texts", text.as_bytes(), want);
+        rows_do_not_depend_on_pieces(&rt, text, want);
     }
     cells_by_their_place(&rt);
-    Ok(())
 }
 
 // How many lines end among the first bytes of a text.
@@ -394,37 +271,49 @@ fn lines_in(text: &str, bytes: u64) -> u64 {
     lines
 }
 
+// A load of which so many bytes are read: a failed read is reported at its row, or the table is whole.
+fn loads_after(rt: &(impl Abort + AllocGlobal), left: u64) -> bool {
+    match load(rt.alloc(), in_pieces(DEAL, 1, left)) {
+        Ok(_) => true,
+        Err(error) => {
+            let row = lines_in(DEAL, left);
+            let want = Failure::Fault(LoadError::Reader { row });
+            assert_eq!(rt; error, want, "at {left}");
+            false
+        }
+    }
+}
+
 fn failed_read_gives_no_table(rt: &(impl Abort + AllocGlobal)) {
     let mut refused = 0u64;
     for left in 0..1000u64 {
-        match load(rt.alloc(), in_pieces(DEAL, 1, left)) {
-            Ok(_) => break,
-            Err(error) => {
-                let row = lines_in(DEAL, left);
-                assert_eq!(rt; error, LoadError::Reader { row }, "at {left}");
-            }
+        if loads_after(rt, left) {
+            break;
         }
         refused = left;
     }
     assert_eq!(rt; refused, DEAL.len() as u64);
 }
 
-fn failed_read_adds_no_rows(rt: &(impl Abort + AllocGlobal)) -> Result<(), AllocError> {
+fn failed_append(rt: &(impl Abort + AllocGlobal), table: &mut Table<Global>, left: u64) {
+    let found = table.append(in_pieces(DEAL, 1, left)).err();
+    let row = lines_in(DEAL, left);
+    let want = Some(Failure::Fault(LoadError::Reader { row }));
+    assert_eq!(rt; found, want, "at {left}");
+    shows(rt, table, DEAL_ROWS, "failed_read_adds_no_rows");
+}
+
+fn failed_read_adds_no_rows(rt: &(impl Abort + AllocGlobal)) {
     let mut table = loaded(rt, DEAL);
     for left in 0..80u64 {
-        let found = table.append(in_pieces(DEAL, 1, left)).err();
-        let row = lines_in(DEAL, left);
-        assert_eq!(rt; found, Some(LoadError::Reader { row }), "at {left}");
-        assert_eq!(rt; shown(rt.alloc(), &table)?.as_str(), DEAL_ROWS);
+        failed_append(rt, &mut table, left);
     }
-    Ok(())
 }
 
 #[test]
-fn failed_reads_add_nothing(rt: HostRuntime) -> Result<(), Fail> {
+fn failed_reads_add_nothing(rt: HostRuntime) {
     failed_read_gives_no_table(&rt);
-    failed_read_adds_no_rows(&rt)?;
-    Ok(())
+    failed_read_adds_no_rows(&rt);
 }
 
 // Texts that are refused for a table of deals.
@@ -439,78 +328,28 @@ fn more_refused() -> &'static [&'static str] {
 }
 
 // A table that refuses texts shows its rows as before.
-fn adds_nothing(
-    rt: &(impl Abort + AllocGlobal),
-    table: &mut Table<Global>,
-    want: &str,
-) -> Result<(), AllocError> {
+fn adds_nothing(rt: &(impl Abort + AllocGlobal), table: &mut Table<Global>, want: &str) {
     for text in more_refused() {
         assert!(rt; table.append(text.as_bytes()).is_err(), "{text}");
-        assert_eq!(rt; shown(rt.alloc(), table)?.as_str(), want, "{text}");
+        shows(rt, table, want, text);
     }
-    Ok(())
 }
 
-// rows_come_to_those_before
-#[test]
-fn appended_rows_come_after_those_before(rt: HostRuntime) -> Result<(), Fail> {
-    let alloc = rt.alloc();
-    let mut table = loaded(&rt, DEAL);
+fn appends(rt: &(impl Abort + AllocGlobal), want: &str) {
+    let mut table = loaded(rt, DEAL);
     let more = "id,owner,region,parts,open\n6,carol,1,1,t\n";
     assert_eq!(rt; table.append(more.as_bytes()), Ok(()));
-    let want = format!(in alloc; "{DEAL_ROWS}6;'carol';1;1;t;/")?;
-    assert_eq!(rt; shown(alloc, &table)?.as_str(), want.as_str());
-    adds_nothing(&rt, &mut table, want.as_str())?;
+    shows(rt, &table, want, more);
+    adds_nothing(rt, &mut table, want);
     let found = table.append("id,owner,region,parts,open\n7\n".as_bytes());
-    assert_eq!(rt; found, Err(LoadError::Reader { row: 1 }));
+    let want = Err(Failure::Fault(LoadError::Reader { row: 1 }));
+    assert_eq!(rt; found, want);
     assert_eq!(rt; table.rows(), 6);
-    Ok(())
 }
 
-/// A load, with each request for memory refused in turn.
-pub fn load_or_refusal_of_memory(rt: &(impl Abort + AllocGlobal)) -> Result<(), AllocError> {
-    let mut refused = 0u64;
-    for nth in 1..1000u64 {
-        let heap = Metered::refusing(rt.alloc(), nth);
-        match load(&heap, DEAL.as_bytes()) {
-            Ok(table) => {
-                assert_eq!(rt; shown(rt.alloc(), &table)?.as_str(), DEAL_ROWS, "at {nth}");
-                assert!(rt; heap.requests(nth) < nth, "at {nth}");
-                break;
-            }
-            Err(error) => assert_eq!(rt; error, LoadError::OutOfMemory, "at {nth}"),
-        }
-        refused = nth;
-    }
-    assert!(rt; refused > 10, "{refused}");
-    assert!(rt; refused < 900, "{refused}");
-    Ok(())
-}
-
-/// An append, with each request for memory refused in turn.
-pub fn append_or_refusal_of_memory(rt: &(impl Abort + AllocGlobal)) -> Result<(), AllocError> {
-    let twice = format!(in rt.alloc(); "{DEAL_ROWS}{DEAL_ROWS}")?;
-    let counting = Metered::counting(rt.alloc());
-    assert!(rt; load(&counting, DEAL.as_bytes()).is_ok());
-    let built = counting.requests(0);
-    let mut refused = 0u64;
-    for n in 1..1000u64 {
-        let nth = built.saturating_add(n);
-        let heap = Metered::refusing(rt.alloc(), nth);
-        let Ok(mut table) = load(&heap, DEAL.as_bytes()) else {
-            panic!(rt; "loaded with fewer requests before");
-        };
-        let done = table.append(DEAL.as_bytes());
-        let rows = shown(rt.alloc(), &table)?;
-        if heap.requests(nth) < nth {
-            assert_eq!(rt; done, Ok(()), "at {n}");
-            assert_eq!(rt; rows.as_str(), twice.as_str(), "at {n}");
-            break;
-        }
-        assert_eq!(rt; done, Err(LoadError::OutOfMemory), "at {n}");
-        assert_eq!(rt; rows.as_str(), DEAL_ROWS, "at {n}");
-        refused = n;
-    }
-    assert!(rt; refused > 10, "{refused}");
+#[test]
+fn appended_rows_come_after_those_before(rt: HostRuntime) -> Result<(), Fail> {
+    let want = format!(in rt.alloc(); "{DEAL_ROWS}6;'carol';1;1;t;/")?;
+    appends(&rt, want.as_str());
     Ok(())
 }

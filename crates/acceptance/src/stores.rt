@@ -1,8 +1,8 @@
-//! The store of the worked rows, and what several modules make.
+//! The store of the worked rows, and how stores are made.
 
-use engine::{Store, StoreError};
-use memory::Heap;
-use std::alloc::{AllocError, AllocFailed, Global};
+use engine::{Store, StoreError, serve};
+use memory::{Failure, Heap};
+use output::Output;
 use std::process::Abort;
 use syntax::{ParseError, parse_schema};
 use value::Refusal;
@@ -18,24 +18,11 @@ GRANT SELECT ON deal TO alice;";
 pub const DEALS: &str = "id,owner\n2,alice\n1,alice\n3,bob\n";
 
 /// Why a store is not made.
-#[derive(Clone, Copy, Debug, PartialEq, Eq)]
-pub enum Stop {
+#[derive(Clone, Copy, Debug, Drop, PartialEq, Eq)]
+pub enum StoreFault {
     Parse(ParseError),
     Statement(Refusal),
     Data(StoreError),
-    Memory,
-}
-
-impl From<AllocError> for Stop {
-    fn from(_error: AllocError) -> Stop {
-        Stop::Memory
-    }
-}
-
-impl<T: Drop> From<AllocFailed<T>> for Stop {
-    fn from(_error: AllocFailed<T>) -> Stop {
-        Stop::Memory
-    }
 }
 
 /// Applies a schema text to a store, by an actor.
@@ -44,55 +31,67 @@ pub fn apply<A: Heap>(
     store: &mut Store<A>,
     actor: &str,
     schema: &str,
-) -> Result<(), Stop> {
+) -> Result<(), Failure<StoreFault>> {
     let statements = match parse_schema(alloc, schema) {
         Ok(statements) => statements,
-        Err(error) => return Err(Stop::Parse(error)),
+        Err(Failure::Fault(error)) => return Err(Failure::Fault(StoreFault::Parse(error))),
+        Err(Failure::OutOfMemory) => return Err(Failure::OutOfMemory),
     };
     for statement in statements.as_slice() {
         match store.change(actor, statement) {
             Ok(()) => {}
-            Err(why) => return Err(Stop::Statement(why)),
+            Err(code) => return Err(Failure::Fault(StoreFault::Statement(code))),
         }
     }
     Ok(())
 }
 
 /// The store of a schema text.
-pub fn store_of<A: Heap>(alloc: A, schema: &str) -> Result<Store<A>, Stop> {
+pub fn store_of<A: Heap>(alloc: A, schema: &str) -> Result<Store<A>, Failure<StoreFault>> {
     let mut store = Store::new(alloc)?;
     apply(alloc, &mut store, "root", schema)?;
     Ok(store)
 }
 
 /// Adds the rows of a text to a table.
-pub fn load<A: Heap>(store: &mut Store<A>, table: &str, text: &str) -> Result<(), Stop> {
+pub fn load<A: Heap>(
+    store: &mut Store<A>,
+    table: &str,
+    text: &str,
+) -> Result<(), Failure<StoreFault>> {
     match store.load(table, text.as_bytes()) {
         Ok(()) => Ok(()),
-        Err(error) => Err(Stop::Data(error)),
+        Err(Failure::Fault(error)) => Err(Failure::Fault(StoreFault::Data(error))),
+        Err(Failure::OutOfMemory) => Err(Failure::OutOfMemory),
     }
 }
 
 /// The store of the worked rows.
-pub fn deals<A: Heap>(alloc: A) -> Result<Store<A>, Stop> {
+pub fn deals<A: Heap>(alloc: A) -> Result<Store<A>, Failure<StoreFault>> {
     let mut store = store_of(alloc, SCHEMA)?;
     load(&mut store, "deal", DEALS)?;
     Ok(store)
 }
 
 /// The store, which has to be made.
-pub fn made<A: Heap>(rt: &impl Abort, store: Result<Store<A>, Stop>) -> Store<A> {
+pub fn made<A: Heap>(rt: &impl Abort, store: Result<Store<A>, Failure<StoreFault>>) -> Store<A> {
     match store {
         Ok(store) => store,
-        Err(stop) => panic!(rt; "{stop:?}"),
+        Err(failure) => panic!(rt; "{failure:?}"),
     }
 }
 
-/// A text of so many spaces.
-pub fn spaces(alloc: Global, many: usize) -> Result<String, AllocError> {
-    let mut text = String::new(alloc);
-    for _ in 0..many {
-        text.push(' ')?;
-    }
-    Ok(text)
+/// The status of the reply to a role's text, and what was written.
+pub fn served<A: Heap>(
+    alloc: A,
+    store: &Store<A>,
+    role: &str,
+    text: &str,
+) -> (u8, Output<Vec<u8>>) {
+    let mut out = Output {
+        inner: Vec::new(alloc.global()),
+        failed: 0,
+    };
+    let status = serve(alloc, store, role, text, &mut out);
+    (status, out)
 }

@@ -1,0 +1,12 @@
+//! Tests of tokens and of the grammar with its limits: tables of rows with expected values from outside the program.
+//! docs/ACCEPTANCE.md lists them.
+#![tactic(auto)]
+
+#[cfg(test)]
+mod grammar;
+#[cfg(test)]
+mod limits;
+#[cfg(test)]
+mod schemas;
+#[cfg(test)]
+mod tokens;
