@@ -5,4 +5,4 @@ mod failure;
 mod heap;
 
 pub use failure::Failure;
-pub use heap::Heap;
+pub use heap::{Heap, boxed};

@@ -1,5 +1,5 @@
 -- What trees with lists of children are.
-use Rattle.std.proofs.Common.{◌≡◌, ℕ, List, [], ◌∷◌, ◌++◌, ◌∙◌, sym, append-nil, ap, refl, Vec, map}
+use Rattle.std.proofs.Common.{◌≡◌, ℕ, List, [], ◌∷◌, ◌++◌, ◌∙◌, sym, ap, refl, Vec, map}
 use Rattle.row_ast.specs.Ast as ast
 use Rattle.row_ast.specs.View.{expr_of, row_exprs, row_arms, exprs, arms}
 use Rattle.row_ast.specs.declared.expr.Expr.TheBlock.{hidden-the_row-Expr-0, hidden-the_row-Arm-1}
@@ -28,13 +28,6 @@ list_exprs (e ∷ es) = ap (λ l. e ∷ l) (list_exprs es)
 -- the members of an AND or OR in memory
 pub members_hidden : {A : Type 0} (v : Vec (Expr A) A) → ast.list_of (row_exprs (hidden-the_row-Expr-0 A v)) ≡ map expr_of v.items
 members_hidden v = ap ast.list_of (exprs_hidden v) ∙ list_exprs (map expr_of v.items)
-
--- an AND or OR of the members in a `Vec`
-pub and_made : {A : Type 0} (start offset : ℕ) (v : Vec (Expr A) A) → ◌≡◌ {A = (ℕ × ast.Expr)} (start, ast.And offset (ast.exprs_of (map expr_of v.items ++ []))) (start, ast.And offset (row_exprs (hidden-the_row-Expr-0 A v)))
-and_made start offset v = ap (λ (es : ast.Exprs). let p : (ℕ × ast.Expr) = (start, ast.And offset es) in p) (ap ast.exprs_of (append-nil (map expr_of v.items)) ∙ sym (exprs_hidden v))
-
-pub or_made : {A : Type 0} (start offset : ℕ) (v : Vec (Expr A) A) → ◌≡◌ {A = (ℕ × ast.Expr)} (start, ast.Or offset (ast.exprs_of (map expr_of v.items ++ []))) (start, ast.Or offset (row_exprs (hidden-the_row-Expr-0 A v)))
-or_made start offset v = ap (λ (es : ast.Exprs). let p : (ℕ × ast.Expr) = (start, ast.Or offset es) in p) (ap ast.exprs_of (append-nil (map expr_of v.items)) ∙ sym (exprs_hidden v))
 
 -- members after members
 pub appended : {A : Type 0} (ms more new : List (Expr A)) (l : List ast.Expr) → new ≡ ms ++ more → map expr_of more ≡ l → map expr_of ms ++ l ≡ map expr_of new

@@ -72,10 +72,10 @@ arms as_ = ast.arms_of (map arm_pair as_)
 -- ---- queries
 
 abbrev pub condition_of : {A : Type 0} → Condition A → ast.Condition
-condition_of c = record { predicate = expr_of c.predicate; offset = c.offset }
+condition_of c = record { predicate = expr_of c.predicate.value; offset = c.offset }
 
 abbrev pub select_item_of : {A : Type 0} → SelectItem A → ast.SelectItem
-select_item_of i = record { value = expr_of i.value; alias = i.alias }
+select_item_of i = record { value = expr_of i.value.value; alias = i.alias }
 
 abbrev pub select_list_of : {A : Type 0} → SelectList A → ast.SelectList
 select_list_of (select_list.All offset) = ast.All offset
@@ -115,7 +115,7 @@ abbrev pub grant_of : {A : Type 0} → Grant A → ast.Grant
 grant_of g = record { columns = g.columns; table = g.table; roles = g.roles }
 
 abbrev pub create_policy_of : {A : Type 0} → CreatePolicy A → ast.CreatePolicy
-create_policy_of p = record { name = p.name; table = p.table; restrictive = p.restrictive; roles = p.roles; predicate = expr_of p.predicate }
+create_policy_of p = record { name = p.name; table = p.table; restrictive = p.restrictive; roles = p.roles; predicate = expr_of p.predicate.value }
 
 abbrev pub statement_of : {A : Type 0} → Statement A → statements.Statement
 statement_of (statement.CreateRole name superuser bypass_rls) = statements.CreateRole name superuser bypass_rls

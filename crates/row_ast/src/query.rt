@@ -8,7 +8,7 @@ use text::{Items, Text};
 #[derive(Drop)]
 pub struct Condition<A: Heap> {
     /// The condition.
-    pub predicate: Expr<A>,
+    pub predicate: Box<Expr<A>, A>,
     /// Where its first token starts.
     pub offset: u32,
 }
@@ -17,7 +17,7 @@ pub struct Condition<A: Heap> {
 #[derive(Drop)]
 pub struct SelectItem<A: Heap> {
     /// Its expression.
-    pub value: Expr<A>,
+    pub value: Box<Expr<A>, A>,
     /// The name after AS.
     pub alias: Option<Text<A>>,
 }

@@ -41,7 +41,7 @@ pub struct CreatePolicy<A: Heap> {
     /// The roles to which it applies, `public` for all.
     pub roles: Items<Text<A>, A>,
     /// The condition of USING.
-    pub predicate: Expr<A>,
+    pub predicate: Box<Expr<A>, A>,
 }
 
 /// A schema statement.

@@ -81,3 +81,6 @@ module _ (make : List Expr → Expr) (members : Expr → List Expr) where
 
   pub joined_none : (start : ℕ) (ms : List Expr) → joined start ms [] ≡ (start, make ms)
   joined_none start ms = ap (λ l. (start, make l)) (append-nil ms)
+
+  pub joined_end : (start : ℕ) (ms : List Expr) → joined start ms [] ≡ (start, make ms)
+  joined_end start ms = ap (λ l. (start, make l)) (append-nil ms)

@@ -3,13 +3,12 @@
 ghost use Rattle.std.specs.Prelude.{◌≡◌, ◌∷◌, [], Some, map, option_map, IfOk};
 ghost use Rattle.row_tokens.specs.View.{word_of};
 ghost use Rattle.row_reader.specs.Expressions as rules;
-ghost use Rattle.row_reader.specs.Reading.{kept};
 ghost use Rattle.row_ast.specs.Ast as ast;
-ghost use Rattle.row_ast.specs.Ast.{arms_of};
+ghost use Rattle.row_ast.specs.Ast.{arms_of, exprs_of};
 ghost use Rattle.row_ast.specs.View.{expr_of, arm_pair};
 ghost use Rattle.row_expressions.specs.View.{located, signed_of, suffix_of, otherwise_of};
 
-use memory::Heap;
+use memory::{Heap, boxed};
 use row_ast::{Arm, Expr};
 use row_reader::names::column_ref;
 use row_tokens::Token;
@@ -17,8 +16,9 @@ use std::alloc::AllocError;
 use text::{Items, Text};
 use value::{Aggregate, Arithmetic, Comparison, Value};
 
-/// An expression, and where its first token starts.
-pub type Located<A> = (u32, Expr<A>);
+/// An expression, and where its first token starts. It is boxed, since where a tree is alive at a `?` its whole drop,
+/// each variant and field, is part of that function's proof.
+pub type Located<A> = (u32, Box<Expr<A>, A>);
 
 /// What follows in BETWEEN or IN.
 #[derive(Drop)]
@@ -26,8 +26,8 @@ pub enum Range<A: Heap> {
     /// The bounds of BETWEEN.
     Bounds {
         offset: u32,
-        low: Expr<A>,
-        high: Expr<A>,
+        low: Box<Expr<A>, A>,
+        high: Box<Expr<A>, A>,
     },
     /// The values of IN.
     Values {
@@ -42,7 +42,7 @@ pub enum CallSuffix<A: Heap> {
     /// `( * )`.
     Star,
     /// `( a )`.
-    Argument(Expr<A>),
+    Argument(Box<Expr<A>, A>),
     /// `. name`, or nothing.
     Dotted(Option<Text<A>>),
 }
@@ -53,17 +53,7 @@ pub enum Otherwise<A: Heap> {
     /// No ELSE.
     Nothing,
     /// A result.
-    Value(Expr<A>),
-}
-
-// A value and what is made beside it. Where memory is refused, the value is dropped here.
-fn keep<T: Drop, U: Drop, E: Drop>(value: T, next: Result<U, E>) -> Result<(T, U), E>
-    ensures { result ≡ kept value next }
-{
-    match next {
-        Ok(further) => Ok((value, further)),
-        Err(error) => Err(error),
-    }
+    Value(Box<Expr<A>, A>),
 }
 
 /// An operation on two numbers.
@@ -73,22 +63,18 @@ pub fn combined<A: Heap>(
     sign: (u32, Arithmetic),
     right: Located<A>,
 ) -> Result<Located<A>, AllocError>
-    ensures { IfOk result (λ p. located p ≡ (left.0, ast.Arithmetic sign.1 sign.0 (expr_of left.1) (expr_of right.1))) }
+    ensures { IfOk result (λ p. located p ≡ (left.0, ast.Arithmetic sign.1 sign.0 (expr_of left.1.value) (expr_of right.1.value))) }
 {
     let (start, left) = left;
     let (_, right) = right;
-    let (right, left) = keep(right, Box::new(alloc, left))?;
-    let right = Box::new(alloc, right)?;
     let (offset, operator) = sign;
-    Ok((
-        start,
-        Expr::Arithmetic {
-            operator,
-            offset,
-            left,
-            right,
-        },
-    ))
+    let whole = Expr::Arithmetic {
+        operator,
+        offset,
+        left,
+        right,
+    };
+    Ok((start, boxed(alloc, whole)?))
 }
 
 /// A comparison.
@@ -98,44 +84,18 @@ pub fn compared<A: Heap>(
     sign: (u32, Comparison),
     right: Located<A>,
 ) -> Result<Located<A>, AllocError>
-    ensures { IfOk result (λ p. located p ≡ (left.0, ast.Comparison sign.1 sign.0 (expr_of left.1) (expr_of right.1))) }
+    ensures { IfOk result (λ p. located p ≡ (left.0, ast.Comparison sign.1 sign.0 (expr_of left.1.value) (expr_of right.1.value))) }
 {
     let (start, left) = left;
     let (_, right) = right;
-    let (right, left) = keep(right, Box::new(alloc, left))?;
-    let right = Box::new(alloc, right)?;
     let (offset, operator) = sign;
-    Ok((
-        start,
-        Expr::Comparison {
-            operator,
-            offset,
-            left,
-            right,
-        },
-    ))
-}
-
-fn between<A: Heap>(
-    alloc: A,
-    negated: bool,
-    offset: u32,
-    operand: Expr<A>,
-    bounds: (Expr<A>, Expr<A>),
-) -> Result<Expr<A>, AllocError>
-    ensures { IfOk result (λ e. expr_of e ≡ ast.Between negated offset (expr_of operand) (expr_of bounds.0) (expr_of bounds.1)) }
-{
-    let (low, high) = bounds;
-    let ((low, high), operand) = keep((low, high), Box::new(alloc, operand))?;
-    let (high, low) = keep(high, Box::new(alloc, low))?;
-    let high = Box::new(alloc, high)?;
-    Ok(Expr::Between {
-        negated,
+    let whole = Expr::Comparison {
+        operator,
         offset,
-        operand,
-        low,
-        high,
-    })
+        left,
+        right,
+    };
+    Ok((start, boxed(alloc, whole)?))
 }
 
 // A range after its operand; `not` is the offset of a NOT before it.
@@ -149,28 +109,22 @@ fn in_range<A: Heap>(
 {
     let (start, operand) = operand;
     let negated = not.is_some();
-    match range {
-        Range::Bounds { offset, low, high } => {
-            let offset = not.unwrap_or(offset);
-            Ok((
-                start,
-                between(alloc, negated, offset, operand, (low, high))?,
-            ))
-        }
-        Range::Values { offset, values } => {
-            let offset = not.unwrap_or(offset);
-            let operand = Box::new(alloc, operand)?;
-            Ok((
-                start,
-                Expr::In {
-                    negated,
-                    offset,
-                    values,
-                    operand,
-                },
-            ))
-        }
-    }
+    let whole = match range {
+        Range::Bounds { offset, low, high } => Expr::Between {
+            negated,
+            offset: not.unwrap_or(offset),
+            operand,
+            low,
+            high,
+        },
+        Range::Values { offset, values } => Expr::In {
+            negated,
+            offset: not.unwrap_or(offset),
+            values,
+            operand,
+        },
+    };
+    Ok((start, boxed(alloc, whole)?))
 }
 
 /// An operand and the range after it, if there is one, with the offset of a NOT before it.
@@ -192,25 +146,29 @@ pub fn ranged<A: Heap>(
 pub fn case_of<A: Heap>(
     alloc: A,
     offset: u32,
-    arms: Vec<Arm<A>, A>,
+    arms: Items<Arm<A>, A>,
     other: Otherwise<A>,
-) -> Result<Expr<A>, AllocError>
-    ensures { IfOk result (λ e. expr_of e ≡ ast.Case offset (arms_of (map (λ a. arm_pair a) arms.items)) (otherwise_of other)) }
+) -> Result<Box<Expr<A>, A>, AllocError>
+    ensures { IfOk result (λ e. expr_of e.value ≡ ast.Case offset (arms_of (map (λ a. arm_pair a) arms)) (otherwise_of other)) }
 {
+    let arms = arms.into_vec();
     match other {
         Otherwise::Value(value) => {
-            let value = Box::new(alloc, value)?;
-            Ok(Expr::Case {
+            let case = Expr::Case {
                 offset,
                 arms,
                 otherwise: Some(value),
-            })
+            };
+            Ok(boxed(alloc, case)?)
         }
-        Otherwise::Nothing => Ok(Expr::Case {
-            offset,
-            arms,
-            otherwise: None,
-        }),
+        Otherwise::Nothing => {
+            let case = Expr::Case {
+                offset,
+                arms,
+                otherwise: None,
+            };
+            Ok(boxed(alloc, case)?)
+        }
     }
 }
 
@@ -219,34 +177,33 @@ pub fn column_expr<A: Heap>(
     alloc: A,
     word: &Token<'_>,
     dotted: Option<Text<A>>,
-) -> Result<Expr<A>, AllocError>
-    ensures { IfOk result (λ e. expr_of e ≡ rules.column_expr (word_of word.now) dotted) }
+) -> Result<Box<Expr<A>, A>, AllocError>
+    ensures { IfOk result (λ e. expr_of e.value ≡ rules.column_expr (word_of word.now) dotted) }
 {
-    Ok(Expr::Column(column_ref(alloc, word, dotted)?))
+    let column = column_ref(alloc, word, dotted)?;
+    boxed(alloc, Expr::Column(column))
 }
 
 /// `count` and what follows it.
 pub fn counted<A: Heap>(
     alloc: A,
     word: &Token<'_>,
-    tail: CallSuffix<A>,
-) -> Result<Expr<A>, AllocError>
-    ensures { IfOk result (λ e. expr_of e ≡ rules.counted (word_of word.now) (suffix_of tail)) }
+    suffix: CallSuffix<A>,
+) -> Result<Box<Expr<A>, A>, AllocError>
+    ensures { IfOk result (λ e. expr_of e.value ≡ rules.counted (word_of word.now) (suffix_of suffix)) }
 {
-    match tail {
-        CallSuffix::Star => Ok(Expr::CountStar {
-            offset: word.offset,
-        }),
-        CallSuffix::Argument(argument) => {
-            let argument = Box::new(alloc, argument)?;
-            Ok(Expr::Call {
-                aggregate: Aggregate::Count,
-                offset: word.offset,
-                argument,
-            })
-        }
-        CallSuffix::Dotted(name) => column_expr(alloc, word, name),
-    }
+    let offset = word.offset;
+    let aggregate = Aggregate::Count;
+    let value = match suffix {
+        CallSuffix::Star => Expr::CountStar { offset },
+        CallSuffix::Argument(argument) => Expr::Call {
+            aggregate,
+            offset,
+            argument,
+        },
+        CallSuffix::Dotted(name) => return column_expr(alloc, word, name),
+    };
+    boxed(alloc, value)
 }
 
 /// Another function's name and what follows it.
@@ -254,40 +211,40 @@ pub fn called<A: Heap>(
     alloc: A,
     word: &Token<'_>,
     aggregate: Aggregate,
-    tail: CallSuffix<A>,
-) -> Result<Expr<A>, AllocError>
-    ensures { IfOk result (λ e. expr_of e ≡ rules.called (word_of word.now, aggregate) (suffix_of tail)) }
+    suffix: CallSuffix<A>,
+) -> Result<Box<Expr<A>, A>, AllocError>
+    ensures { IfOk result (λ e. expr_of e.value ≡ rules.called (word_of word.now, aggregate) (suffix_of suffix)) }
 {
-    match tail {
-        CallSuffix::Star => Ok(Expr::CountStar {
-            offset: word.offset,
-        }),
-        CallSuffix::Argument(argument) => {
-            let argument = Box::new(alloc, argument)?;
-            Ok(Expr::Call {
-                aggregate,
-                offset: word.offset,
-                argument,
-            })
-        }
-        CallSuffix::Dotted(name) => column_expr(alloc, word, name),
-    }
+    let offset = word.offset;
+    let value = match suffix {
+        CallSuffix::Star => Expr::CountStar { offset },
+        CallSuffix::Argument(argument) => Expr::Call {
+            aggregate,
+            offset,
+            argument,
+        },
+        CallSuffix::Dotted(name) => return column_expr(alloc, word, name),
+    };
+    boxed(alloc, value)
 }
 
 fn alone<A: Heap>(alloc: A, member: Expr<A>) -> Result<Vec<Expr<A>, A>, AllocError>
     ensures { IfOk result (λ v. map (λ e. expr_of e) v.items ≡ expr_of member ∷ []) }
 {
-    let mut members = Vec::new(alloc);
+    let mut members = Items::new(alloc);
     members.push(member)?;
-    Ok(members)
+    Ok(members.into_vec())
 }
 
 /// The members of an expression that is an operand of AND: its own where it is one.
 #[tactic(auto, using(row_ast::proofs::Trees::tree_lemmas))]
-pub fn and_members<A: Heap>(alloc: A, member: Expr<A>) -> Result<Vec<Expr<A>, A>, AllocError>
-    ensures { IfOk result (λ v. map (λ e. expr_of e) v.items ≡ ast.and_members (expr_of member)) }
+pub fn and_members<A: Heap>(
+    alloc: A,
+    member: Box<Expr<A>, A>,
+) -> Result<Vec<Expr<A>, A>, AllocError>
+    ensures { IfOk result (λ v. map (λ e. expr_of e) v.items ≡ ast.and_members (expr_of member.value)) }
 {
-    match member {
+    match Box::into_inner(member) {
         Expr::And { members, .. } => Ok(members),
         member @ (Expr::Column(_)
         | Expr::Literal(_)
@@ -309,10 +266,10 @@ pub fn and_members<A: Heap>(alloc: A, member: Expr<A>) -> Result<Vec<Expr<A>, A>
 
 /// The members of an expression that is an operand of OR: its own where it is one.
 #[tactic(auto, using(row_ast::proofs::Trees::tree_lemmas))]
-pub fn or_members<A: Heap>(alloc: A, member: Expr<A>) -> Result<Vec<Expr<A>, A>, AllocError>
-    ensures { IfOk result (λ v. map (λ e. expr_of e) v.items ≡ ast.or_members (expr_of member)) }
+pub fn or_members<A: Heap>(alloc: A, member: Box<Expr<A>, A>) -> Result<Vec<Expr<A>, A>, AllocError>
+    ensures { IfOk result (λ v. map (λ e. expr_of e) v.items ≡ ast.or_members (expr_of member.value)) }
 {
-    match member {
+    match Box::into_inner(member) {
         Expr::Or { members, .. } => Ok(members),
         member @ (Expr::Column(_)
         | Expr::Literal(_)
@@ -330,4 +287,30 @@ pub fn or_members<A: Heap>(alloc: A, member: Expr<A>) -> Result<Vec<Expr<A>, A>,
         | Expr::CountStar { .. }
         | Expr::Call { .. }) => alone(alloc, member),
     }
+}
+
+/// An AND of several members.
+#[tactic(auto, using(row_ast::proofs::Trees::tree_lemmas))]
+pub fn and_of<A: Heap>(
+    alloc: A,
+    start: u32,
+    offset: u32,
+    members: Vec<Expr<A>, A>,
+) -> Result<Located<A>, AllocError>
+    ensures { IfOk result (λ p. located p ≡ (start, ast.And offset (exprs_of (map (λ e. expr_of e) members.items)))) }
+{
+    Ok((start, boxed(alloc, Expr::And { offset, members })?))
+}
+
+/// An OR of several members.
+#[tactic(auto, using(row_ast::proofs::Trees::tree_lemmas))]
+pub fn or_of<A: Heap>(
+    alloc: A,
+    start: u32,
+    offset: u32,
+    members: Vec<Expr<A>, A>,
+) -> Result<Located<A>, AllocError>
+    ensures { IfOk result (λ p. located p ≡ (start, ast.Or offset (exprs_of (map (λ e. expr_of e) members.items)))) }
+{
+    Ok((start, boxed(alloc, Expr::Or { offset, members })?))
 }

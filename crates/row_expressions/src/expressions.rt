@@ -12,19 +12,20 @@ ghost use Rattle.row_ast.specs.View.{expr_of, arm_pair};
 ghost use Rattle.row_expressions.specs.View.{located, range_of, signed_of, suffix_of, otherwise_of};
 
 use crate::build::{
-    CallSuffix, Located, Otherwise, Range, and_members, called, case_of, column_expr, combined,
-    compared, counted, or_members, ranged,
+    CallSuffix, Located, Otherwise, Range, and_members, and_of, called, case_of, column_expr,
+    combined, compared, counted, or_members, or_of, ranged,
 };
-use memory::{Failure, Heap};
+use memory::{Failure, Heap, boxed};
 use row_ast::{Arm, Expr};
 use row_grammar::ReadError;
 use row_reader::literals::{literal, value_list};
 use row_reader::names::{dot_name, type_name};
 use row_reader::operators::{addition, aggregate_name, comparison_sign, multiplication};
 use row_reader::reader::{
-    Class, Parsed, Reader, before, expect, expect_any, next_offset, open, sees, sees_any,
+    Class, Parsed, Reader, expect, expect_any, next_offset, open, sees, sees_any,
 };
 use row_tokens::{Token, TokenKind};
+use text::Items;
 use value::Arithmetic;
 
 /// An expression a level deeper.
@@ -68,7 +69,7 @@ fn parenthesized<'t, A: Heap>(reader: Reader<A>, tokens: &'t [Token<'t>]) -> Par
 {
     let (sign, rest) = open(TokenKind::Open, reader.depth_limit, tokens)?;
     let ((_, inner), rest) = inner_expression(reader, rest)?;
-    let ((inner, _), rest) = before(inner, expect(TokenKind::Close, rest))?;
+    let (_, rest) = expect(TokenKind::Close, rest)?;
     Ok(((sign.offset, inner), rest))
 }
 
@@ -81,7 +82,6 @@ fn cast<'t, A: Heap>(reader: Reader<A>, tokens: &'t [Token<'t>]) -> Parsed<'t, L
     let (word, rest) = expect(TokenKind::Cast, tokens)?;
     let (_, rest) = open(TokenKind::Open, reader.depth_limit, rest)?;
     let ((_, operand), rest) = inner_expression(reader, rest)?;
-    let operand = Box::new(reader.alloc, operand)?;
     let (_, rest) = expect(TokenKind::As, rest)?;
     let (to, rest) = type_name(reader, rest)?;
     let (_, rest) = expect(TokenKind::Close, rest)?;
@@ -91,7 +91,7 @@ fn cast<'t, A: Heap>(reader: Reader<A>, tokens: &'t [Token<'t>]) -> Parsed<'t, L
         to,
         operand,
     };
-    Ok(((offset, cast), rest))
+    Ok(((offset, boxed(reader.alloc, cast)?), rest))
 }
 
 // `WHEN expr THEN expr`.
@@ -103,23 +103,23 @@ fn arm<'t, A: Heap>(reader: Reader<A>, tokens: &'t [Token<'t>]) -> Parsed<'t, Ar
 {
     let (_, rest) = expect(TokenKind::When, tokens)?;
     let ((_, when), rest) = inner_expression(reader, rest)?;
-    let ((when, _), rest) = before(when, expect(TokenKind::Then, rest))?;
-    let ((when, (_, value)), rest) = before(when, inner_expression(reader, rest))?;
+    let (_, rest) = expect(TokenKind::Then, rest)?;
+    let ((_, result), rest) = inner_expression(reader, rest)?;
     let arm = Arm {
-        when,
-        result: value,
+        when: Box::into_inner(when),
+        result: Box::into_inner(result),
     };
     Ok((arm, rest))
 }
 
 // The arms of a CASE.
 #[cycle(expression)]
-fn arms<'t, A: Heap>(reader: Reader<A>, tokens: &'t [Token<'t>]) -> Parsed<'t, Vec<Arm<A>, A>>
+fn arms<'t, A: Heap>(reader: Reader<A>, tokens: &'t [Token<'t>]) -> Parsed<'t, Items<Arm<A>, A>>
     requires { 0 < reader.depth_limit }
-    ensures { Parses (λ t. map (λ a. arm_pair a) t.items) rules.arms reader tokens.now result }
+    ensures { Parses (λ t. map (λ a. arm_pair a) t) rules.arms reader tokens.now result }
 {
     let (first, mut rest) = arm(reader, tokens)?;
-    let mut all = Vec::new(reader.alloc);
+    let mut all = Items::new(reader.alloc);
     all.push(first)?;
     let most = rest.len();
     for _ in 0..most {
@@ -191,7 +191,7 @@ fn count_tail<'t, A: Heap>(reader: Reader<A>, tokens: &'t [Token<'t>]) -> Parsed
     if sees(TokenKind::Open, tokens) {
         let (_, rest) = open(TokenKind::Open, reader.depth_limit, tokens)?;
         let (suffix, rest) = counted_rows(reader, rest)?;
-        let ((suffix, _), rest) = before(suffix, expect(TokenKind::Close, rest))?;
+        let (_, rest) = expect(TokenKind::Close, rest)?;
         Ok((suffix, rest))
     } else {
         let (name, rest) = dot_name(reader, tokens)?;
@@ -223,7 +223,7 @@ fn aggregate_tail<'t, A: Heap>(
     if sees(TokenKind::Open, tokens) {
         let (_, rest) = open(TokenKind::Open, reader.depth_limit, tokens)?;
         let ((_, argument), rest) = inner_expression(reader, rest)?;
-        let ((argument, _), rest) = before(argument, expect(TokenKind::Close, rest))?;
+        let (_, rest) = expect(TokenKind::Close, rest)?;
         Ok((CallSuffix::Argument(argument), rest))
     } else {
         let (name, rest) = dot_name(reader, tokens)?;
@@ -250,10 +250,12 @@ fn constant<'t, A: Heap>(reader: Reader<A>, tokens: &'t [Token<'t>]) -> Parsed<'
 {
     if sees(TokenKind::CurrentUser, tokens) {
         let (word, rest) = expect(TokenKind::CurrentUser, tokens)?;
-        Ok(((word.offset, Expr::CurrentUser), rest))
+        let value = boxed(reader.alloc, Expr::CurrentUser)?;
+        Ok(((word.offset, value), rest))
     } else {
         let ((start, value), rest) = literal(reader, tokens)?;
-        Ok(((start, Expr::Literal(value)), rest))
+        let value = boxed(reader.alloc, Expr::Literal(value))?;
+        Ok(((start, value), rest))
     }
 }
 
@@ -299,10 +301,10 @@ fn unary<'t, A: Heap>(reader: Reader<A>, tokens: &'t [Token<'t>]) -> Parsed<'t, 
 {
     if sees(TokenKind::Minus, tokens) {
         let (sign, rest) = open(TokenKind::Minus, reader.depth_limit, tokens)?;
-        let ((_, inner), rest) = inner_unary(reader, rest)?;
-        let operand = Box::new(reader.alloc, inner)?;
+        let ((_, operand), rest) = inner_unary(reader, rest)?;
         let offset = sign.offset;
-        Ok(((offset, Expr::Negate { offset, operand }), rest))
+        let value = boxed(reader.alloc, Expr::Negate { offset, operand })?;
+        Ok(((offset, value), rest))
     } else {
         primary(reader, tokens)
     }
@@ -337,7 +339,6 @@ fn product<'t, A: Heap>(reader: Reader<A>, tokens: &'t [Token<'t>]) -> Parsed<'t
         rest = after;
     }
     if sees_any(Class::Multiplication, rest) {
-        drop(left);
         return Err(Failure::Fault(ReadError::Limit { left: rest.len() }));
     }
     Ok((left, rest))
@@ -372,7 +373,6 @@ fn sum<'t, A: Heap>(reader: Reader<A>, tokens: &'t [Token<'t>]) -> Parsed<'t, Lo
         rest = after;
     }
     if sees_any(Class::Addition, rest) {
-        drop(left);
         return Err(Failure::Fault(ReadError::Limit { left: rest.len() }));
     }
     Ok((left, rest))
@@ -386,8 +386,8 @@ fn between<'t, A: Heap>(reader: Reader<A>, tokens: &'t [Token<'t>]) -> Parsed<'t
 {
     let (word, rest) = expect(TokenKind::Between, tokens)?;
     let ((_, low), rest) = sum(reader, rest)?;
-    let ((low, _), rest) = before(low, expect(TokenKind::And, rest))?;
-    let ((low, (_, high)), rest) = before(low, sum(reader, rest))?;
+    let (_, rest) = expect(TokenKind::And, rest)?;
+    let ((_, high), rest) = sum(reader, rest)?;
     let offset = word.offset;
     Ok((Range::Bounds { offset, low, high }, rest))
 }
@@ -454,7 +454,7 @@ fn ranged_sum<'t, A: Heap>(reader: Reader<A>, tokens: &'t [Token<'t>]) -> Parsed
     ensures { Parses (λ t. located t) rules.ranged_sum reader tokens.now result }
 {
     let (operand, rest) = sum(reader, tokens)?;
-    let ((operand, range), rest) = before(operand, range_tail(reader, rest))?;
+    let (range, rest) = range_tail(reader, rest)?;
     Ok((ranged(reader.alloc, operand, range)?, rest))
 }
 
@@ -468,8 +468,8 @@ fn comparison<'t, A: Heap>(reader: Reader<A>, tokens: &'t [Token<'t>]) -> Parsed
     if !sees_any(Class::Comparison, rest) {
         return Ok((left, rest));
     }
-    let ((left, sign), rest) = before(left, comparison_sign(reader, rest))?;
-    let ((left, right), rest) = before(left, ranged_sum(reader, rest))?;
+    let (sign, rest) = comparison_sign(reader, rest)?;
+    let (right, rest) = ranged_sum(reader, rest)?;
     Ok((compared(reader.alloc, left, sign, right)?, rest))
 }
 
@@ -495,23 +495,17 @@ fn is_null<'t, A: Heap>(reader: Reader<A>, tokens: &'t [Token<'t>]) -> Parsed<'t
 fn null_test<'t, A: Heap>(reader: Reader<A>, tokens: &'t [Token<'t>]) -> Parsed<'t, Located<A>>
     ensures { Parses (λ t. located t) rules.null_test reader tokens.now result }
 {
-    let ((start, left), rest) = comparison(reader, tokens)?;
+    let ((start, operand), rest) = comparison(reader, tokens)?;
     if !sees(TokenKind::Is, rest) {
-        return Ok(((start, left), rest));
+        return Ok(((start, operand), rest));
     }
-    let ((left, (offset, negated)), rest) = before(left, is_null(reader, rest))?;
-    let operand = Box::new(reader.alloc, left)?;
-    Ok((
-        (
-            start,
-            Expr::IsNull {
-                negated,
-                offset,
-                operand,
-            },
-        ),
-        rest,
-    ))
+    let ((offset, negated), rest) = is_null(reader, rest)?;
+    let test = Expr::IsNull {
+        negated,
+        offset,
+        operand,
+    };
+    Ok(((start, boxed(reader.alloc, test)?), rest))
 }
 
 // `NOT negation | null test`.
@@ -522,10 +516,10 @@ fn negation<'t, A: Heap>(reader: Reader<A>, tokens: &'t [Token<'t>]) -> Parsed<'
 {
     if sees(TokenKind::Not, tokens) {
         let (word, rest) = open(TokenKind::Not, reader.depth_limit, tokens)?;
-        let ((_, inner), rest) = inner_negation(reader, rest)?;
-        let operand = Box::new(reader.alloc, inner)?;
+        let ((_, operand), rest) = inner_negation(reader, rest)?;
         let offset = word.offset;
-        Ok(((offset, Expr::Not { offset, operand }), rest))
+        let value = boxed(reader.alloc, Expr::Not { offset, operand })?;
+        Ok(((offset, value), rest))
     } else {
         null_test(reader, tokens)
     }
@@ -558,7 +552,7 @@ fn conjunction<'t, A: Heap>(reader: Reader<A>, tokens: &'t [Token<'t>]) -> Parse
     let mut members = and_members(reader.alloc, first)?;
     for _ in 0..reader.run_limit {
         if !sees(TokenKind::And, rest) {
-            return Ok(((start, Expr::And { offset, members }), rest));
+            return Ok((and_of(reader.alloc, start, offset, members)?, rest));
         }
         let ((_, (_, next)), after) = and_operand(reader, rest)?;
         let mut more = and_members(reader.alloc, next)?;
@@ -568,7 +562,7 @@ fn conjunction<'t, A: Heap>(reader: Reader<A>, tokens: &'t [Token<'t>]) -> Parse
     if sees(TokenKind::And, rest) {
         return Err(Failure::Fault(ReadError::Limit { left: rest.len() }));
     }
-    Ok(((start, Expr::And { offset, members }), rest))
+    Ok((and_of(reader.alloc, start, offset, members)?, rest))
 }
 
 // `OR conjunction`.
@@ -598,7 +592,7 @@ pub fn expression<'t, A: Heap>(reader: Reader<A>, tokens: &'t [Token<'t>]) -> Pa
     let mut members = or_members(reader.alloc, first)?;
     for _ in 0..reader.run_limit {
         if !sees(TokenKind::Or, rest) {
-            return Ok(((start, Expr::Or { offset, members }), rest));
+            return Ok((or_of(reader.alloc, start, offset, members)?, rest));
         }
         let ((_, (_, next)), after) = or_operand(reader, rest)?;
         let mut more = or_members(reader.alloc, next)?;
@@ -608,5 +602,5 @@ pub fn expression<'t, A: Heap>(reader: Reader<A>, tokens: &'t [Token<'t>]) -> Pa
     if sees(TokenKind::Or, rest) {
         return Err(Failure::Fault(ReadError::Limit { left: rest.len() }));
     }
-    Ok(((start, Expr::Or { offset, members }), rest))
+    Ok((or_of(reader.alloc, start, offset, members)?, rest))
 }

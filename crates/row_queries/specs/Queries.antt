@@ -5,7 +5,7 @@ use Rattle.row_tokens.specs.declared.token.TokenKind.TheVariants as k
 use Rattle.row_tokens.specs.Words.{Word}
 use Rattle.row_ast.specs.Ast as ast
 use Rattle.row_ast.specs.Ast.{Name, ColumnRef, Condition, SelectItem, SelectList, TableRef, Join, FromItem, SortTarget, SortKey, Query}
-use Rattle.row_reader.specs.Language.{Rule, is, of, maybe, after, listed, name_of}
+use Rattle.row_reader.specs.Language.{Rule, is, of, maybe, after, comma_list, name_of}
 use Rattle.row_reader.specs.Expressions.{name, columns, expression}
 use Rattle.row_reader.specs.declared.reader.Class.TheVariants as c
 
@@ -38,11 +38,8 @@ select_alias = maybe (after (is k.As) name)
 unfoldable pub select_item : Rule SelectItem
 select_item = made (λ p. record { value = p.0.1; alias = p.1 }) (both expression select_alias)
 
-unfoldable pub next_select_item : Rule SelectItem
-next_select_item = after (is k.Comma) select_item
-
 unfoldable pub select_items : Rule (List SelectItem)
-select_items = listed select_item next_select_item
+select_items = comma_list select_item
 
 -- items := * | select_item {, select_item}
 unfoldable pub select_list : Rule SelectList
@@ -77,12 +74,9 @@ join_list = many false join
 unfoldable pub from_item : Rule FromItem
 from_item = made (λ p. record { first = p.0; joins = p.1 }) (both table_ref join_list)
 
-unfoldable pub next_from_item : Rule FromItem
-next_from_item = after (is k.Comma) from_item
-
 -- from := from_item {, from_item}
 unfoldable pub from : Rule (List FromItem)
-from = listed from_item next_from_item
+from = comma_list from_item
 
 -- ---- the clauses after it
 
@@ -108,11 +102,8 @@ direction = either (made (λ w. true) (word (is k.Desc))) (either (made (λ w. f
 unfoldable pub sort_key : Rule SortKey
 sort_key = made (λ p. record { target = p.0.1; descending = p.1; offset = p.0.0 }) (both sort_target direction)
 
-unfoldable pub next_sort_key : Rule SortKey
-next_sort_key = after (is k.Comma) sort_key
-
 unfoldable pub sort_keys : Rule (List SortKey)
-sort_keys = listed sort_key next_sort_key
+sort_keys = comma_list sort_key
 
 -- [ORDER BY sort_key {, sort_key}]
 unfoldable pub order_by : Rule (List SortKey)

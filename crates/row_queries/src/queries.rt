@@ -9,6 +9,7 @@ ghost use Rattle.row_reader.specs.Expressions.{grammar, nested_first};
 ghost use Rattle.row_reader.specs.Language.{language, kind_of};
 ghost use Rattle.row_queries.specs.Queries as rules;
 ghost use Rattle.row_reader.specs.Reading.{Parses};
+ghost use Rattle.row_ast.specs.Ast as ast;
 ghost use Rattle.row_ast.specs.View.{column_ref_of, condition_of, select_item_of, select_list_of, table_ref_of, join_of, from_item_of, sort_target_of, sort_key_of, query_of};
 ghost use Rattle.row_queries.specs.View.{clauses_of};
 
@@ -18,8 +19,9 @@ use row_ast::{
     TableRef,
 };
 use row_expressions::expression;
+use row_reader::comma_list::comma_list;
 use row_reader::names::{columns, name};
-use row_reader::reader::{Class, Parsed, Reader, before, expect, expect_any, sees, sees_any};
+use row_reader::reader::{Class, Parsed, Parser, Reader, expect, expect_any, sees, sees_any};
 use row_tokens::{Token, TokenKind, folded};
 use text::{Items, Text};
 
@@ -64,42 +66,38 @@ fn select_item<'t, A: Heap>(reader: Reader<A>, tokens: &'t [Token<'t>]) -> Parse
     ensures { Parses (λ t. select_item_of t) rules.select_item reader tokens.now result }
 {
     let ((_, value), rest) = expression(reader, tokens)?;
-    let ((value, alias), rest) = before(value, select_alias(reader, rest))?;
+    let (alias, rest) = select_alias(reader, rest)?;
     Ok((SelectItem { value, alias }, rest))
 }
 
-// `, select_item`.
-#[tactic(auto, unfolding(crate::specs::Queries::next_select_item))]
-fn next_select_item<'t, A: Heap>(
-    reader: Reader<A>,
-    tokens: &'t [Token<'t>],
-) -> Parsed<'t, SelectItem<A>>
-    ensures { Parses (λ t. select_item_of t) rules.next_select_item reader tokens.now result }
-{
-    let (_, rest) = expect(TokenKind::Comma, tokens)?;
-    select_item(reader, rest)
+// The parser of an item of SELECT.
+struct SelectItemParser;
+
+impl<A: Heap> Parser<A> for SelectItemParser {
+    type Tree = SelectItem<A>;
+
+    ghost Spec = { ast.SelectItem };
+
+    ghost view = { λ i. select_item_of i };
+
+    ghost rule = { rules.select_item };
+
+    fn parse<'t>(reader: Reader<A>, tokens: &'t [Token<'t>]) -> Parsed<'t, SelectItem<A>>
+        ensures { Parses (λ i. select_item_of i) rules.select_item reader tokens.now result }
+    {
+        select_item(reader, tokens)
+    }
 }
 
 // `select_item {, select_item}`.
+#[tactic(auto, unfolding(crate::specs::Queries::select_items))]
 fn select_items<'t, A: Heap>(
     reader: Reader<A>,
     tokens: &'t [Token<'t>],
 ) -> Parsed<'t, Items<SelectItem<A>, A>>
     ensures { Parses (λ t. map (λ i. select_item_of i) t) rules.select_items reader tokens.now result }
 {
-    let (first, mut rest) = select_item(reader, tokens)?;
-    let mut all = Items::new(reader.alloc);
-    all.push(first)?;
-    let most = rest.len();
-    for _ in 0..most {
-        if !sees(TokenKind::Comma, rest) {
-            return Ok((all, rest));
-        }
-        let (next, after) = next_select_item(reader, rest)?;
-        all.push(next)?;
-        rest = after;
-    }
-    Ok((all, rest))
+    comma_list::<A, SelectItemParser>(reader, tokens)
 }
 
 // `*` or items.
@@ -235,38 +233,34 @@ fn from_item<'t, A: Heap>(reader: Reader<A>, tokens: &'t [Token<'t>]) -> Parsed<
     Ok((FromItem { first, joins }, rest))
 }
 
-// `, from_item`.
-#[tactic(auto, unfolding(crate::specs::Queries::next_from_item))]
-fn next_from_item<'t, A: Heap>(
-    reader: Reader<A>,
-    tokens: &'t [Token<'t>],
-) -> Parsed<'t, FromItem<A>>
-    ensures { Parses (λ t. from_item_of t) rules.next_from_item reader tokens.now result }
-{
-    let (_, rest) = expect(TokenKind::Comma, tokens)?;
-    from_item(reader, rest)
+// The parser of an item of FROM.
+struct FromItemParser;
+
+impl<A: Heap> Parser<A> for FromItemParser {
+    type Tree = FromItem<A>;
+
+    ghost Spec = { ast.FromItem };
+
+    ghost view = { λ c. from_item_of c };
+
+    ghost rule = { rules.from_item };
+
+    fn parse<'t>(reader: Reader<A>, tokens: &'t [Token<'t>]) -> Parsed<'t, FromItem<A>>
+        ensures { Parses (λ c. from_item_of c) rules.from_item reader tokens.now result }
+    {
+        from_item(reader, tokens)
+    }
 }
 
 // `from_item {, from_item}`.
+#[tactic(auto, unfolding(crate::specs::Queries::from))]
 fn from<'t, A: Heap>(
     reader: Reader<A>,
     tokens: &'t [Token<'t>],
 ) -> Parsed<'t, Items<FromItem<A>, A>>
     ensures { Parses (λ t. map (λ c. from_item_of c) t) rules.from reader tokens.now result }
 {
-    let (first, mut rest) = from_item(reader, tokens)?;
-    let mut all = Items::new(reader.alloc);
-    all.push(first)?;
-    let most = rest.len();
-    for _ in 0..most {
-        if !sees(TokenKind::Comma, rest) {
-            return Ok((all, rest));
-        }
-        let (next, after) = next_from_item(reader, rest)?;
-        all.push(next)?;
-        rest = after;
-    }
-    Ok((all, rest))
+    comma_list::<A, FromItemParser>(reader, tokens)
 }
 
 // `[WHERE expression]`.
@@ -369,35 +363,34 @@ fn sort_key<'t, A: Heap>(reader: Reader<A>, tokens: &'t [Token<'t>]) -> Parsed<'
     ))
 }
 
-// `, sort_key`.
-#[tactic(auto, unfolding(crate::specs::Queries::next_sort_key))]
-fn next_sort_key<'t, A: Heap>(reader: Reader<A>, tokens: &'t [Token<'t>]) -> Parsed<'t, SortKey<A>>
-    ensures { Parses (λ t. sort_key_of t) rules.next_sort_key reader tokens.now result }
-{
-    let (_, rest) = expect(TokenKind::Comma, tokens)?;
-    sort_key(reader, rest)
+// The parser of a key of ORDER BY.
+struct SortKeyParser;
+
+impl<A: Heap> Parser<A> for SortKeyParser {
+    type Tree = SortKey<A>;
+
+    ghost Spec = { ast.SortKey };
+
+    ghost view = { λ k. sort_key_of k };
+
+    ghost rule = { rules.sort_key };
+
+    fn parse<'t>(reader: Reader<A>, tokens: &'t [Token<'t>]) -> Parsed<'t, SortKey<A>>
+        ensures { Parses (λ k. sort_key_of k) rules.sort_key reader tokens.now result }
+    {
+        sort_key(reader, tokens)
+    }
 }
 
 // `sort_key {, sort_key}`.
+#[tactic(auto, unfolding(crate::specs::Queries::sort_keys))]
 fn sort_keys<'t, A: Heap>(
     reader: Reader<A>,
     tokens: &'t [Token<'t>],
 ) -> Parsed<'t, Items<SortKey<A>, A>>
     ensures { Parses (λ t. map (λ k. sort_key_of k) t) rules.sort_keys reader tokens.now result }
 {
-    let (first, mut rest) = sort_key(reader, tokens)?;
-    let mut all = Items::new(reader.alloc);
-    all.push(first)?;
-    let most = rest.len();
-    for _ in 0..most {
-        if !sees(TokenKind::Comma, rest) {
-            return Ok((all, rest));
-        }
-        let (next, after) = next_sort_key(reader, rest)?;
-        all.push(next)?;
-        rest = after;
-    }
-    Ok((all, rest))
+    comma_list::<A, SortKeyParser>(reader, tokens)
 }
 
 // `[ORDER BY sort_keys]`.

@@ -17,7 +17,7 @@ use Rattle.value.specs.declared.operators.Aggregate.{Aggregate}
 use Rattle.value.specs.declared.operators.Aggregate.TheVariants as function
 use Rattle.row_ast.specs.Ast as ast
 use Rattle.row_ast.specs.Ast.{Name, ColumnRef, Expr, exprs_of, arms_of, and_members, or_members, Otherwise}
-use Rattle.row_reader.specs.Language.{Nested, an_expression, a_negation, a_unary, Located, Tree, language, Rule, is, of, is_name, maybe, after, inside, listed, name_of}
+use Rattle.row_reader.specs.Language.{Nested, an_expression, a_negation, a_unary, Located, Tree, language, Rule, is, of, is_name, maybe, after, inside, listed, comma_list, name_of}
 use Rattle.row_reader.specs.declared.reader.Class.TheVariants as c
 
 -- ---- trees
@@ -91,12 +91,9 @@ called p (Dotted n) = column_expr p.0 n
 unfoldable pub name : Rule Name
 name = made name_of (word (of c.Name))
 
-unfoldable pub next_name : Rule Name
-next_name = after (is k.Comma) name
-
 -- name {, name}
 unfoldable pub names : Rule (List Name)
-names = listed name next_name
+names = comma_list name
 
 -- [. name]
 unfoldable pub dot_name : Rule (Option Name)
@@ -106,12 +103,9 @@ dot_name = maybe (after (is k.Dot) name)
 unfoldable pub column : Rule ColumnRef
 column = made (λ p. column_ref p.0 p.1) (both (word (of c.Name)) dot_name)
 
-unfoldable pub next_column : Rule ColumnRef
-next_column = after (is k.Comma) column
-
 -- col {, col}
 unfoldable pub columns : Rule (List ColumnRef)
-columns = listed column next_column
+columns = comma_list column
 
 -- type := bigint | text
 unfoldable pub type_name : Rule ColType
@@ -145,12 +139,9 @@ value =
     either (made (λ p. number_of (neg_ℤ (pos p.1.number))) (both (word (of c.Sign)) (word (of c.Magnitude))))
     (made (λ p. p.1) unsigned_literal)
 
-unfoldable pub next_value : Rule Datum
-next_value = after (is k.Comma) value
-
 -- lit {, lit}
 unfoldable pub value_list : Rule (List Datum)
-value_list = listed value next_value
+value_list = comma_list value
 
 -- ---- operators, each with where it starts
 

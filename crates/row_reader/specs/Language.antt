@@ -138,5 +138,9 @@ inside g = made (λ x. x.1.0) (nest (is k.Open) (both g (word (is k.Close))))
 abbrev pub listed : {A : Type 0} → Rule A → Rule A → Rule (List A)
 listed g h = made (λ p. p.0 ∷ p.1) (both g (many false h))
 
+-- g {, g}
+abbrev pub comma_list : {A : Type 0} → Rule A → Rule (List A)
+comma_list g = listed g (after (is k.Comma) g)
+
 abbrev pub name_of : Word → Name
 name_of w = folded w.bytes

@@ -6,9 +6,10 @@ ghost use Rattle.row_tokens.specs.View.{words_of};
 ghost use Rattle.row_reader.specs.Expressions as rules;
 ghost use Rattle.row_reader.specs.Expressions.{grammar, number_of};
 ghost use Rattle.row_reader.specs.Reading.{Parses};
-ghost use Rattle.value.specs.Datum.{int, datum};
+ghost use Rattle.value.specs.Datum.{Datum, int, datum};
 
-use crate::reader::{Class, Parsed, Reader, expect, expect_any, sees, sees_any};
+use crate::comma_list::comma_list;
+use crate::reader::{Class, Parsed, Parser, Reader, expect, expect_any, sees, sees_any};
 use memory::Heap;
 use row_tokens::{Token, TokenKind, unquoted};
 use text::Items;
@@ -100,33 +101,32 @@ fn value<'t, A: Heap>(reader: Reader<A>, tokens: &'t [Token<'t>]) -> Parsed<'t, 
     }
 }
 
-// `, literal`.
-#[tactic(auto, unfolding(crate::specs::Expressions::next_value))]
-fn next_value<'t, A: Heap>(reader: Reader<A>, tokens: &'t [Token<'t>]) -> Parsed<'t, Value<A>>
-    ensures { Parses (λ t. datum t) rules.next_value reader tokens.now result }
-{
-    let (_, rest) = expect(TokenKind::Comma, tokens)?;
-    value(reader, rest)
+// The parser of a literal in a list of literals.
+struct ValueParser;
+
+impl<A: Heap> Parser<A> for ValueParser {
+    type Tree = Value<A>;
+
+    ghost Spec = { Datum };
+
+    ghost view = { λ v. datum v };
+
+    ghost rule = { rules.value };
+
+    fn parse<'t>(reader: Reader<A>, tokens: &'t [Token<'t>]) -> Parsed<'t, Value<A>>
+        ensures { Parses (λ v. datum v) rules.value reader tokens.now result }
+    {
+        value(reader, tokens)
+    }
 }
 
 /// `literal {, literal}`.
+#[tactic(auto, unfolding(crate::specs::Expressions::value_list))]
 pub fn value_list<'t, A: Heap>(
     reader: Reader<A>,
     tokens: &'t [Token<'t>],
 ) -> Parsed<'t, Items<Value<A>, A>>
     ensures { Parses (λ t. map (λ v. datum v) t) rules.value_list reader tokens.now result }
 {
-    let (first, mut rest) = value(reader, tokens)?;
-    let mut all = Items::new(reader.alloc);
-    all.push(first)?;
-    let most = rest.len();
-    for _ in 0..most {
-        if !sees(TokenKind::Comma, rest) {
-            return Ok((all, rest));
-        }
-        let (next, after) = next_value(reader, rest)?;
-        all.push(next)?;
-        rest = after;
-    }
-    Ok((all, rest))
+    comma_list::<A, ValueParser>(reader, tokens)
 }

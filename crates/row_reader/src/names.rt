@@ -6,9 +6,11 @@ ghost use Rattle.row_tokens.specs.View.{words_of, word_of};
 ghost use Rattle.row_reader.specs.Expressions as rules;
 ghost use Rattle.row_reader.specs.Expressions.{column_ref};
 ghost use Rattle.row_reader.specs.Reading.{Parses};
+ghost use Rattle.row_ast.specs.Ast as ast;
 ghost use Rattle.row_ast.specs.View.{column_ref_of};
 
-use crate::reader::{Class, Parsed, Reader, expect, expect_any, sees};
+use crate::comma_list::comma_list;
+use crate::reader::{Class, Parsed, Parser, Reader, expect, expect_any, sees};
 use memory::Heap;
 use row_ast::ColumnRef;
 use row_tokens::{Token, TokenKind, folded};
@@ -23,15 +25,6 @@ pub fn name<'t, A: Heap>(reader: Reader<A>, tokens: &'t [Token<'t>]) -> Parsed<'
 {
     let (token, rest) = expect_any(Class::Name, tokens)?;
     Ok((folded(reader.alloc, token.text)?, rest))
-}
-
-// `, name`.
-#[tactic(auto, unfolding(crate::specs::Expressions::next_name))]
-fn next_name<'t, A: Heap>(reader: Reader<A>, tokens: &'t [Token<'t>]) -> Parsed<'t, Text<A>>
-    ensures { Parses (λ t. t) rules.next_name reader tokens.now result }
-{
-    let (_, rest) = expect(TokenKind::Comma, tokens)?;
-    name(reader, rest)
 }
 
 /// `[. name]`.
@@ -84,15 +77,6 @@ pub fn column<'t, A: Heap>(reader: Reader<A>, tokens: &'t [Token<'t>]) -> Parsed
     Ok((column_ref(reader.alloc, &word, dotted)?, rest))
 }
 
-// `, column`.
-#[tactic(auto, unfolding(crate::specs::Expressions::next_column))]
-fn next_column<'t, A: Heap>(reader: Reader<A>, tokens: &'t [Token<'t>]) -> Parsed<'t, ColumnRef<A>>
-    ensures { Parses (λ t. column_ref_of t) rules.next_column reader tokens.now result }
-{
-    let (_, rest) = expect(TokenKind::Comma, tokens)?;
-    column(reader, rest)
-}
-
 /// `bigint` or `text`.
 #[tactic(auto, unfolding(crate::specs::Expressions::type_name))]
 pub fn type_name<'t, A: Heap>(reader: Reader<A>, tokens: &'t [Token<'t>]) -> Parsed<'t, ColType>
@@ -107,6 +91,25 @@ pub fn type_name<'t, A: Heap>(reader: Reader<A>, tokens: &'t [Token<'t>]) -> Par
     }
 }
 
+// The parser of a name.
+struct NameParser;
+
+impl<A: Heap> Parser<A> for NameParser {
+    type Tree = Text<A>;
+
+    ghost Spec = { ast.Name };
+
+    ghost view = { λ t. t };
+
+    ghost rule = { rules.name };
+
+    fn parse<'t>(reader: Reader<A>, tokens: &'t [Token<'t>]) -> Parsed<'t, Text<A>>
+        ensures { Parses (λ t. t) rules.name reader tokens.now result }
+    {
+        name(reader, tokens)
+    }
+}
+
 /// `name {, name}`.
 pub fn names<'t, A: Heap>(
     reader: Reader<A>,
@@ -114,39 +117,35 @@ pub fn names<'t, A: Heap>(
 ) -> Parsed<'t, Items<Text<A>, A>>
     ensures { Parses (λ t. t) rules.names reader tokens.now result }
 {
-    let (first, mut rest) = name(reader, tokens)?;
-    let mut all = Items::new(reader.alloc);
-    all.push(first)?;
-    let most = rest.len();
-    for _ in 0..most {
-        if !sees(TokenKind::Comma, rest) {
-            return Ok((all, rest));
-        }
-        let (next, after) = next_name(reader, rest)?;
-        all.push(next)?;
-        rest = after;
+    comma_list::<A, NameParser>(reader, tokens)
+}
+
+// The parser of a column.
+struct ColumnParser;
+
+impl<A: Heap> Parser<A> for ColumnParser {
+    type Tree = ColumnRef<A>;
+
+    ghost Spec = { ast.ColumnRef };
+
+    ghost view = { λ c. column_ref_of c };
+
+    ghost rule = { rules.column };
+
+    fn parse<'t>(reader: Reader<A>, tokens: &'t [Token<'t>]) -> Parsed<'t, ColumnRef<A>>
+        ensures { Parses (λ c. column_ref_of c) rules.column reader tokens.now result }
+    {
+        column(reader, tokens)
     }
-    Ok((all, rest))
 }
 
 /// `name [. name] {, name [. name]}`.
+#[tactic(auto, unfolding(crate::specs::Expressions::columns))]
 pub fn columns<'t, A: Heap>(
     reader: Reader<A>,
     tokens: &'t [Token<'t>],
 ) -> Parsed<'t, Items<ColumnRef<A>, A>>
     ensures { Parses (λ t. map (λ c. column_ref_of c) t) rules.columns reader tokens.now result }
 {
-    let (first, mut rest) = column(reader, tokens)?;
-    let mut all = Items::new(reader.alloc);
-    all.push(first)?;
-    let most = rest.len();
-    for _ in 0..most {
-        if !sees(TokenKind::Comma, rest) {
-            return Ok((all, rest));
-        }
-        let (next, after) = next_column(reader, rest)?;
-        all.push(next)?;
-        rest = after;
-    }
-    Ok((all, rest))
+    comma_list::<A, ColumnParser>(reader, tokens)
 }

@@ -41,6 +41,26 @@ impl<A: Heap> Reader<A> {
 /// A value and the tokens after it.
 pub type Parsed<'t, T> = Result<(T, &'t [Token<'t>]), Failure<ReadError>>;
 
+/// What reads the tokens of a rule of the grammar.
+pub trait Parser<A: Heap> {
+    ghost use Rattle.row_reader.specs.Language.{Rule};
+    ghost use Rattle.row_reader.specs.Reading.{Parses};
+
+    /// What the rule gives.
+    type Tree: Drop;
+
+    // The tree in specs, what it is of a tree, and the rule.
+    ghost Spec: { Type 0 };
+
+    ghost view: { Self.Tree → Spec };
+
+    ghost rule: { Rule Spec };
+
+    /// The tree of the tokens, and those after it.
+    fn parse<'t>(reader: Reader<A>, tokens: &'t [Token<'t>]) -> Parsed<'t, Self::Tree>
+        ensures { Parses view rule reader tokens.now result };
+}
+
 /// A value and what is read after it. Where reading fails, the value is dropped here and not in the
 /// caller, whose proof would contain the whole drop of a tree for each `?` at which it is alive.
 pub fn before<'t, T: Drop, U: Drop>(value: T, next: Parsed<'t, U>) -> Parsed<'t, (T, U)>

@@ -1,6 +1,7 @@
 -- The grammar of schema statements: a definition for each rule.
 use Rattle.std.specs.Prelude.{Bool, true, false, List, [], ◌∷◌, Option, Some, None}
 use Rattle.row_grammar.specs.Grammar.{word, nothing, both, either, made, many, inner}
+use Rattle.row_tokens.specs.declared.token.TokenKind.{TokenKind}
 use Rattle.row_tokens.specs.declared.token.TokenKind.TheVariants as k
 use Rattle.row_tokens.specs.Words.{Word}
 use Rattle.value.specs.declared.types.ColType.{ColType}
@@ -8,7 +9,7 @@ use Rattle.value.specs.declared.types.ColType.TheVariants as types
 use Rattle.value.specs.Columns.{Column}
 use Rattle.row_ast.specs.Ast.{Name, everyone, Grant}
 use Rattle.row_ast.specs.Statements.{Statement, CreateRole, GrantRole, RevokeRole, CreateTable, SetOwner, SetRowSecurity, CreateIndex, GrantSelect, RevokeSelect, CreatePolicy, DropPolicy}
-use Rattle.row_reader.specs.Language.{an_expression, Located, Rule, is, maybe, after, enclosed, inside, listed}
+use Rattle.row_reader.specs.Language.{an_expression, Located, Rule, is, maybe, after, enclosed, inside, comma_list}
 use Rattle.row_reader.specs.Expressions.{name, names, type_name}
 use Rattle.row_ast.specs.declared.statement.RowSecurity.{RowSecurity}
 use Rattle.row_ast.specs.declared.statement.RowSecurity.TheVariants as setting
@@ -39,11 +40,8 @@ not_null = either (made (λ w. true) (after (is k.Not) (word (is k.Null)))) (not
 unfoldable pub column_def : Rule Column
 column_def = made (λ p. record { name = p.0; data_type = p.1.0; not_null = p.1.1 }) (both name (both column_type not_null))
 
-unfoldable pub next_column_def : Rule Column
-next_column_def = after (is k.Comma) column_def
-
 unfoldable pub column_defs : Rule (List Column)
-column_defs = listed column_def next_column_def
+column_defs = comma_list column_def
 
 -- TABLE t ( c type [NOT NULL], .. )
 unfoldable pub new_table : Rule Statement
@@ -128,17 +126,32 @@ granted = after (is k.Select) (both grant_columns (after (is k.On) name))
 abbrev pub grant_to : Option (List Name) × Name → List Name → Grant
 grant_to p roles = record { columns = p.0; table = p.1; roles = roles }
 
+-- what follows GRANT and REVOKE
+pub data GrantBody : Type 0 where
+  of_select : Grant → GrantBody
+  of_role : (group member : Name) → GrantBody
+
+abbrev pub given : GrantBody → Statement
+given (of_select g) = GrantSelect g
+given (of_role group member) = GrantRole group member
+
+abbrev pub taken : GrantBody → Statement
+taken (of_select g) = RevokeSelect g
+taken (of_role group member) = RevokeRole group member
+
+-- SELECT .. TO roles | g TO m, with this word for TO
+unfoldable pub granting : TokenKind → Rule GrantBody
+granting w = either
+    (made (λ p. of_select (grant_to p.0 p.1)) (both granted (after (is w) names)))
+    (made (λ p. of_role p.0 p.1) (both name (after (is w) name)))
+
 -- GRANT SELECT .. TO roles | GRANT g TO m
 unfoldable pub grant : Rule Statement
-grant = after (is k.Grant) (either
-    (made (λ p. GrantSelect (grant_to p.0 p.1)) (both granted (after (is k.To) names)))
-    (made (λ p. GrantRole p.0 p.1) (both name (after (is k.To) name))))
+grant = made given (after (is k.Grant) (granting k.To))
 
 -- REVOKE SELECT .. FROM roles | REVOKE g FROM m
 unfoldable pub revoke : Rule Statement
-revoke = after (is k.Revoke) (either
-    (made (λ p. RevokeSelect (grant_to p.0 p.1)) (both granted (after (is k.From) names)))
-    (made (λ p. RevokeRole p.0 p.1) (both name (after (is k.From) name))))
+revoke = made taken (after (is k.Revoke) (granting k.From))
 
 -- ---- DROP, and all of them
 

@@ -7,14 +7,16 @@ ghost use Rattle.row_reader.specs.Expressions.{grammar};
 ghost use Rattle.row_reader.specs.Reading.{Parses};
 ghost use Rattle.row_statements.specs.Schemas as rules;
 ghost use Rattle.row_ast.specs.View.{statement_of};
+ghost use Rattle.value.specs.Columns as columns;
 ghost use Rattle.value.specs.Columns.{column_of};
 ghost use Rattle.row_expressions.specs.View.{located};
 
 use memory::Heap;
 use row_ast::{CreatePolicy, Statement};
 use row_expressions::{Located, inner_expression};
+use row_reader::comma_list::comma_list;
 use row_reader::names::{name, names, type_name};
-use row_reader::reader::{Parsed, Reader, before, expect, open, sees};
+use row_reader::reader::{Parsed, Parser, Reader, expect, open, sees};
 use row_tokens::{Token, TokenKind};
 use text::{Items, Text};
 use value::{ColType, Column};
@@ -104,35 +106,34 @@ fn column_def<'t, A: Heap>(reader: Reader<A>, tokens: &'t [Token<'t>]) -> Parsed
     ))
 }
 
-// `, name type [NOT NULL]`.
-#[tactic(auto, unfolding(crate::specs::Schemas::next_column_def))]
-fn next_column_def<'t, A: Heap>(reader: Reader<A>, tokens: &'t [Token<'t>]) -> Parsed<'t, Column<A>>
-    ensures { Parses (λ t. column_of t) rules.next_column_def reader tokens.now result }
-{
-    let (_, rest) = expect(TokenKind::Comma, tokens)?;
-    column_def(reader, rest)
+// The parser of a column of CREATE TABLE.
+struct ColumnDefParser;
+
+impl<A: Heap> Parser<A> for ColumnDefParser {
+    type Tree = Column<A>;
+
+    ghost Spec = { columns.Column };
+
+    ghost view = { λ c. column_of c };
+
+    ghost rule = { rules.column_def };
+
+    fn parse<'t>(reader: Reader<A>, tokens: &'t [Token<'t>]) -> Parsed<'t, Column<A>>
+        ensures { Parses (λ c. column_of c) rules.column_def reader tokens.now result }
+    {
+        column_def(reader, tokens)
+    }
 }
 
 // `name type [NOT NULL] {, name type [NOT NULL]}`.
+#[tactic(auto, unfolding(crate::specs::Schemas::column_defs))]
 fn column_defs<'t, A: Heap>(
     reader: Reader<A>,
     tokens: &'t [Token<'t>],
 ) -> Parsed<'t, Items<Column<A>, A>>
     ensures { Parses (λ t. map (λ c. column_of c) t) rules.column_defs reader tokens.now result }
 {
-    let (first, mut rest) = column_def(reader, tokens)?;
-    let mut all = Items::new(reader.alloc);
-    all.push(first)?;
-    let most = rest.len();
-    for _ in 0..most {
-        if !sees(TokenKind::Comma, rest) {
-            return Ok((all, rest));
-        }
-        let (next, after) = next_column_def(reader, rest)?;
-        all.push(next)?;
-        rest = after;
-    }
-    Ok((all, rest))
+    comma_list::<A, ColumnDefParser>(reader, tokens)
 }
 
 // `TABLE name ( columns )`.
@@ -230,7 +231,7 @@ fn using<'t, A: Heap>(reader: Reader<A>, tokens: &'t [Token<'t>]) -> Parsed<'t, 
     let (_, rest) = expect(TokenKind::Using, tokens)?;
     let (_, rest) = open(TokenKind::Open, reader.depth_limit, rest)?;
     let (condition, rest) = inner_expression(reader, rest)?;
-    let ((condition, _), rest) = before(condition, expect(TokenKind::Close, rest))?;
+    let (_, rest) = expect(TokenKind::Close, rest)?;
     Ok((condition, rest))
 }
 

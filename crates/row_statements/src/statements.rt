@@ -9,6 +9,7 @@ ghost use Rattle.row_reader.specs.Language.{language, kind_of};
 ghost use Rattle.row_reader.specs.Reading.{Parses};
 ghost use Rattle.row_statements.specs.Schemas as rules;
 ghost use Rattle.row_ast.specs.View.{statement_of};
+ghost use Rattle.row_statements.specs.View.{granting_of};
 
 use crate::create::create;
 use memory::Heap;
@@ -113,52 +114,68 @@ fn granted<'t, A: Heap>(
     Ok(((columns, table), rest))
 }
 
+// What follows GRANT and REVOKE.
+#[derive(Drop)]
+enum GrantBody<A: Heap> {
+    // SELECT on a table, or on columns of it.
+    Select(Grant<A>),
+    // A membership.
+    Role { group: Text<A>, member: Text<A> },
+}
+
+// `SELECT .. TO roles`, or `group TO member`, with this word for TO.
+#[tactic(auto, unfolding(crate::specs::Schemas::granting, crate::specs::Schemas::granted))]
+fn granting<'t, A: Heap>(
+    word: TokenKind,
+    reader: Reader<A>,
+    tokens: &'t [Token<'t>],
+) -> Parsed<'t, GrantBody<A>>
+    ensures { Parses (λ t. granting_of t) (rules.granting word) reader tokens.now result }
+{
+    if sees(TokenKind::Select, tokens) {
+        let ((columns, table), rest) = granted(reader, tokens)?;
+        let (_, rest) = expect(word, rest)?;
+        let (roles, rest) = names(reader, rest)?;
+        let grant = Grant {
+            columns,
+            table,
+            roles,
+        };
+        Ok((GrantBody::Select(grant), rest))
+    } else {
+        let (group, rest) = name(reader, tokens)?;
+        let (_, rest) = expect(word, rest)?;
+        let (member, rest) = name(reader, rest)?;
+        Ok((GrantBody::Role { group, member }, rest))
+    }
+}
+
 // `GRANT SELECT .. TO roles`, or `GRANT group TO member`.
-#[tactic(auto, unfolding(crate::specs::Schemas::grant, crate::specs::Schemas::granted))]
+#[tactic(auto, unfolding(crate::specs::Schemas::grant))]
 fn grant<'t, A: Heap>(reader: Reader<A>, tokens: &'t [Token<'t>]) -> Parsed<'t, Statement<A>>
     ensures { Parses (λ t. statement_of t) rules.grant reader tokens.now result }
 {
     let (_, rest) = expect(TokenKind::Grant, tokens)?;
-    if sees(TokenKind::Select, rest) {
-        let ((columns, table), rest) = granted(reader, rest)?;
-        let (_, rest) = expect(TokenKind::To, rest)?;
-        let (roles, rest) = names(reader, rest)?;
-        let grant = Grant {
-            columns,
-            table,
-            roles,
-        };
-        Ok((Statement::GrantSelect(grant), rest))
-    } else {
-        let (group, rest) = name(reader, rest)?;
-        let (_, rest) = expect(TokenKind::To, rest)?;
-        let (member, rest) = name(reader, rest)?;
-        Ok((Statement::GrantRole { group, member }, rest))
-    }
+    let (granting, rest) = granting(TokenKind::To, reader, rest)?;
+    let statement = match granting {
+        GrantBody::Select(grant) => Statement::GrantSelect(grant),
+        GrantBody::Role { group, member } => Statement::GrantRole { group, member },
+    };
+    Ok((statement, rest))
 }
 
 // `REVOKE SELECT .. FROM roles`, or `REVOKE group FROM member`.
-#[tactic(auto, unfolding(crate::specs::Schemas::revoke, crate::specs::Schemas::granted))]
+#[tactic(auto, unfolding(crate::specs::Schemas::revoke))]
 fn revoke<'t, A: Heap>(reader: Reader<A>, tokens: &'t [Token<'t>]) -> Parsed<'t, Statement<A>>
     ensures { Parses (λ t. statement_of t) rules.revoke reader tokens.now result }
 {
     let (_, rest) = expect(TokenKind::Revoke, tokens)?;
-    if sees(TokenKind::Select, rest) {
-        let ((columns, table), rest) = granted(reader, rest)?;
-        let (_, rest) = expect(TokenKind::From, rest)?;
-        let (roles, rest) = names(reader, rest)?;
-        let grant = Grant {
-            columns,
-            table,
-            roles,
-        };
-        Ok((Statement::RevokeSelect(grant), rest))
-    } else {
-        let (group, rest) = name(reader, rest)?;
-        let (_, rest) = expect(TokenKind::From, rest)?;
-        let (member, rest) = name(reader, rest)?;
-        Ok((Statement::RevokeRole { group, member }, rest))
-    }
+    let (granting, rest) = granting(TokenKind::From, reader, rest)?;
+    let statement = match granting {
+        GrantBody::Select(grant) => Statement::RevokeSelect(grant),
+        GrantBody::Role { group, member } => Statement::RevokeRole { group, member },
+    };
+    Ok((statement, rest))
 }
 
 // `DROP POLICY name ON table`.

@@ -7,9 +7,9 @@ use Rattle.row_tokens.specs.contracts.token.TokenKind.{the_type}
 use Rattle.row_tokens.specs.declared.token.TokenKind.{TokenKind}
 use Rattle.row_tokens.specs.declared.token.TokenKind.TheVariants as k
 use Rattle.row_reader.specs.Language.{Nested, an_expression, a_negation, a_unary, language, is, of}
-use Rattle.row_reader.specs.Expressions.{grammar, rule, nested_first, name, next_name, names, dot_name, column, next_column, columns, type_name, word_literal, unsigned_literal, literal, value, next_value, value_list, parenthesized, cast, arm, arms, otherwise, case, counted_rows, count_tail, count, aggregate_tail, aggregate, constant, plain_column, multiplication, addition, comparison_sign, aggregate_name, primary, unary, factor, product, addend, sum, between, in_list, range, negated_range, range_tail, ranged_sum, compared_with, comparison, null_word, is_null, null_test, negation, and_operand, conjunction, or_operand, expression}
-use Rattle.row_queries.specs.Queries.{condition, select_alias, select_item, next_select_item, select_items, select_list, table_alias, table_ref, on_condition, plain_join, join, join_list, from_item, next_from_item, from, filter, group_by, having, sort_target, direction, sort_key, next_sort_key, sort_keys, order_by, limit, clauses, query}
-use Rattle.row_statements.specs.Schemas.{superuser, bypass_rls, new_role, column_type, not_null, column_def, next_column_def, column_defs, new_table, new_index, strength, command, policy_roles, using, new_policy, create, owner, security_setting, security, alter, grant_columns, granted, grant, revoke, drop, statement, ended_statement, schema}
+use Rattle.row_reader.specs.Expressions.{grammar, rule, nested_first, name, names, dot_name, column, columns, type_name, word_literal, unsigned_literal, literal, value, value_list, parenthesized, cast, arm, arms, otherwise, case, counted_rows, count_tail, count, aggregate_tail, aggregate, constant, plain_column, multiplication, addition, comparison_sign, aggregate_name, primary, unary, factor, product, addend, sum, between, in_list, range, negated_range, range_tail, ranged_sum, compared_with, comparison, null_word, is_null, null_test, negation, and_operand, conjunction, or_operand, expression}
+use Rattle.row_queries.specs.Queries.{condition, select_alias, select_item, select_items, select_list, table_alias, table_ref, on_condition, plain_join, join, join_list, from_item, from, filter, group_by, having, sort_target, direction, sort_key, sort_keys, order_by, limit, clauses, query}
+use Rattle.row_statements.specs.Schemas.{superuser, bypass_rls, new_role, column_type, not_null, column_def, column_defs, new_table, new_index, strength, command, policy_roles, using, new_policy, create, owner, security_setting, security, alter, grant_columns, granted, granting, grant, revoke, drop, statement, ended_statement, schema}
 
 abbrev pub kinds : List TokenKind
 kinds =
@@ -66,7 +66,7 @@ nested_ext a_negation kind = extends_negation kind
 nested_ext a_unary kind = extends_unary kind
 
 pub decided : IsDecided grammar kinds nested_ext
-unfolding is of name next_name names dot_name column next_column columns type_name word_literal unsigned_literal literal value next_value value_list parenthesized cast arm arms otherwise case counted_rows count_tail count aggregate_tail aggregate constant plain_column multiplication addition comparison_sign aggregate_name primary unary factor product addend sum between in_list range negated_range range_tail ranged_sum compared_with comparison null_word is_null null_test negation and_operand conjunction or_operand expression
+unfolding is of name names dot_name column columns type_name word_literal unsigned_literal literal value value_list parenthesized cast arm arms otherwise case counted_rows count_tail count aggregate_tail aggregate constant plain_column multiplication addition comparison_sign aggregate_name primary unary factor product addend sum between in_list range negated_range range_tail ranged_sum compared_with comparison null_word is_null null_test negation and_operand conjunction or_operand expression
 decided = record {
   every = every_kind;
   first_fits = first_fits;
@@ -96,13 +96,13 @@ decided = record {
     rules_good a_unary = refl
 
 pub query_good : good language nested_first nested_ext kinds false query ≡ true
-unfolding is of condition select_alias select_item next_select_item select_items select_list table_alias table_ref on_condition plain_join join join_list from_item next_from_item from filter group_by having sort_target direction sort_key next_sort_key sort_keys order_by limit clauses query name next_name names dot_name column next_column columns type_name word_literal unsigned_literal literal value next_value value_list parenthesized cast arm arms otherwise case counted_rows count_tail count aggregate_tail aggregate constant plain_column multiplication addition comparison_sign aggregate_name primary unary factor product addend sum between in_list range negated_range range_tail ranged_sum compared_with comparison null_word is_null null_test negation and_operand conjunction or_operand expression
+unfolding is of condition select_alias select_item select_items select_list table_alias table_ref on_condition plain_join join join_list from_item from filter group_by having sort_target direction sort_key sort_keys order_by limit clauses query name names dot_name column columns type_name word_literal unsigned_literal literal value value_list parenthesized cast arm arms otherwise case counted_rows count_tail count aggregate_tail aggregate constant plain_column multiplication addition comparison_sign aggregate_name primary unary factor product addend sum between in_list range negated_range range_tail ranged_sum compared_with comparison null_word is_null null_test negation and_operand conjunction or_operand expression
 query_good = refl
 
 pub schema_good : good language nested_first nested_ext kinds false schema ≡ true
-unfolding is of superuser bypass_rls new_role column_type not_null column_def next_column_def column_defs new_table new_index strength command policy_roles using new_policy create owner security_setting security alter grant_columns granted grant revoke drop statement ended_statement schema name next_name names dot_name column next_column columns type_name word_literal unsigned_literal literal value next_value value_list parenthesized cast arm arms otherwise case counted_rows count_tail count aggregate_tail aggregate constant plain_column multiplication addition comparison_sign aggregate_name primary unary factor product addend sum between in_list range negated_range range_tail ranged_sum compared_with comparison null_word is_null null_test negation and_operand conjunction or_operand expression
+unfolding is of superuser bypass_rls new_role column_type not_null column_def column_defs new_table new_index strength command policy_roles using new_policy create owner security_setting security alter grant_columns granted granting grant revoke drop statement ended_statement schema name names dot_name column columns type_name word_literal unsigned_literal literal value value_list parenthesized cast arm arms otherwise case counted_rows count_tail count aggregate_tail aggregate constant plain_column multiplication addition comparison_sign aggregate_name primary unary factor product addend sum between in_list range negated_range range_tail ranged_sum compared_with comparison null_word is_null null_test negation and_operand conjunction or_operand expression
 schema_good = refl
 
 pub statement_good : good language nested_first nested_ext kinds false statement ≡ true
-unfolding is of superuser bypass_rls new_role column_type not_null column_def next_column_def column_defs new_table new_index strength command policy_roles using new_policy create owner security_setting security alter grant_columns granted grant revoke drop statement ended_statement schema name next_name names dot_name column next_column columns type_name word_literal unsigned_literal literal value next_value value_list parenthesized cast arm arms otherwise case counted_rows count_tail count aggregate_tail aggregate constant plain_column multiplication addition comparison_sign aggregate_name primary unary factor product addend sum between in_list range negated_range range_tail ranged_sum compared_with comparison null_word is_null null_test negation and_operand conjunction or_operand expression
+unfolding is of superuser bypass_rls new_role column_type not_null column_def column_defs new_table new_index strength command policy_roles using new_policy create owner security_setting security alter grant_columns granted granting grant revoke drop statement ended_statement schema name names dot_name column columns type_name word_literal unsigned_literal literal value value_list parenthesized cast arm arms otherwise case counted_rows count_tail count aggregate_tail aggregate constant plain_column multiplication addition comparison_sign aggregate_name primary unary factor product addend sum between in_list range negated_range range_tail ranged_sum compared_with comparison null_word is_null null_test negation and_operand conjunction or_operand expression
 statement_good = refl

@@ -72,8 +72,8 @@ module _ {A : Type 0} (f : Rule A) (decides : good language nested_first nested_
   pub within_one : (t t' : A) → Spells f text t → Spells f text t' → t ≡ t'
   within_one t t' h h' = one_tree grammar kinds nested_ext decided f decides run_limit depth_limit (words text) t t' h h'
 
-  pub within_is : (ts : List Word) (t : A) → ts ≡ words text → length text ≤ most → whole_at grammar run_limit depth_limit f ts ≡ Ok t → read_within most f text ≡ Ok t
-  within_is ts t s l e = let w : whole ≡ Ok t = rw (← s) e in rw (le-ltb most (length text) l, w) refl
+pub within_is : {A : Type 0} (f : Rule A) (most : ℕ) (text : List ℕ) (ts : List Word) (t : A) → ts ≡ words text → length text ≤ most → whole_at grammar run_limit depth_limit f ts ≡ Ok t → read_within most f text ≡ Ok t
+within_is {A} f most text ts t s l e = let w : ◌≡◌ {A = Result A ReadError} (whole_at grammar run_limit depth_limit f (words text)) (Ok t) = rw (← s) e in rw (le-ltb most (length text) l, w) refl
 
 -- ---- tokens, read within limits that are these
 

@@ -8,6 +8,7 @@ ghost use Rattle.row_ast.specs.View.{query_of, statement_of};
 ghost use Rattle.row_grammar.specs.Limits.{whole_at};
 ghost use Rattle.row_queries.specs.Queries as queries;
 ghost use Rattle.row_reader.specs.Expressions.{grammar, run_limit, depth_limit};
+ghost use Rattle.row_reader.specs.Reading.{Parses};
 ghost use Rattle.row_statements.specs.Schemas as statements;
 ghost use Rattle.row_tokens.specs.View.{words_of};
 ghost use Rattle.row_tokens.specs.Words.{words};
@@ -18,7 +19,7 @@ use memory::{Failure, Heap};
 use row_ast::{Query, Statement};
 use row_grammar::ReadError;
 use row_queries::{is_small, query};
-use row_reader::reader::Reader;
+use row_reader::reader::{Parsed, Parser, Reader};
 use row_statements::{schema, statement};
 use row_tokens::{Token, scan};
 use text::Items;
@@ -77,31 +78,93 @@ fn fault_of(text: &str, tokens: &[Token<'_>], error: ReadError) -> ParseError
     }
 }
 
-// The query that tokens are, all of them.
-#[tactic(auto, unfolding(row_grammar::specs::Limits::whole_at))]
-fn whole_query<A: Heap>(alloc: A, tokens: &[Token<'_>]) -> Result<Query<A>, Failure<ReadError>>
-    ensures { Gives (λ q. query_of q) result (whole_at grammar run_limit depth_limit queries.query (words_of tokens.now)) }
-{
-    let (tree, rest) = query(reader(alloc), tokens)?;
-    match rest {
-        [] => Ok(tree),
-        [_, ..] => {
-            drop(tree);
-            Err(Failure::Fault(ReadError::Syntax { left: rest.len() }))
-        }
+// The parser of a query.
+struct QueryParser;
+
+impl<A: Heap> Parser<A> for QueryParser {
+    type Tree = Query<A>;
+
+    ghost Spec = { ast.Query };
+
+    ghost view = { λ q. query_of q };
+
+    ghost rule = { queries.query };
+
+    fn parse<'t>(reader: Reader<A>, tokens: &'t [Token<'t>]) -> Parsed<'t, Query<A>>
+        ensures { Parses (λ q. query_of q) queries.query reader tokens.now result }
+    {
+        query(reader, tokens)
     }
 }
 
-// The query that a text is, with parts of any size.
-fn read_query<A: Heap>(alloc: A, text: &str) -> Result<Query<A>, Failure<ParseError>>
-    ensures { Gives (λ q. query_of q) result (read_within query_bytes queries.query text.now) }
+// The parser of a schema.
+struct SchemaParser;
+
+impl<A: Heap> Parser<A> for SchemaParser {
+    type Tree = Items<Statement<A>, A>;
+
+    ghost Spec = { List statement_ast.Statement };
+
+    ghost view = { λ l. map (λ s. statement_of s) l };
+
+    ghost rule = { statements.schema };
+
+    fn parse<'t>(reader: Reader<A>, tokens: &'t [Token<'t>]) -> Parsed<'t, Items<Statement<A>, A>>
+        ensures { Parses (λ l. map (λ s. statement_of s) l) statements.schema reader tokens.now result }
+    {
+        schema(reader, tokens)
+    }
+}
+
+// The parser of a statement.
+struct StatementParser;
+
+impl<A: Heap> Parser<A> for StatementParser {
+    type Tree = Statement<A>;
+
+    ghost Spec = { statement_ast.Statement };
+
+    ghost view = { λ s. statement_of s };
+
+    ghost rule = { statements.statement };
+
+    fn parse<'t>(reader: Reader<A>, tokens: &'t [Token<'t>]) -> Parsed<'t, Statement<A>>
+        ensures { Parses (λ s. statement_of s) statements.statement reader tokens.now result }
+    {
+        statement(reader, tokens)
+    }
+}
+
+// What tokens are by a rule, all of them.
+#[tactic(auto, unfolding(row_grammar::specs::Limits::whole_at))]
+fn whole<A: Heap, P: Parser<A>>(
+    alloc: A,
+    tokens: &[Token<'_>],
+) -> Result<P::Tree, Failure<ReadError>>
+    ensures { Gives P.view result (whole_at grammar run_limit depth_limit P.rule (words_of tokens.now)) }
 {
-    if text.len() > QUERY_BYTES {
+    let (tree, rest) = P::parse(reader(alloc), tokens)?;
+    match rest {
+        [] => Ok(tree),
+        [_, ..] => Err(Failure::Fault(ReadError::Syntax { left: rest.len() })),
+    }
+}
+
+// What a text is by a rule, with parts of any size, where it has at most so many bytes.
+fn read_text<A: Heap, P: Parser<A>>(
+    alloc: A,
+    text: &str,
+    most: usize,
+) -> Result<P::Tree, Failure<ParseError>>
+    requires { most < 2 ^ 32 }
+    ensures { Gives P.view result (read_within most P.rule text.now) }
+{
+    if text.len() > most {
         return Err(Failure::Fault(ParseError::Limit));
     }
     let tokens = scan(alloc, text)?;
-    match whole_query(alloc, tokens.as_slice()) {
-        Ok(query) => Ok(query),
+    match whole::<A, P>(alloc, tokens.as_slice()) {
+        Ok(tree) => Ok(tree),
         Err(Failure::Fault(error)) => {
             Err(Failure::Fault(fault_of(text, tokens.as_slice(), error)))
         }
@@ -114,7 +177,7 @@ fn read_query<A: Heap>(alloc: A, text: &str) -> Result<Query<A>, Failure<ParseEr
 fn small_query<A: Heap>(alloc: A, text: &str) -> Result<Query<A>, Failure<ParseError>>
     ensures { Gives (λ q. query_of q) result (parsed_query text.now) }
 {
-    let query = read_query(alloc, text)?;
+    let query = read_text::<A, QueryParser>(alloc, text, QUERY_BYTES)?;
     if is_small(&query) {
         Ok(query)
     } else {
@@ -138,38 +201,6 @@ pub fn parse_query<A: Heap>(alloc: A, text: &str) -> Result<Query<A>, Failure<Pa
     small_query(alloc, text)
 }
 
-// The statements that tokens are, all of them.
-#[tactic(auto, unfolding(row_grammar::specs::Limits::whole_at))]
-fn whole_schema<A: Heap>(
-    alloc: A,
-    tokens: &[Token<'_>],
-) -> Result<Items<Statement<A>, A>, Failure<ReadError>>
-    ensures { Gives (λ acts. map (λ s. statement_of s) acts) result (whole_at grammar run_limit depth_limit statements.schema (words_of tokens.now)) }
-{
-    let (statements, rest) = schema(reader(alloc), tokens)?;
-    match rest {
-        [] => Ok(statements),
-        [_, ..] => Err(Failure::Fault(ReadError::Syntax { left: rest.len() })),
-    }
-}
-
-// The statements that a schema text is.
-fn read_schema<A: Heap>(alloc: A, text: &str) -> Result<Items<Statement<A>, A>, Failure<ParseError>>
-    ensures { Gives (λ acts. map (λ s. statement_of s) acts) result (read_within schema_bytes statements.schema text.now) }
-{
-    if text.len() > SCHEMA_BYTES {
-        return Err(Failure::Fault(ParseError::Limit));
-    }
-    let tokens = scan(alloc, text)?;
-    match whole_schema(alloc, tokens.as_slice()) {
-        Ok(statements) => Ok(statements),
-        Err(Failure::Fault(error)) => {
-            Err(Failure::Fault(fault_of(text, tokens.as_slice(), error)))
-        }
-        Err(Failure::OutOfMemory) => Err(Failure::OutOfMemory),
-    }
-}
-
 /// The statements that a schema text is, each followed by a semicolon. The fault is `Syntax` (42601) at the first token
 /// that cannot continue it, and `Limit` (54000) for more than 1,048,576 bytes or for nesting or
 /// a run beyond the limit.
@@ -186,42 +217,7 @@ pub fn parse_schema<A: Heap>(
     // A refusal is at the byte after the longest front, or a limit is passed.
     ensures refused { IfErr result (λ e. RefusesSchema text.now e) }
 {
-    read_schema(alloc, text)
-}
-
-// The statement that tokens are, all of them.
-#[tactic(auto, unfolding(row_grammar::specs::Limits::whole_at))]
-fn whole_statement<A: Heap>(
-    alloc: A,
-    tokens: &[Token<'_>],
-) -> Result<Statement<A>, Failure<ReadError>>
-    ensures { Gives (λ s. statement_of s) result (whole_at grammar run_limit depth_limit statements.statement (words_of tokens.now)) }
-{
-    let (tree, rest) = statement(reader(alloc), tokens)?;
-    match rest {
-        [] => Ok(tree),
-        [_, ..] => {
-            drop(tree);
-            Err(Failure::Fault(ReadError::Syntax { left: rest.len() }))
-        }
-    }
-}
-
-// The statement that a text is.
-fn read_statement<A: Heap>(alloc: A, text: &str) -> Result<Statement<A>, Failure<ParseError>>
-    ensures { Gives (λ s. statement_of s) result (read_within statement_bytes statements.statement text.now) }
-{
-    if text.len() > STATEMENT_BYTES {
-        return Err(Failure::Fault(ParseError::Limit));
-    }
-    let tokens = scan(alloc, text)?;
-    match whole_statement(alloc, tokens.as_slice()) {
-        Ok(statement) => Ok(statement),
-        Err(Failure::Fault(error)) => {
-            Err(Failure::Fault(fault_of(text, tokens.as_slice(), error)))
-        }
-        Err(Failure::OutOfMemory) => Err(Failure::OutOfMemory),
-    }
+    read_text::<A, SchemaParser>(alloc, text, SCHEMA_BYTES)
 }
 
 /// The schema statement that a text is, without a semicolon. The fault is `Syntax` (42601) at the byte from which
@@ -237,7 +233,7 @@ pub fn parse_statement<A: Heap>(alloc: A, text: &str) -> Result<Statement<A>, Fa
     // A refusal is at the byte after the longest front, or a limit is passed.
     ensures refused { IfErr result (λ e. RefusesStatement text.now e) }
 {
-    read_statement(alloc, text)
+    read_text::<A, StatementParser>(alloc, text, STATEMENT_BYTES)
 }
 
 /// The functions `parsed_query`, `parsed_schema` and `parsed_statement` are what spelling and fronts determine.

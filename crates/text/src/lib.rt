@@ -4,7 +4,7 @@
 ghost use Rattle.std.specs.Prelude.{◌≡◌, ◌++◌, [], ◌∷◌, length, OnOk, OnErr, IfOk, option_copied, slice_get};
 
 use memory::Heap;
-use std::alloc::{AllocError, AllocFailed};
+use std::alloc::AllocError;
 use std::marker::Model;
 
 /// A text that its owner keeps. A contract sees its bytes.
@@ -104,18 +104,22 @@ impl<T, A: Heap> Items<T, A> {
         self.items.get(i)
     }
 
-    /// One more item at the end, or none.
-    pub fn push(&mut self, item: T) -> Result<(), AllocFailed<T>>
-        ensures ok { OnOk result (self.new ≡ self.old ++ item ∷ []) }
-        ensures err { OnErr result (self.new ≡ self.old) }
-    {
-        self.items.push(item)
-    }
-
     /// The items, as a `Vec`.
     pub fn into_vec(self) -> Vec<T, A>
         ensures { result.items ≡ self }
     {
         self.items
+    }
+}
+
+impl<T: Drop, A: Heap> Items<T, A> {
+    /// One more item at the end, or none. Where memory is refused, the item is dropped here and not in the caller,
+    /// whose proof would contain its whole drop.
+    pub fn push(&mut self, item: T) -> Result<(), AllocError>
+        ensures ok { OnOk result (self.new ≡ self.old ++ item ∷ []) }
+        ensures err { OnErr result (self.new ≡ self.old) }
+    {
+        self.items.push(item)?;
+        Ok(())
     }
 }

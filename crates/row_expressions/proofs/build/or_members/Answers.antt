@@ -5,4 +5,4 @@ use Rattle.row_ast.proofs.Trees.{members_hidden}
 use Rattle.row_expressions.proofs.build.or_members.Goals as goal
 
 pub returns-in-Or : goal.returns-in-Or
-returns-in-Or g c = sym (ap (λ e. ast.or_members (expr_of e)) c.in-Or.is ∙ members_hidden c.in-Or.members)
+returns-in-Or g c = sym (ap (λ e. ast.or_members (expr_of e)) (sym c.into_inner.ensures ∙ c.in-Or.is) ∙ members_hidden c.in-Or.members)

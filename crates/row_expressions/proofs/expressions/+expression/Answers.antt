@@ -16,9 +16,9 @@ use Rattle.row_reader.specs.Expressions as rules
 use Rattle.row_reader.specs.Expressions.{grammar, nested_first, folded_left, and_of, or_of}
 use Rattle.row_ast.specs.View.{expr_of, arm_pair}
 use Rattle.row_expressions.specs.View.{located}
-use Rattle.row_ast.proofs.Trees.{and_made, or_made, appended}
+use Rattle.row_ast.proofs.Trees.{appended}
 use Rattle.row_reader.proofs.Lists.{listed_stop, listed_over, listed_fail, listed_go, listed_first, listed_none}
-use Rattle.row_expressions.proofs.Runs.{run_on, run_stop, run_full, run_fail, run_go, run_more, word_is_next, joined, joined_go}
+use Rattle.row_expressions.proofs.Runs.{run_on, run_stop, run_full, run_fail, run_go, run_more, word_is_next, joined, joined_go, joined_end}
 use Rattle.row_expressions.proofs.expressions.+expression.Goals as goal
 
 -- ---- arms
@@ -36,24 +36,24 @@ arms-returns-in_err-first g t c =
 pub arms-loop-init : goal.arms-loop-init
 unfolding rules.arms
 arms-loop-init g t c =
-    listed_first c.args.reader.run_limit c.args.reader.depth_limit (λ a. arm_pair a) rules.arm (is k.When) rules.arm (map word_of c.args.tokens.now) begins_arm c.in_ok-first.first (map word_of c.in_ok-first.rest.now) _ c.new-all.result.items c.push.new.self.items
-    c.in_ok-first.ensures c.new-all.ensures.items c.in_ok-push.ensures.items (omega (arith, length-map c.in_ok-first.rest.now word_of))
+    listed_first c.args.reader.run_limit c.args.reader.depth_limit (λ a. arm_pair a) rules.arm (is k.When) rules.arm (map word_of c.args.tokens.now) begins_arm c.in_ok-first.first (map word_of c.in_ok-first.rest.now) _ c.new-all.result c.push.new.self
+    c.in_ok-first.ensures c.new-all.ensures c.in_ok-push.ensures.ok (omega (arith, length-map c.in_ok-first.rest.now word_of))
 
 pub arms-returns-then-not-sees : goal.arms-returns-then-not-sees
-arms-returns-then-not-sees g t c = listed_stop c.args.reader.run_limit c.args.reader.depth_limit (λ a. arm_pair a) rules.arm (is k.When) _ c.loop.all.items _ (map word_of c.loop.rest.now) c.loop.invariant (cc)
+arms-returns-then-not-sees g t c = listed_stop c.args.reader.run_limit c.args.reader.depth_limit (λ a. arm_pair a) rules.arm (is k.When) _ c.loop.all _ (map word_of c.loop.rest.now) c.loop.invariant (cc)
 
 pub arms-returns : goal.arms-returns
-arms-returns g t c = listed_over c.args.reader.run_limit c.args.reader.depth_limit (λ a. arm_pair a) rules.arm (is k.When) _ c.loop.all.items _ (map word_of c.loop.rest.now) c.loop.invariant (omega arith)
+arms-returns g t c = listed_over c.args.reader.run_limit c.args.reader.depth_limit (λ a. arm_pair a) rules.arm (is k.When) _ c.loop.all _ (map word_of c.loop.rest.now) c.loop.invariant (omega arith)
 
 pub arms-returns-in_err-next : goal.arms-returns-in_err-next
 arms-returns-in_err-next g t c =
     let p = err_from_is_err_and c.from_residual-in_err-next.result c.from_residual-in_err-next.ensures.1 in
-    rw (p.1, p.2) (listed_fail c.args.reader.run_limit c.args.reader.depth_limit (λ a. arm_pair a) rules.arm (is k.When) _ c.loop.all.items _ (map word_of c.loop.rest.now) c.loop.invariant _ (omega arith) (cc) c.in_err-next.ensures)
+    rw (p.1, p.2) (listed_fail c.args.reader.run_limit c.args.reader.depth_limit (λ a. arm_pair a) rules.arm (is k.When) _ c.loop.all _ (map word_of c.loop.rest.now) c.loop.invariant _ (omega arith) (cc) c.in_err-next.ensures)
 
 pub arms-loop-preserved : goal.arms-loop-preserved
 arms-loop-preserved g t c =
-    listed_go c.args.reader.run_limit c.args.reader.depth_limit (λ a. arm_pair a) rules.arm (is k.When) _ c.loop.all.items _ (map word_of c.loop.rest.now) c.loop.invariant c.in_ok-next.next (map word_of c.in_ok-next.after.now) c.push-in-loop.new.self.items _ (omega arith) (cc)
-    c.in_ok-next.ensures c.in_ok-push-2.ensures.items (omega arith)
+    listed_go c.args.reader.run_limit c.args.reader.depth_limit (λ a. arm_pair a) rules.arm (is k.When) _ c.loop.all _ (map word_of c.loop.rest.now) c.loop.invariant c.in_ok-next.next (map word_of c.in_ok-next.after.now) c.push-in-loop.new.self _ (omega arith) (cc)
+    c.in_ok-next.ensures c.in_ok-push-2.ensures.ok (omega arith)
 
 -- ---- product
 
@@ -167,17 +167,17 @@ conjunction-returns-in_err-start g t c =
     (λ stop r. run_err grammar c.args.reader.run_limit c.args.reader.depth_limit (λ x ys. and_of x ys) rules.negation true rules.and_operand (map word_of c.args.tokens.now) stop r) c.in_err-start.ensures)
 
 pub conjunction-returns-then-not-sees : goal.conjunction-returns-then-not-sees
-conjunction-returns-then-not-sees g t c = alone_conjunction c.args.reader.run_limit c.args.reader.depth_limit (map word_of c.args.tokens.now) (c.in_ok-start.start, expr_of c.in_ok-start.first) (map word_of c.in_ok-start.rest.now) c.in_ok-start.ensures (cc)
+conjunction-returns-then-not-sees g t c = alone_conjunction c.args.reader.run_limit c.args.reader.depth_limit (map word_of c.args.tokens.now) (c.in_ok-start.start, expr_of c.in_ok-start.first.value) (map word_of c.in_ok-start.rest.now) c.in_ok-start.ensures (cc)
 
 pub conjunction-loop-init : goal.conjunction-loop-init
-conjunction-loop-init g t c = start_conjunction c.args.reader.run_limit c.args.reader.depth_limit _ (map word_of c.args.tokens.now) (c.in_ok-start.start, expr_of c.in_ok-start.first) (map word_of c.in_ok-start.rest.now) c.next_offset-offset.result (map (λ e. expr_of e) c.in_ok-members.members.items)
+conjunction-loop-init g t c = start_conjunction c.args.reader.run_limit c.args.reader.depth_limit _ (map word_of c.args.tokens.now) (c.in_ok-start.start, expr_of c.in_ok-start.first.value) (map word_of c.in_ok-start.rest.now) c.next_offset-offset.result (map (λ e. expr_of e) c.in_ok-members.members.items)
     c.in_ok-start.ensures (cc) c.next_offset-offset.ensures c.in_ok-members.ensures (omega arith)
 
 pub conjunction-returns-then-not-sees-2 : goal.conjunction-returns-then-not-sees-2
-conjunction-returns-then-not-sees-2 g t c = run_stop c.args.reader.run_limit c.args.reader.depth_limit rules.and_operand (is k.And) (joined (λ ms. And c.next_offset-offset.result (exprs_of ms)) and_members c.in_ok-start.start (map (λ e. expr_of e) c.loop.members.items)) _ _ (map word_of c.loop.rest.now) c.loop.invariant (cc) ∙ ap (λ (p : Located). let o : Outcome Word Located = Ok (p, map word_of c.loop.rest.now) in o) (and_made c.in_ok-start.start c.next_offset-offset.result c.loop.members)
+conjunction-returns-then-not-sees-2 g t c = run_stop c.args.reader.run_limit c.args.reader.depth_limit rules.and_operand (is k.And) (joined (λ ms. And c.next_offset-offset.result (exprs_of ms)) and_members c.in_ok-start.start (map (λ e. expr_of e) c.loop.members.items)) _ _ (map word_of c.loop.rest.now) c.loop.invariant (cc) ∙ ap (λ (p : Located). let o : Outcome Word Located = Ok (p, map word_of c.loop.rest.now) in o) (joined_end (λ ms. And c.next_offset-offset.result (exprs_of ms)) and_members c.in_ok-start.start (map (λ e. expr_of e) c.loop.members.items) ∙ sym c.in_ok-and_of.ensures)
 
 pub conjunction-returns : goal.conjunction-returns
-conjunction-returns g t c = run_stop c.args.reader.run_limit c.args.reader.depth_limit rules.and_operand (is k.And) (joined (λ ms. And c.next_offset-offset.result (exprs_of ms)) and_members c.in_ok-start.start (map (λ e. expr_of e) c.loop.members.items)) _ _ (map word_of c.loop.rest.now) c.loop.invariant (cc) ∙ ap (λ (p : Located). let o : Outcome Word Located = Ok (p, map word_of c.loop.rest.now) in o) (and_made c.in_ok-start.start c.next_offset-offset.result c.loop.members)
+conjunction-returns g t c = run_stop c.args.reader.run_limit c.args.reader.depth_limit rules.and_operand (is k.And) (joined (λ ms. And c.next_offset-offset.result (exprs_of ms)) and_members c.in_ok-start.start (map (λ e. expr_of e) c.loop.members.items)) _ _ (map word_of c.loop.rest.now) c.loop.invariant (cc) ∙ ap (λ (p : Located). let o : Outcome Word Located = Ok (p, map word_of c.loop.rest.now) in o) (joined_end (λ ms. And c.next_offset-offset.result (exprs_of ms)) and_members c.in_ok-start.start (map (λ e. expr_of e) c.loop.members.items) ∙ sym c.in_ok-and_of-2.ensures)
 
 pub conjunction-returns-then-sees : goal.conjunction-returns-then-sees
 conjunction-returns-then-sees g t c = rw (← length-map c.loop.rest.now word_of) (run_full c.args.reader.run_limit c.args.reader.depth_limit rules.and_operand (is k.And) (joined (λ ms. And c.next_offset-offset.result (exprs_of ms)) and_members c.in_ok-start.start (map (λ e. expr_of e) c.loop.members.items)) _ _ (map word_of c.loop.rest.now) c.loop.invariant (omega arith) (cc))
@@ -190,8 +190,8 @@ conjunction-returns-in_err-next g t c =
 pub conjunction-loop-preserved : goal.conjunction-loop-preserved
 conjunction-loop-preserved g t c =
     run_go c.args.reader.run_limit c.args.reader.depth_limit rules.and_operand (is k.And) (joined (λ ms. And c.next_offset-offset.result (exprs_of ms)) and_members c.in_ok-start.start (map (λ e. expr_of e) c.loop.members.items)) _ _ (map word_of c.loop.rest.now) c.loop.invariant
-    (word_of c.in_ok-next.field-0-0-0, (c.in_ok-next.field-0-0-1-0, expr_of c.in_ok-next.next)) (map word_of c.in_ok-next.after.now) _ _ (omega arith) (cc) c.in_ok-next.ensures
-    (λ xs. joined_go (λ ms. And c.next_offset-offset.result (exprs_of ms)) and_members c.in_ok-start.start (map (λ e. expr_of e) c.loop.members.items) (word_of c.in_ok-next.field-0-0-0, (c.in_ok-next.field-0-0-1-0, expr_of c.in_ok-next.next)) xs
+    (word_of c.in_ok-next.field-0-0-0, (c.in_ok-next.field-0-0-1-0, expr_of c.in_ok-next.next.value)) (map word_of c.in_ok-next.after.now) _ _ (omega arith) (cc) c.in_ok-next.ensures
+    (λ xs. joined_go (λ ms. And c.next_offset-offset.result (exprs_of ms)) and_members c.in_ok-start.start (map (λ e. expr_of e) c.loop.members.items) (word_of c.in_ok-next.field-0-0-0, (c.in_ok-next.field-0-0-1-0, expr_of c.in_ok-next.next.value)) xs
     ∙ ap (λ l. joined (λ ms. And c.next_offset-offset.result (exprs_of ms)) and_members c.in_ok-start.start l xs) (appended c.loop.members.items c.in_ok-more.more.items c.append.new.self.items _ c.in_ok-append.ensures.items c.in_ok-more.ensures))
     (omega arith)
 
@@ -227,17 +227,17 @@ expression-returns-in_err-start g t c =
     (λ stop r. run_err grammar c.args.reader.run_limit c.args.reader.depth_limit (λ x ys. or_of x ys) rules.conjunction true rules.or_operand (map word_of c.args.tokens.now) stop r) c.in_err-start.ensures)
 
 pub expression-returns-then-not-sees : goal.expression-returns-then-not-sees
-expression-returns-then-not-sees g t c = alone_expression c.args.reader.run_limit c.args.reader.depth_limit (map word_of c.args.tokens.now) (c.in_ok-start.start, expr_of c.in_ok-start.first) (map word_of c.in_ok-start.rest.now) c.in_ok-start.ensures (cc)
+expression-returns-then-not-sees g t c = alone_expression c.args.reader.run_limit c.args.reader.depth_limit (map word_of c.args.tokens.now) (c.in_ok-start.start, expr_of c.in_ok-start.first.value) (map word_of c.in_ok-start.rest.now) c.in_ok-start.ensures (cc)
 
 pub expression-loop-init : goal.expression-loop-init
-expression-loop-init g t c = start_expression c.args.reader.run_limit c.args.reader.depth_limit _ (map word_of c.args.tokens.now) (c.in_ok-start.start, expr_of c.in_ok-start.first) (map word_of c.in_ok-start.rest.now) c.next_offset-offset.result (map (λ e. expr_of e) c.in_ok-members.members.items)
+expression-loop-init g t c = start_expression c.args.reader.run_limit c.args.reader.depth_limit _ (map word_of c.args.tokens.now) (c.in_ok-start.start, expr_of c.in_ok-start.first.value) (map word_of c.in_ok-start.rest.now) c.next_offset-offset.result (map (λ e. expr_of e) c.in_ok-members.members.items)
     c.in_ok-start.ensures (cc) c.next_offset-offset.ensures c.in_ok-members.ensures (omega arith)
 
 pub expression-returns-then-not-sees-2 : goal.expression-returns-then-not-sees-2
-expression-returns-then-not-sees-2 g t c = run_stop c.args.reader.run_limit c.args.reader.depth_limit rules.or_operand (is k.Or) (joined (λ ms. Or c.next_offset-offset.result (exprs_of ms)) or_members c.in_ok-start.start (map (λ e. expr_of e) c.loop.members.items)) _ _ (map word_of c.loop.rest.now) c.loop.invariant (cc) ∙ ap (λ (p : Located). let o : Outcome Word Located = Ok (p, map word_of c.loop.rest.now) in o) (or_made c.in_ok-start.start c.next_offset-offset.result c.loop.members)
+expression-returns-then-not-sees-2 g t c = run_stop c.args.reader.run_limit c.args.reader.depth_limit rules.or_operand (is k.Or) (joined (λ ms. Or c.next_offset-offset.result (exprs_of ms)) or_members c.in_ok-start.start (map (λ e. expr_of e) c.loop.members.items)) _ _ (map word_of c.loop.rest.now) c.loop.invariant (cc) ∙ ap (λ (p : Located). let o : Outcome Word Located = Ok (p, map word_of c.loop.rest.now) in o) (joined_end (λ ms. Or c.next_offset-offset.result (exprs_of ms)) or_members c.in_ok-start.start (map (λ e. expr_of e) c.loop.members.items) ∙ sym c.in_ok-or_of.ensures)
 
 pub expression-returns : goal.expression-returns
-expression-returns g t c = run_stop c.args.reader.run_limit c.args.reader.depth_limit rules.or_operand (is k.Or) (joined (λ ms. Or c.next_offset-offset.result (exprs_of ms)) or_members c.in_ok-start.start (map (λ e. expr_of e) c.loop.members.items)) _ _ (map word_of c.loop.rest.now) c.loop.invariant (cc) ∙ ap (λ (p : Located). let o : Outcome Word Located = Ok (p, map word_of c.loop.rest.now) in o) (or_made c.in_ok-start.start c.next_offset-offset.result c.loop.members)
+expression-returns g t c = run_stop c.args.reader.run_limit c.args.reader.depth_limit rules.or_operand (is k.Or) (joined (λ ms. Or c.next_offset-offset.result (exprs_of ms)) or_members c.in_ok-start.start (map (λ e. expr_of e) c.loop.members.items)) _ _ (map word_of c.loop.rest.now) c.loop.invariant (cc) ∙ ap (λ (p : Located). let o : Outcome Word Located = Ok (p, map word_of c.loop.rest.now) in o) (joined_end (λ ms. Or c.next_offset-offset.result (exprs_of ms)) or_members c.in_ok-start.start (map (λ e. expr_of e) c.loop.members.items) ∙ sym c.in_ok-or_of-2.ensures)
 
 pub expression-returns-then-sees : goal.expression-returns-then-sees
 expression-returns-then-sees g t c = rw (← length-map c.loop.rest.now word_of) (run_full c.args.reader.run_limit c.args.reader.depth_limit rules.or_operand (is k.Or) (joined (λ ms. Or c.next_offset-offset.result (exprs_of ms)) or_members c.in_ok-start.start (map (λ e. expr_of e) c.loop.members.items)) _ _ (map word_of c.loop.rest.now) c.loop.invariant (omega arith) (cc))
@@ -250,8 +250,8 @@ expression-returns-in_err-next g t c =
 pub expression-loop-preserved : goal.expression-loop-preserved
 expression-loop-preserved g t c =
     run_go c.args.reader.run_limit c.args.reader.depth_limit rules.or_operand (is k.Or) (joined (λ ms. Or c.next_offset-offset.result (exprs_of ms)) or_members c.in_ok-start.start (map (λ e. expr_of e) c.loop.members.items)) _ _ (map word_of c.loop.rest.now) c.loop.invariant
-    (word_of c.in_ok-next.field-0-0-0, (c.in_ok-next.field-0-0-1-0, expr_of c.in_ok-next.next)) (map word_of c.in_ok-next.after.now) _ _ (omega arith) (cc) c.in_ok-next.ensures
-    (λ xs. joined_go (λ ms. Or c.next_offset-offset.result (exprs_of ms)) or_members c.in_ok-start.start (map (λ e. expr_of e) c.loop.members.items) (word_of c.in_ok-next.field-0-0-0, (c.in_ok-next.field-0-0-1-0, expr_of c.in_ok-next.next)) xs
+    (word_of c.in_ok-next.field-0-0-0, (c.in_ok-next.field-0-0-1-0, expr_of c.in_ok-next.next.value)) (map word_of c.in_ok-next.after.now) _ _ (omega arith) (cc) c.in_ok-next.ensures
+    (λ xs. joined_go (λ ms. Or c.next_offset-offset.result (exprs_of ms)) or_members c.in_ok-start.start (map (λ e. expr_of e) c.loop.members.items) (word_of c.in_ok-next.field-0-0-0, (c.in_ok-next.field-0-0-1-0, expr_of c.in_ok-next.next.value)) xs
     ∙ ap (λ l. joined (λ ms. Or c.next_offset-offset.result (exprs_of ms)) or_members c.in_ok-start.start l xs) (appended c.loop.members.items c.in_ok-more.more.items c.append.new.self.items _ c.in_ok-append.ensures.items c.in_ok-more.ensures))
     (omega arith)
 

@@ -119,4 +119,4 @@ abbrev pub invariant-expression-loop : goal.invariant-expression-loop
 invariant-expression-loop g l = run_on l.reader.run_limit l.reader.depth_limit rules.or_operand (is k.Or) (joined (λ ms. Or l.offset (exprs_of ms)) or_members l.start (map (λ e. expr_of e) l.members.items)) (l.reader.run_limit - l.counter) (map word_of l.rest) ≡ reads grammar l.reader.run_limit l.reader.depth_limit rules.expression (map word_of l.tokens)
 
 abbrev pub invariant-arms-loop : goal.invariant-arms-loop
-invariant-arms-loop g l = listed l.reader.run_limit l.reader.depth_limit (λ a. arm_pair a) rules.arm (is k.When) l.all.items (l.most - l.counter) (map word_of l.rest) ≡ reads grammar l.reader.run_limit l.reader.depth_limit rules.arms (map word_of l.tokens)
+invariant-arms-loop g l = listed l.reader.run_limit l.reader.depth_limit (λ a. arm_pair a) rules.arm (is k.When) l.all (l.most - l.counter) (map word_of l.rest) ≡ reads grammar l.reader.run_limit l.reader.depth_limit rules.arms (map word_of l.tokens)
