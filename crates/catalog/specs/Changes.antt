@@ -3,7 +3,7 @@ use Rattle.std.specs.Prelude.{◌≡◌, ◌⊎◌, Bool, true, false, not, ◌&
 use Rattle.value.specs.declared.refusal.Refusal.{Refusal}
 use Rattle.value.specs.declared.refusal.Refusal.TheVariants as r
 use Rattle.row_ast.specs.Ast as ast
-use Rattle.row_ast.specs.Ast.{Name}
+use Rattle.row_ast.specs.Ast.{Name, is_empty}
 use Rattle.row_ast.specs.Statements.{Statement, CreateRole, GrantRole, RevokeRole, CreateTable, SetOwner, SetRowSecurity, CreateIndex, GrantSelect, RevokeSelect, CreatePolicy, DropPolicy}
 use Rattle.row_ast.specs.declared.statement.RowSecurity as declared
 use Rattle.row_ast.specs.declared.statement.RowSecurity.TheVariants.{Enable}
@@ -21,10 +21,6 @@ use Rattle.catalog.specs.CreatePolicy.{equation_in, checks_create_policy, after_
 abbrev pub is_enable : declared.RowSecurity → Bool
 is_enable Enable = true
 is_enable _ = false
-
-abbrev pub is_empty : {X : Type 0} → List X → Bool
-is_empty [] = true
-is_empty (x ∷ xs) = false
 
 -- a permissive policy (column = operand), the first of its table
 abbrev pub is_supported_policy : Catalog → ast.CreatePolicy → Bool

@@ -8,7 +8,7 @@ use Rattle.value.specs.declared.operators.Comparison.TheVariants.{Equal}
 use Rattle.value.specs.declared.types.ColType.{ColType}
 use Rattle.value.specs.declared.refusal.Refusal.TheVariants as r
 use Rattle.row_ast.specs.Ast as ast
-use Rattle.row_ast.specs.Ast.{Name, ColumnRef, Expr, CreatePolicy}
+use Rattle.row_ast.specs.Ast.{Name, ColumnRef, Expr, CreatePolicy, column_in}
 use Rattle.row_objects.specs.Objects.{Operand, CurrentUser, Literal, Policy, Table}
 use Rattle.catalog.specs.Catalog.{Catalog, column_named, is_known, is_qualified, owns, place_of, table_named}
 use Rattle.catalog.specs.Checks.{Check, if_found, with_table}
@@ -18,11 +18,6 @@ use Rattle.catalog.specs.Checks.{Check, if_found, with_table}
 -- a column, and what it is compared with
 abbrev pub Equation : Type 0
 Equation = ColumnRef × Operand
-
--- an expression that is a column
-abbrev pub column_in : Expr → Option ColumnRef
-column_in (ast.Column c) = Some c
-column_in _ = None
 
 -- an expression that is CURRENT_USER or a literal
 abbrev pub operand_in : Expr → Option Operand

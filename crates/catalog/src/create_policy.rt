@@ -2,6 +2,7 @@
 
 ghost use Rattle.std.specs.Prelude.{◌≡◌, ◌<◌, IfOk, OnErr, OnOk, length, map, option_map};
 ghost use Rattle.value.specs.Columns.{column_of};
+ghost use Rattle.row_ast.specs.Ast.{column_in};
 ghost use Rattle.row_ast.specs.View.{column_ref_of, create_policy_of, expr_of};
 ghost use Rattle.row_objects.specs.View.{operand_of, policy_of, table_entry, table_of};
 ghost use Rattle.catalog.specs.Catalog.{table_place};
@@ -15,7 +16,7 @@ use crate::catalog::Catalog;
 use crate::copies::copy_names;
 use crate::names::{column_named, is_qualified, place};
 use memory::Heap;
-use row_ast::{ColumnRef, CreatePolicy, Expr};
+use row_ast::{ColumnRef, CreatePolicy, Expr, column_in};
 use row_objects::{ByName, Operand, Policy, Table, TableDef};
 use std::alloc::AllocError;
 use text::Text;
@@ -39,54 +40,18 @@ pub(crate) struct Equation<'s, A: Heap> {
     operand: OperandRef<'s, A>,
 }
 
-fn column_in<A: Heap>(expression: &Expr<A>) -> Option<&ColumnRef<A>>
-    ensures { option_map (λ c. column_ref_of c.now) result ≡ spec.column_in (expr_of expression.now) }
-{
-    match expression {
-        Expr::Column(column) => Some(column),
-        Expr::Literal(_)
-        | Expr::CurrentUser
-        | Expr::Negate { .. }
-        | Expr::Arithmetic { .. }
-        | Expr::Comparison { .. }
-        | Expr::Between { .. }
-        | Expr::In { .. }
-        | Expr::IsNull { .. }
-        | Expr::Not { .. }
-        | Expr::And { .. }
-        | Expr::Or { .. }
-        | Expr::Cast { .. }
-        | Expr::Case { .. }
-        | Expr::CountStar { .. }
-        | Expr::Call { .. } => None,
-    }
-}
-
 fn operand_in<A: Heap>(expression: &Expr<A>) -> Option<OperandRef<'_, A>>
     ensures { option_map (λ o. operand_ref_of o) result ≡ spec.operand_in (expr_of expression.now) }
 {
     match expression {
         Expr::CurrentUser => Some(OperandRef::CurrentUser),
         Expr::Literal(value) => Some(OperandRef::Literal(value)),
-        Expr::Column(_)
-        | Expr::Negate { .. }
-        | Expr::Arithmetic { .. }
-        | Expr::Comparison { .. }
-        | Expr::Between { .. }
-        | Expr::In { .. }
-        | Expr::IsNull { .. }
-        | Expr::Not { .. }
-        | Expr::And { .. }
-        | Expr::Or { .. }
-        | Expr::Cast { .. }
-        | Expr::Case { .. }
-        | Expr::CountStar { .. }
-        | Expr::Call { .. } => None,
+        _ => None,
     }
 }
 
 fn both<'s, A: Heap>(left: &'s Expr<A>, right: &'s Expr<A>) -> Option<Equation<'s, A>>
-    ensures { option_map (λ e. equation_of e) result ≡ spec.both (spec.column_in (expr_of left.now)) (spec.operand_in (expr_of right.now)) }
+    ensures { option_map (λ e. equation_of e) result ≡ spec.both (column_in (expr_of left.now)) (spec.operand_in (expr_of right.now)) }
 {
     let column = column_in(left)?;
     let operand = operand_in(right)?;
@@ -104,29 +69,7 @@ pub(crate) fn equation_in<A: Heap>(expression: &Expr<A>) -> Option<Equation<'_, 
             right,
             ..
         } => both(left, right),
-        Expr::Comparison {
-            operator: Comparison::NotEqual
-            | Comparison::Less
-            | Comparison::LessOrEqual
-            | Comparison::Greater
-            | Comparison::GreaterOrEqual,
-            ..
-        }
-        | Expr::Column(_)
-        | Expr::Literal(_)
-        | Expr::CurrentUser
-        | Expr::Negate { .. }
-        | Expr::Arithmetic { .. }
-        | Expr::Between { .. }
-        | Expr::In { .. }
-        | Expr::IsNull { .. }
-        | Expr::Not { .. }
-        | Expr::And { .. }
-        | Expr::Or { .. }
-        | Expr::Cast { .. }
-        | Expr::Case { .. }
-        | Expr::CountStar { .. }
-        | Expr::Call { .. } => None,
+        _ => None,
     }
 }
 
@@ -200,7 +143,7 @@ fn new_policy<A: Heap>(
     policy: &CreatePolicy<A>,
     columns: &[Column<A>],
 ) -> Result<Option<Policy<A>>, AllocError>
-    ensures { IfOk result (λ made. option_map (λ p. policy_of p) made ≡ spec.new_policy (create_policy_of policy.now) (equation_in (expr_of policy.now.predicate)) (map (λ c. column_of c) columns.now)) }
+    ensures { IfOk result (λ made. option_map (λ p. policy_of p) made ≡ spec.new_policy (create_policy_of policy.now) (equation_in (expr_of policy.now.predicate.value)) (map (λ c. column_of c) columns.now)) }
 {
     let Some(equation) = equation_in(&policy.predicate) else {
         return Ok(None);

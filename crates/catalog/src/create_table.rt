@@ -8,12 +8,11 @@ ghost use Rattle.catalog.specs.CreateTable.{after_create_table, checks_create_ta
 ghost use Rattle.catalog.specs.Changes.{IsChange};
 
 use crate::catalog::Catalog;
-use crate::copies::copy_columns;
 use memory::Heap;
 use row_objects::TableDef;
 use std::alloc::AllocError;
 use text::{Items, Text};
-use value::{Column, Refusal};
+use value::{Column, Refusal, copy_columns};
 
 /// The most tables of a catalogue.
 pub const MOST_TABLES: usize = 64;

@@ -21,7 +21,7 @@ use std::marker::Model;
 use tables::{LoadError, Table};
 use text::{Items, Text};
 use thiserror::Error;
-use value::{Column, Refusal};
+use value::{Column, Refusal, copy_columns};
 
 /// A table's name and contents.
 #[derive(Drop)]
@@ -52,12 +52,10 @@ impl<A: Heap> Model for Store<A> {
 pub(crate) fn contents_of<'a, A: Heap>(tables: &'a [Stored<A>], name: &str) -> Option<&'a Table<A>>
     ensures { option_map (λ t. t.now) result ≡ contents_named (map (λ t. stored_of t) tables.now) name.now }
 {
-    for table in tables {
-        if table.name.as_str() == name {
-            return Some(&table.contents);
-        }
+    match table_place(tables, name) {
+        Some(place) => Some(&tables[place].contents),
+        None => None,
     }
-    None
 }
 
 /// Why rows are not added.
@@ -79,26 +77,6 @@ fn store_failure(failure: Failure<LoadError>) -> Failure<StoreError>
         Failure::Fault(error) => Failure::Fault(StoreError::Data(error)),
         Failure::OutOfMemory => Failure::OutOfMemory,
     }
-}
-
-fn copy_column<A: Heap>(alloc: A, column: &Column<A>) -> Result<Column<A>, AllocError>
-    ensures { IfOk result (λ copy. column_of copy ≡ column_of column.now) }
-{
-    Ok(Column {
-        name: Text::new(alloc, column.name.as_str())?,
-        data_type: column.data_type,
-        not_null: column.not_null,
-    })
-}
-
-fn copy_columns<A: Heap>(alloc: A, columns: &[Column<A>]) -> Result<Items<Column<A>, A>, AllocError>
-    ensures { IfOk result (λ copy. map (λ c. column_of c) copy ≡ map (λ c. column_of c) columns.now) }
-{
-    let mut copy = Items::new(alloc);
-    for column in columns {
-        copy.push(copy_column(alloc, column)?)?;
-    }
-    Ok(copy)
 }
 
 // A new table, with no rows.

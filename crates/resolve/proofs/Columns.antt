@@ -8,11 +8,10 @@ use Rattle.memory.specs.declared.failure.Failure.{Failure}
 use Rattle.memory.specs.declared.failure.Failure.TheVariants as failure
 use Rattle.catalog.specs.Catalog.{Catalog, table_named}
 use Rattle.row_ast.specs.Ast as ast
-use Rattle.row_ast.specs.Ast.{Name}
+use Rattle.row_ast.specs.Ast.{Name, column_in, is_empty}
 use Rattle.row_objects.specs.Objects.{Table}
 use Rattle.resolve.specs.declared.binding.NameFault.{NameFault}
-use Rattle.resolve.specs.Parts.{column_in, columns_among}
-use Rattle.resolve.specs.Served.{is_empty}
+use Rattle.resolve.specs.Parts.{columns_among}
 use Rattle.resolve.specs.Names.{Bound, bound_at, bound_from, column_place, place_then, places_of}
 use Rattle.resolve.specs.View.{with_front}
 

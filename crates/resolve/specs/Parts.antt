@@ -1,12 +1,8 @@
 -- The columns and the tables that a query names, as written.
-use Rattle.std.specs.Prelude.{List, [], ◌∷◌, ◌++◌, map, Option, Some, None}
+use Rattle.std.specs.Prelude.{List, [], ◌∷◌, ◌++◌, map}
 use Rattle.std.specs.List.{filter_map}
 use Rattle.row_ast.specs.Ast as ast
-
--- the column, where an expression is one
-abbrev pub column_in : ast.Expr → Option ast.ColumnRef
-column_in (ast.Column c) = Some c
-column_in _ = None
+use Rattle.row_ast.specs.Ast.{column_in}
 
 -- the columns among the items, as written
 abbrev pub columns_among : List ast.SelectItem → List ast.ColumnRef

@@ -2,11 +2,7 @@
 use Rattle.std.specs.Prelude.{Bool, true, false, ◌&&◌, List, [], ◌∷◌, is_none, is_some}
 use Rattle.std.specs.List.{list_all}
 use Rattle.row_ast.specs.Ast as ast
-use Rattle.resolve.specs.Parts.{column_in}
-
-abbrev pub is_empty : {X : Type 0} → List X → Bool
-is_empty [] = true
-is_empty (x ∷ xs) = false
+use Rattle.row_ast.specs.Ast.{column_in, is_empty}
 
 -- a column without alias
 abbrev pub is_served_item : ast.SelectItem → Bool

@@ -8,7 +8,7 @@ ghost use Rattle.resolve.specs.Names.{bound_at, column_place, places_of, resolve
 ghost use Rattle.resolve.specs.Parts.{columns_among};
 ghost use Rattle.resolve.specs.View.{bound_of};
 
-use crate::parts::{column_in, first_table, items_of};
+use crate::parts::{first_table, item_column, items_of};
 use catalog::{Catalog, is_qualified, place};
 use memory::{Failure, Heap};
 use row_ast::{ColumnRef, Query, SelectItem};
@@ -67,7 +67,7 @@ fn places<A: Heap>(
 {
     let mut places = Items::new(alloc);
     for item in items {
-        let column = match column_in(&item.value) {
+        let column = match item_column(item) {
             Some(column) => column,
             None => continue,
         };
@@ -85,7 +85,7 @@ fn names<A: Heap>(alloc: A, items: &[SelectItem<A>]) -> Result<Items<Text<A>, A>
 {
     let mut names = Items::new(alloc);
     for item in items {
-        let column = match column_in(&item.value) {
+        let column = match item_column(item) {
             Some(column) => column,
             None => continue,
         };

@@ -2,20 +2,18 @@
 
 ghost use Rattle.std.specs.Prelude.{◌≡◌, map, option_map};
 ghost use Rattle.std.specs.List.{slice_get};
-ghost use Rattle.row_ast.specs.View.{column_ref_of, expr_of, from_item_of, select_item_of, select_list_of, table_ref_of};
-ghost use Rattle.resolve.specs.Parts.{column_in, columns_among, columns_of, tables_of};
+ghost use Rattle.row_ast.specs.View.{column_ref_of, from_item_of, select_item_of, select_list_of, table_ref_of};
+ghost use Rattle.row_ast.specs.Ast.{column_in};
+ghost use Rattle.resolve.specs.Parts.{columns_among, columns_of, tables_of};
 
 use memory::Heap;
-use row_ast::{ColumnRef, Expr, FromItem, SelectItem, SelectList, TableRef};
+use row_ast::{ColumnRef, FromItem, SelectItem, SelectList, TableRef, column_in};
 
-// The column, where an expression is one.
-pub(crate) fn column_in<A: Heap>(expression: &Expr<A>) -> Option<&ColumnRef<A>>
-    ensures { option_map (λ c. column_ref_of c.now) result ≡ column_in (expr_of expression.now) }
+// The column, where an item is one.
+pub(crate) fn item_column<A: Heap>(item: &SelectItem<A>) -> Option<&ColumnRef<A>>
+    ensures { option_map (λ c. column_ref_of c.now) result ≡ column_in (select_item_of item.now).value }
 {
-    match expression {
-        Expr::Column(column) => Some(column),
-        _ => None,
-    }
+    column_in(&item.value)
 }
 
 // The items, of which a `*` has none.

@@ -5,14 +5,14 @@ ghost use Rattle.std.specs.List.{list_all};
 ghost use Rattle.row_ast.specs.View.{from_item_of, query_of, select_item_of, select_list_of};
 ghost use Rattle.resolve.specs.Served as spec;
 
-use crate::parts::column_in;
+use crate::parts::item_column;
 use memory::Heap;
 use row_ast::{FromItem, Query, SelectItem, SelectList};
 
 fn is_served_item<A: Heap>(item: &SelectItem<A>) -> bool
     ensures { result ≡ spec.is_served_item (select_item_of item.now) }
 {
-    column_in(&item.value).is_some() && item.alias.is_none()
+    item_column(item).is_some() && item.alias.is_none()
 }
 
 fn are_served_items<A: Heap>(items: &[SelectItem<A>]) -> bool

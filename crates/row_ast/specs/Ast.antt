@@ -1,5 +1,5 @@
 -- Expressions, queries and parts of schema statements without their place in memory. An offset is that of a byte of the text, from 0.
-use Rattle.std.specs.Prelude.{ℕ, Bool, List, [], ◌∷◌, Option, codes}
+use Rattle.std.specs.Prelude.{ℕ, Bool, true, false, List, [], ◌∷◌, Option, Some, None, codes}
 use Rattle.value.specs.Datum.{Datum}
 use Rattle.value.specs.declared.types.ColType.{ColType}
 use Rattle.value.specs.declared.operators.Arithmetic as value
@@ -151,3 +151,15 @@ pub record CreatePolicy : Type 0 where
   pub restrictive : Bool
   pub roles : List Name
   pub predicate : Expr
+
+-- ---- what a query is made of
+
+-- the column, where an expression is one
+abbrev pub column_in : Expr → Option ColumnRef
+column_in (Column c) = Some c
+column_in _ = None
+
+-- nothing is listed
+abbrev pub is_empty : {X : Type 0} → List X → Bool
+is_empty [] = true
+is_empty (x ∷ xs) = false

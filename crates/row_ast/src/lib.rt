@@ -3,10 +3,12 @@
 #![tactic(auto)]
 
 mod expr;
+mod parts;
 mod query;
 mod statement;
 
 pub use expr::{Arm, ColumnRef, Expr};
+pub use parts::column_in;
 pub use query::{
     Condition, FromItem, Join, Query, SelectItem, SelectList, SortKey, SortTarget, TableRef,
 };

@@ -246,21 +246,7 @@ pub fn and_members<A: Heap>(
 {
     match Box::into_inner(member) {
         Expr::And { members, .. } => Ok(members),
-        member @ (Expr::Column(_)
-        | Expr::Literal(_)
-        | Expr::CurrentUser
-        | Expr::Negate { .. }
-        | Expr::Arithmetic { .. }
-        | Expr::Comparison { .. }
-        | Expr::Between { .. }
-        | Expr::In { .. }
-        | Expr::IsNull { .. }
-        | Expr::Not { .. }
-        | Expr::Or { .. }
-        | Expr::Cast { .. }
-        | Expr::Case { .. }
-        | Expr::CountStar { .. }
-        | Expr::Call { .. }) => alone(alloc, member),
+        member => alone(alloc, member),
     }
 }
 
@@ -271,21 +257,7 @@ pub fn or_members<A: Heap>(alloc: A, member: Box<Expr<A>, A>) -> Result<Vec<Expr
 {
     match Box::into_inner(member) {
         Expr::Or { members, .. } => Ok(members),
-        member @ (Expr::Column(_)
-        | Expr::Literal(_)
-        | Expr::CurrentUser
-        | Expr::Negate { .. }
-        | Expr::Arithmetic { .. }
-        | Expr::Comparison { .. }
-        | Expr::Between { .. }
-        | Expr::In { .. }
-        | Expr::IsNull { .. }
-        | Expr::Not { .. }
-        | Expr::And { .. }
-        | Expr::Cast { .. }
-        | Expr::Case { .. }
-        | Expr::CountStar { .. }
-        | Expr::Call { .. }) => alone(alloc, member),
+        member => alone(alloc, member),
     }
 }
 

@@ -31,21 +31,7 @@ fn members<A: Heap>(expr: &Expr<A>) -> usize
 {
     match expr {
         Expr::And { members, .. } => members.len(),
-        Expr::Column(_)
-        | Expr::Literal(_)
-        | Expr::CurrentUser
-        | Expr::Negate { .. }
-        | Expr::Arithmetic { .. }
-        | Expr::Comparison { .. }
-        | Expr::Between { .. }
-        | Expr::In { .. }
-        | Expr::IsNull { .. }
-        | Expr::Not { .. }
-        | Expr::Or { .. }
-        | Expr::Cast { .. }
-        | Expr::Case { .. }
-        | Expr::CountStar { .. }
-        | Expr::Call { .. } => 1,
+        _ => 1,
     }
 }
 

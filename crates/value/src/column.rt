@@ -1,12 +1,13 @@
 //! The columns of tables.
 
-ghost use Rattle.std.specs.Prelude.{◌≡◌};
-ghost use Rattle.value.specs.Columns.{fits_type};
+ghost use Rattle.std.specs.Prelude.{◌≡◌, IfOk, map};
+ghost use Rattle.value.specs.Columns.{column_of, fits_type};
 ghost use Rattle.value.specs.Datum.{datum};
 
 use crate::types::{ColType, Value};
 use memory::Heap;
-use text::Text;
+use std::alloc::AllocError;
+use text::{Items, Text};
 
 /// A column of a table (PostgreSQL: CREATE TABLE).
 #[derive(Drop)]
@@ -30,4 +31,28 @@ pub fn fits_type<A: Heap>(data_type: ColType, value: &Value<A>) -> bool
         (ColType::Boolean, Value::Bool(_)) => true,
         _ => false,
     }
+}
+
+fn copy_column<A: Heap>(alloc: A, column: &Column<A>) -> Result<Column<A>, AllocError>
+    ensures { IfOk result (λ copy. column_of copy ≡ column_of column.now) }
+{
+    Ok(Column {
+        name: Text::new(alloc, column.name.as_str())?,
+        data_type: column.data_type,
+        not_null: column.not_null,
+    })
+}
+
+/// A copy of columns.
+pub fn copy_columns<A: Heap>(
+    alloc: A,
+    columns: &[Column<A>],
+) -> Result<Items<Column<A>, A>, AllocError>
+    ensures { IfOk result (λ copy. map (λ c. column_of c) copy ≡ map (λ c. column_of c) columns.now) }
+{
+    let mut copy = Items::new(alloc);
+    for column in columns {
+        copy.push(copy_column(alloc, column)?)?;
+    }
+    Ok(copy)
 }

@@ -15,7 +15,7 @@ mod writing;
 
 pub use arith::{add, div, mul, neg, rem, sub};
 pub use casting::cast;
-pub use column::{Column, fits_type};
+pub use column::{Column, copy_columns, fits_type};
 pub use faults::{Fault, law_kinds_in_order};
 pub use operators::{Aggregate, Arithmetic, Comparison};
 pub use order::{Truth, cmp_rows, cmp_values, eq3, law_sorted_rows, lt3, sort_rows};
