@@ -140,7 +140,7 @@ fn faults() -> &'static [RefusedTexts] {
 }
 
 // The store before a refused text.
-fn store_before(rt: &(impl Abort + AllocGlobal), faults: &RefusedTexts) -> Store<Global> {
+fn store_before(rt: &(impl Abort + AllocGlobal), faults: &RefusedTexts) -> Box<Store<Global>> {
     let mut store = made(rt, store_of(rt.alloc(), faults.schema));
     if !faults.held.is_empty() {
         let done = load(&mut store, "deal", faults.held);

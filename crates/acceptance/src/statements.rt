@@ -255,7 +255,7 @@ fn not_supported() -> &'static [&'static str] {
 }
 
 // The store of the deals, after what root applies.
-fn store_after(rt: &(impl Abort + AllocGlobal), before: &str) -> Store<Global> {
+fn store_after(rt: &(impl Abort + AllocGlobal), before: &str) -> Box<Store<Global>> {
     let mut store = made(rt, deals(rt.alloc()));
     if !before.is_empty() {
         assert_eq!(rt;

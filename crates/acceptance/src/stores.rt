@@ -1,8 +1,9 @@
 //! The store of the worked rows, and how stores are made.
 
 use engine::{Store, StoreError, serve};
-use memory::{Failure, Heap};
+use memory::{Failure, Heap, boxed};
 use output::Output;
+use row_ast::Statement;
 use std::process::Abort;
 use syntax::{ParseError, parse_schema};
 use value::Refusal;
@@ -25,19 +26,13 @@ pub enum StoreFault {
     Data(StoreError),
 }
 
-/// Applies a schema text to a store, by an actor.
-pub fn apply<A: Heap>(
-    alloc: A,
+// Each statement in turn, by an actor.
+fn change<A: Heap>(
     store: &mut Store<A>,
     actor: &str,
-    schema: &str,
+    statements: &[Statement<A>],
 ) -> Result<(), Failure<StoreFault>> {
-    let statements = match parse_schema(alloc, schema) {
-        Ok(statements) => statements,
-        Err(Failure::Fault(error)) => return Err(Failure::Fault(StoreFault::Parse(error))),
-        Err(Failure::OutOfMemory) => return Err(Failure::OutOfMemory),
-    };
-    for statement in statements.as_slice() {
+    for statement in statements {
         match store.change(actor, statement) {
             Ok(()) => {}
             Err(code) => return Err(Failure::Fault(StoreFault::Statement(code))),
@@ -46,9 +41,24 @@ pub fn apply<A: Heap>(
     Ok(())
 }
 
-/// The store of a schema text.
-pub fn store_of<A: Heap>(alloc: A, schema: &str) -> Result<Store<A>, Failure<StoreFault>> {
-    let mut store = Store::new(alloc)?;
+/// Applies a schema text to a store, by an actor.
+pub fn apply<A: Heap>(
+    alloc: A,
+    store: &mut Store<A>,
+    actor: &str,
+    schema: &str,
+) -> Result<(), Failure<StoreFault>> {
+    match parse_schema(alloc, schema) {
+        Ok(statements) => change(store, actor, statements.as_slice()),
+        Err(Failure::Fault(error)) => Err(Failure::Fault(StoreFault::Parse(error))),
+        Err(Failure::OutOfMemory) => Err(Failure::OutOfMemory),
+    }
+}
+
+/// The store of a schema text. It is boxed, since the whole drop of a store is part of the proof of each function that
+/// has one.
+pub fn store_of<A: Heap>(alloc: A, schema: &str) -> Result<Box<Store<A>, A>, Failure<StoreFault>> {
+    let mut store = boxed(alloc, Store::new(alloc)?)?;
     apply(alloc, &mut store, "root", schema)?;
     Ok(store)
 }
@@ -67,14 +77,14 @@ pub fn load<A: Heap>(
 }
 
 /// The store of the worked rows.
-pub fn deals<A: Heap>(alloc: A) -> Result<Store<A>, Failure<StoreFault>> {
+pub fn deals<A: Heap>(alloc: A) -> Result<Box<Store<A>, A>, Failure<StoreFault>> {
     let mut store = store_of(alloc, SCHEMA)?;
     load(&mut store, "deal", DEALS)?;
     Ok(store)
 }
 
 /// The store, which has to be made.
-pub fn made<A: Heap>(rt: &impl Abort, store: Result<Store<A>, Failure<StoreFault>>) -> Store<A> {
+pub fn made<T: Drop>(rt: &impl Abort, store: Result<T, Failure<StoreFault>>) -> T {
     match store {
         Ok(store) => store,
         Err(failure) => panic!(rt; "{failure:?}"),

@@ -13,13 +13,17 @@ use Rattle.row_objects.specs.Objects.{Table}
 use Rattle.resolve.specs.declared.binding.NameFault.{NameFault}
 use Rattle.resolve.specs.Parts.{columns_among}
 use Rattle.resolve.specs.Names.{Bound, bound_at, bound_from, column_place, place_then, places_of}
-use Rattle.resolve.specs.View.{with_front}
 
 -- of a table without alias the joins decide
 pub lone : {X : Type 0} (join : X → ast.Join) (xs : List X) (alias : Option Name) → is_some alias ≡ false → (length xs == 0) ≡ (is_none alias && is_empty (map join xs))
 lone join xs (Some name) h = cc
 lone join [] None h = refl
 lone join (x ∷ xs) None h = grind (arith, nat_tests)
+
+-- a list in front of the places of the rest
+abbrev pub with_front : {X : Type 0} → List X → Result (List X) NameFault → Result (List X) NameFault
+with_front front (Ok rest) = Ok (front ++ rest)
+with_front front (Err e) = Err e
 
 -- nothing is in front
 pub front_none : (r : Result (List ℕ) NameFault) → with_front [] r ≡ r

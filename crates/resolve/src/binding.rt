@@ -20,7 +20,7 @@ use value::Refusal;
 
 /// A name that stands for nothing.
 #[derive(Clone, Copy, Debug, Error, PartialEq, Eq)]
-#[error("refused at byte {offset}")]
+#[error("{code} at byte {offset}")]
 pub struct NameFault {
     /// The refusal.
     pub code: Refusal,

@@ -14,7 +14,7 @@ use row_reader::names::column_ref;
 use row_tokens::Token;
 use std::alloc::AllocError;
 use text::{Items, Text};
-use value::{Aggregate, Arithmetic, Comparison, Value};
+use value::{Aggregate, Arithmetic, Value};
 
 /// An expression, and where its first token starts. It is boxed, since where a tree is alive at a `?` its whole drop,
 /// each variant and field, is part of that function's proof.
@@ -69,27 +69,6 @@ pub fn combined<A: Heap>(
     let (_, right) = right;
     let (offset, operator) = sign;
     let whole = Expr::Arithmetic {
-        operator,
-        offset,
-        left,
-        right,
-    };
-    Ok((start, boxed(alloc, whole)?))
-}
-
-/// A comparison.
-pub fn compared<A: Heap>(
-    alloc: A,
-    left: Located<A>,
-    sign: (u32, Comparison),
-    right: Located<A>,
-) -> Result<Located<A>, AllocError>
-    ensures { IfOk result (λ p. located p ≡ (left.0, ast.Comparison sign.1 sign.0 (expr_of left.1.value) (expr_of right.1.value))) }
-{
-    let (start, left) = left;
-    let (_, right) = right;
-    let (offset, operator) = sign;
-    let whole = Expr::Comparison {
         operator,
         offset,
         left,

@@ -13,7 +13,7 @@ ghost use Rattle.row_expressions.specs.View.{located, range_of, signed_of, suffi
 
 use crate::build::{
     CallSuffix, Located, Otherwise, Range, and_members, and_of, called, case_of, column_expr,
-    combined, compared, counted, or_members, or_of, ranged,
+    combined, counted, or_members, or_of, ranged,
 };
 use memory::{Failure, Heap, boxed};
 use row_ast::{Arm, Expr};
@@ -464,13 +464,19 @@ fn ranged_sum<'t, A: Heap>(reader: Reader<A>, tokens: &'t [Token<'t>]) -> Parsed
 fn comparison<'t, A: Heap>(reader: Reader<A>, tokens: &'t [Token<'t>]) -> Parsed<'t, Located<A>>
     ensures { Parses (λ t. located t) rules.comparison reader tokens.now result }
 {
-    let (left, rest) = ranged_sum(reader, tokens)?;
+    let ((start, left), rest) = ranged_sum(reader, tokens)?;
     if !sees_any(Class::Comparison, rest) {
-        return Ok((left, rest));
+        return Ok(((start, left), rest));
     }
-    let (sign, rest) = comparison_sign(reader, rest)?;
-    let (right, rest) = ranged_sum(reader, rest)?;
-    Ok((compared(reader.alloc, left, sign, right)?, rest))
+    let ((offset, operator), rest) = comparison_sign(reader, rest)?;
+    let ((_, right), rest) = ranged_sum(reader, rest)?;
+    let whole = Expr::Comparison {
+        operator,
+        offset,
+        left,
+        right,
+    };
+    Ok(((start, boxed(reader.alloc, whole)?), rest))
 }
 
 // `IS [NOT] NULL`, and whether with NOT.

@@ -60,17 +60,7 @@ fn select_alias<'t, A: Heap>(
     Ok((Some(name), rest))
 }
 
-// `expression [AS name]`.
-#[tactic(auto, unfolding(crate::specs::Queries::select_item))]
-fn select_item<'t, A: Heap>(reader: Reader<A>, tokens: &'t [Token<'t>]) -> Parsed<'t, SelectItem<A>>
-    ensures { Parses (λ t. select_item_of t) rules.select_item reader tokens.now result }
-{
-    let ((_, value), rest) = expression(reader, tokens)?;
-    let (alias, rest) = select_alias(reader, rest)?;
-    Ok((SelectItem { value, alias }, rest))
-}
-
-// The parser of an item of SELECT.
+// An item of SELECT: `expression [AS name]`.
 struct SelectItemParser;
 
 impl<A: Heap> Parser<A> for SelectItemParser {
@@ -82,10 +72,13 @@ impl<A: Heap> Parser<A> for SelectItemParser {
 
     ghost rule = { rules.select_item };
 
+    #[tactic(auto, unfolding(crate::specs::Queries::select_item))]
     fn parse<'t>(reader: Reader<A>, tokens: &'t [Token<'t>]) -> Parsed<'t, SelectItem<A>>
         ensures { Parses (λ i. select_item_of i) rules.select_item reader tokens.now result }
     {
-        select_item(reader, tokens)
+        let ((_, value), rest) = expression(reader, tokens)?;
+        let (alias, rest) = select_alias(reader, rest)?;
+        Ok((SelectItem { value, alias }, rest))
     }
 }
 
@@ -223,17 +216,7 @@ fn join_list<'t, A: Heap>(
     Ok((all, rest))
 }
 
-// `table_ref {join}`.
-#[tactic(auto, unfolding(crate::specs::Queries::from_item))]
-fn from_item<'t, A: Heap>(reader: Reader<A>, tokens: &'t [Token<'t>]) -> Parsed<'t, FromItem<A>>
-    ensures { Parses (λ t. from_item_of t) rules.from_item reader tokens.now result }
-{
-    let (first, rest) = table_ref(reader, tokens)?;
-    let (joins, rest) = join_list(reader, rest)?;
-    Ok((FromItem { first, joins }, rest))
-}
-
-// The parser of an item of FROM.
+// An item of FROM: `table_ref {join}`.
 struct FromItemParser;
 
 impl<A: Heap> Parser<A> for FromItemParser {
@@ -245,10 +228,13 @@ impl<A: Heap> Parser<A> for FromItemParser {
 
     ghost rule = { rules.from_item };
 
+    #[tactic(auto, unfolding(crate::specs::Queries::from_item))]
     fn parse<'t>(reader: Reader<A>, tokens: &'t [Token<'t>]) -> Parsed<'t, FromItem<A>>
         ensures { Parses (λ c. from_item_of c) rules.from_item reader tokens.now result }
     {
-        from_item(reader, tokens)
+        let (first, rest) = table_ref(reader, tokens)?;
+        let (joins, rest) = join_list(reader, rest)?;
+        Ok((FromItem { first, joins }, rest))
     }
 }
 
@@ -346,24 +332,7 @@ fn direction<'t, A: Heap>(reader: Reader<A>, tokens: &'t [Token<'t>]) -> Parsed<
     }
 }
 
-// `sort_target [ASC | DESC]`.
-#[tactic(auto, unfolding(crate::specs::Queries::sort_key))]
-fn sort_key<'t, A: Heap>(reader: Reader<A>, tokens: &'t [Token<'t>]) -> Parsed<'t, SortKey<A>>
-    ensures { Parses (λ t. sort_key_of t) rules.sort_key reader tokens.now result }
-{
-    let ((offset, target), rest) = sort_target(reader, tokens)?;
-    let (descending, rest) = direction(reader, rest)?;
-    Ok((
-        SortKey {
-            target,
-            descending,
-            offset,
-        },
-        rest,
-    ))
-}
-
-// The parser of a key of ORDER BY.
+// A key of ORDER BY: `sort_target [ASC | DESC]`.
 struct SortKeyParser;
 
 impl<A: Heap> Parser<A> for SortKeyParser {
@@ -375,10 +344,20 @@ impl<A: Heap> Parser<A> for SortKeyParser {
 
     ghost rule = { rules.sort_key };
 
+    #[tactic(auto, unfolding(crate::specs::Queries::sort_key))]
     fn parse<'t>(reader: Reader<A>, tokens: &'t [Token<'t>]) -> Parsed<'t, SortKey<A>>
         ensures { Parses (λ k. sort_key_of k) rules.sort_key reader tokens.now result }
     {
-        sort_key(reader, tokens)
+        let ((offset, target), rest) = sort_target(reader, tokens)?;
+        let (descending, rest) = direction(reader, rest)?;
+        Ok((
+            SortKey {
+                target,
+                descending,
+                offset,
+            },
+            rest,
+        ))
     }
 }
 

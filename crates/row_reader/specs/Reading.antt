@@ -19,8 +19,3 @@ Parses view rule reader tokens result = Gives (λ x. (view x.0, words_of x.1.now
 abbrev pub paired : {A B C E : Type 0} → A → Result (B × C) E → Result ((A × B) × C) E
 paired a (Ok x) = Ok ((a, x.0), x.1)
 paired a (Err e) = Err e
-
--- a value and what is made beside it
-abbrev pub kept : {A B E : Type 0} → A → Result B E → Result (A × B) E
-kept a (Ok x) = Ok (a, x)
-kept a (Err e) = Err e

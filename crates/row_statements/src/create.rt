@@ -88,25 +88,7 @@ fn not_null<'t, A: Heap>(reader: Reader<A>, tokens: &'t [Token<'t>]) -> Parsed<'
     Ok((true, rest))
 }
 
-// `name type [NOT NULL]`.
-#[tactic(auto, unfolding(crate::specs::Schemas::column_def))]
-fn column_def<'t, A: Heap>(reader: Reader<A>, tokens: &'t [Token<'t>]) -> Parsed<'t, Column<A>>
-    ensures { Parses (λ t. column_of t) rules.column_def reader tokens.now result }
-{
-    let (name, rest) = name(reader, tokens)?;
-    let (data_type, rest) = column_type(reader, rest)?;
-    let (not_null, rest) = not_null(reader, rest)?;
-    Ok((
-        Column {
-            name,
-            data_type,
-            not_null,
-        },
-        rest,
-    ))
-}
-
-// The parser of a column of CREATE TABLE.
+// A column of CREATE TABLE: `name type [NOT NULL]`.
 struct ColumnDefParser;
 
 impl<A: Heap> Parser<A> for ColumnDefParser {
@@ -118,10 +100,21 @@ impl<A: Heap> Parser<A> for ColumnDefParser {
 
     ghost rule = { rules.column_def };
 
+    #[tactic(auto, unfolding(crate::specs::Schemas::column_def))]
     fn parse<'t>(reader: Reader<A>, tokens: &'t [Token<'t>]) -> Parsed<'t, Column<A>>
         ensures { Parses (λ c. column_of c) rules.column_def reader tokens.now result }
     {
-        column_def(reader, tokens)
+        let (name, rest) = name(reader, tokens)?;
+        let (data_type, rest) = column_type(reader, rest)?;
+        let (not_null, rest) = not_null(reader, rest)?;
+        Ok((
+            Column {
+                name,
+                data_type,
+                not_null,
+            },
+            rest,
+        ))
     }
 }
 

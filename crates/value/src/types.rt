@@ -52,8 +52,8 @@ pub enum FaultKind {
     /// A number out of range (22003).
     #[error("number out of range")]
     Range,
-    /// A text that is not a number (22P02).
-    #[error("text is not a number")]
+    /// A text that is no value of the type (22P02).
+    #[error("text is no value of the type")]
     BadText,
 }
 

@@ -3,7 +3,7 @@ use Rattle.row_ast.specs.View.{select_item_of}
 use Rattle.row_objects.specs.View.{table_of}
 use Rattle.resolve.specs.Names.{places_of}
 use Rattle.resolve.specs.Parts.{columns_among}
-use Rattle.resolve.specs.View.{with_front}
+use Rattle.resolve.proofs.Columns.{with_front}
 use Rattle.resolve.proofs.binding.places.Given as goal
 
 abbrev pub invariant-loop-item : goal.invariant-loop-item
