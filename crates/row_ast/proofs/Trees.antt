@@ -1,5 +1,5 @@
 -- What trees with lists of children are.
-use Rattle.std.proofs.Common.{◌≡◌, ℕ, List, [], ◌∷◌, ◌++◌, ◌∙◌, sym, ap, refl, Vec, map}
+use Rattle.std.proofs.Common.{◌≡◌, List, [], ◌∷◌, ◌++◌, ◌∙◌, sym, ap, refl, Vec, map}
 use Rattle.row_ast.specs.Ast as ast
 use Rattle.row_ast.specs.View.{expr_of, row_exprs, row_arms, exprs, arms}
 use Rattle.row_ast.specs.declared.expr.Expr.TheBlock.{hidden-the_row-Expr-0, hidden-the_row-Arm-1}

@@ -1,5 +1,5 @@
 -- What the parts of expressions are that the parser joins.
-use Rattle.std.specs.Prelude.{ℕ, List, Option, map, Box}
+use Rattle.std.specs.Prelude.{ℕ, Option, map, Box}
 use Rattle.value.specs.Datum.{datum}
 use Rattle.row_ast.specs.Ast as ast
 use Rattle.row_ast.specs.View.{expr_of}

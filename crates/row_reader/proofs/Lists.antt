@@ -1,5 +1,5 @@
 -- How a list without a limit goes on from where the code is.
-use Rattle.std.proofs.Common.{◌≡◌, ℕ, ◌-◌, ◌<◌, Bool, true, false, List, [], ◌∷◌, ◌++◌, length, map, Option, Ok, Err, refl, sym, ◌∙◌, ap, append-nil}
+use Rattle.std.proofs.Common.{◌≡◌, ℕ, ◌-◌, ◌<◌, Bool, true, false, List, [], ◌∷◌, ◌++◌, length, map, Ok, Err, refl, sym, ◌∙◌, ap, append-nil}
 use Rattle.row_grammar.specs.Grammar.{many}
 use Rattle.row_grammar.specs.Decoder.{Outcome, head_in, many_at, first}
 use Rattle.row_grammar.specs.declared.error.ReadError.{ReadError}

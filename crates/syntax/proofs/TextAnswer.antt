@@ -1,5 +1,5 @@
 -- What reading a text says of it, from what reading its tokens says.
-use Rattle.std.proofs.Common.{◌≡◌, ℕ, ◌⊎◌, inl, inr, ◌<◌, ◌≤◌, nat_lt, Bool, true, false, List, [], ◌∷◌, length, Option, Some, None, Result, Ok, Err, IfOk, IfErr, refl, sym, ◌∙◌, ap, arith}
+use Rattle.std.proofs.Common.{◌≡◌, ℕ, ◌⊎◌, inl, inr, ◌<◌, ◌≤◌, nat_lt, Bool, true, false, List, [], ◌∷◌, length, Result, Ok, Err, IfOk, IfErr, refl, sym, ◌∙◌, ap, arith}
 use Rattle.std.specs.Prelude.{if◌then◌else◌}
 use Rattle.std.proofs.lemmas.Bool.{ltb-true, ltb-false, le-ltb}
 use Rattle.row_grammar.specs.Limits.{reads, whole_at}
@@ -13,7 +13,7 @@ use Rattle.row_queries.specs.Queries.{query}
 use Rattle.row_statements.specs.Schemas.{schema, statement}
 use Rattle.row_queries.specs.Limits.{is_small}
 use Rattle.syntax.specs.Parsing.{Spells, StopsAt, PassesLimit, query_bytes, schema_bytes, statement_bytes, RefusesQuery, Refuses, of_text, read_within, of_size, parsed_query, parsed_schema, parsed_statement, IsDetermined, IsSmall, Fits}
-use Rattle.memory.specs.Gives.{Gives, IsFailure}
+use Rattle.memory.specs.Gives.{Gives}
 use Rattle.memory.specs.declared.failure.Failure.{Failure}
 use Rattle.memory.specs.declared.failure.Failure.TheVariants.{Fault, OutOfMemory}
 use Rattle.row_grammar.specs.declared.error.ReadError.{ReadError}
