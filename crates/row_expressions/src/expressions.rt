@@ -1,6 +1,6 @@
 //! Expressions, from tokens.
 
-ghost use Rattle.std.specs.Prelude.{◌<◌, map, option_map};
+ghost use Rattle.std.specs.Prelude.{◌≡◌, ◌<◌, map, option_map};
 ghost use Rattle.memory.specs.Gives.{Gives};
 ghost use Rattle.row_grammar.specs.Limits.{reads, deep_at};
 ghost use Rattle.row_tokens.specs.View.{word_of, words_of};
@@ -9,6 +9,7 @@ ghost use Rattle.row_reader.specs.Expressions.{grammar};
 ghost use Rattle.row_reader.specs.Language.{an_expression, a_negation, a_unary};
 ghost use Rattle.row_reader.specs.Reading.{Parses};
 ghost use Rattle.row_ast.specs.View.{expr_of, arm_pair};
+ghost use Rattle.row_expressions.specs.Levels.{next_rule, operand_rule, run_rule, sign_class};
 ghost use Rattle.row_expressions.specs.View.{located, range_of, signed_of, suffix_of, otherwise_of};
 
 use crate::build::{
@@ -310,69 +311,83 @@ fn unary<'t, A: Heap>(reader: Reader<A>, tokens: &'t [Token<'t>]) -> Parsed<'t, 
     }
 }
 
-// `* unary` and the like.
+/// The operators that bind alike, from the left.
+#[derive(Clone, Copy)]
+pub enum Level {
+    /// `*`, `/`, `%`.
+    Product,
+    /// `+`, `-`.
+    Sum,
+}
+
+fn sign_class(level: Level) -> Class
+    ensures { result ≡ sign_class level }
+{
+    match level {
+        Level::Product => Class::Multiplication,
+        Level::Sum => Class::Addition,
+    }
+}
+
+// The first operand of a run.
 #[cycle(expression)]
-#[tactic(auto, unfolding(row_reader::specs::Expressions::factor))]
-fn factor<'t, A: Heap>(
+fn first_operand<'t, A: Heap>(
+    level: Level,
+    reader: Reader<A>,
+    tokens: &'t [Token<'t>],
+) -> Parsed<'t, Located<A>>
+    ensures { Parses (λ t. located t) (operand_rule level) reader tokens.now result }
+{
+    match level {
+        Level::Product => unary(reader, tokens),
+        Level::Sum => operations(Level::Product, reader, tokens),
+    }
+}
+
+// `* unary` and the like, or `+ product` and the like.
+#[cycle(expression)]
+#[tactic(auto, unfolding(row_reader::specs::Expressions::factor, row_reader::specs::Expressions::addend))]
+fn next_operand<'t, A: Heap>(
+    level: Level,
     reader: Reader<A>,
     tokens: &'t [Token<'t>],
 ) -> Parsed<'t, ((u32, Arithmetic), Located<A>)>
-    ensures { Parses (λ t. (t.0, located t.1)) rules.factor reader tokens.now result }
+    ensures { Parses (λ t. (t.0, located t.1)) (next_rule level) reader tokens.now result }
 {
-    let (sign, rest) = multiplication(reader, tokens)?;
-    let (operand, rest) = unary(reader, rest)?;
-    Ok(((sign, operand), rest))
-}
-
-// `unary {(* | / | %) unary}`.
-#[cycle(expression)]
-fn product<'t, A: Heap>(reader: Reader<A>, tokens: &'t [Token<'t>]) -> Parsed<'t, Located<A>>
-    ensures { Parses (λ t. located t) rules.product reader tokens.now result }
-{
-    let (mut left, mut rest) = unary(reader, tokens)?;
-    for _ in 0..reader.run_limit {
-        if !sees_any(Class::Multiplication, rest) {
-            return Ok((left, rest));
+    match level {
+        Level::Product => {
+            let (sign, rest) = multiplication(reader, tokens)?;
+            let (operand, rest) = unary(reader, rest)?;
+            Ok(((sign, operand), rest))
         }
-        let ((sign, right), after) = factor(reader, rest)?;
-        left = combined(reader.alloc, left, sign, right)?;
-        rest = after;
+        Level::Sum => {
+            let (sign, rest) = addition(reader, tokens)?;
+            let (operand, rest) = operations(Level::Product, reader, rest)?;
+            Ok(((sign, operand), rest))
+        }
     }
-    if sees_any(Class::Multiplication, rest) {
-        return Err(Failure::Fault(ReadError::Limit { left: rest.len() }));
-    }
-    Ok((left, rest))
 }
 
-// `+ product` and the like.
+// `unary {(* | / | %) unary}`, or `product {(+ | -) product}`.
 #[cycle(expression)]
-#[tactic(auto, unfolding(row_reader::specs::Expressions::addend))]
-fn addend<'t, A: Heap>(
+fn operations<'t, A: Heap>(
+    level: Level,
     reader: Reader<A>,
     tokens: &'t [Token<'t>],
-) -> Parsed<'t, ((u32, Arithmetic), Located<A>)>
-    ensures { Parses (λ t. (t.0, located t.1)) rules.addend reader tokens.now result }
+) -> Parsed<'t, Located<A>>
+    ensures { Parses (λ t. located t) (run_rule level) reader tokens.now result }
 {
-    let (sign, rest) = addition(reader, tokens)?;
-    let (operand, rest) = product(reader, rest)?;
-    Ok(((sign, operand), rest))
-}
-
-// `product {(+ | -) product}`.
-#[cycle(expression)]
-fn sum<'t, A: Heap>(reader: Reader<A>, tokens: &'t [Token<'t>]) -> Parsed<'t, Located<A>>
-    ensures { Parses (λ t. located t) rules.sum reader tokens.now result }
-{
-    let (mut left, mut rest) = product(reader, tokens)?;
+    let (mut left, mut rest) = first_operand(level, reader, tokens)?;
+    let signs = sign_class(level);
     for _ in 0..reader.run_limit {
-        if !sees_any(Class::Addition, rest) {
+        if !sees_any(signs, rest) {
             return Ok((left, rest));
         }
-        let ((sign, right), after) = addend(reader, rest)?;
+        let ((sign, right), after) = next_operand(level, reader, rest)?;
         left = combined(reader.alloc, left, sign, right)?;
         rest = after;
     }
-    if sees_any(Class::Addition, rest) {
+    if sees_any(signs, rest) {
         return Err(Failure::Fault(ReadError::Limit { left: rest.len() }));
     }
     Ok((left, rest))
@@ -385,9 +400,9 @@ fn between<'t, A: Heap>(reader: Reader<A>, tokens: &'t [Token<'t>]) -> Parsed<'t
     ensures { Parses (λ t. range_of t) rules.between reader tokens.now result }
 {
     let (word, rest) = expect(TokenKind::Between, tokens)?;
-    let ((_, low), rest) = sum(reader, rest)?;
+    let ((_, low), rest) = operations(Level::Sum, reader, rest)?;
     let (_, rest) = expect(TokenKind::And, rest)?;
-    let ((_, high), rest) = sum(reader, rest)?;
+    let ((_, high), rest) = operations(Level::Sum, reader, rest)?;
     let offset = word.offset;
     Ok((Range::Bounds { offset, low, high }, rest))
 }
@@ -453,7 +468,7 @@ fn range_tail<'t, A: Heap>(
 fn ranged_sum<'t, A: Heap>(reader: Reader<A>, tokens: &'t [Token<'t>]) -> Parsed<'t, Located<A>>
     ensures { Parses (λ t. located t) rules.ranged_sum reader tokens.now result }
 {
-    let (operand, rest) = sum(reader, tokens)?;
+    let (operand, rest) = operations(Level::Sum, reader, tokens)?;
     let (range, rest) = range_tail(reader, rest)?;
     Ok((ranged(reader.alloc, operand, range)?, rest))
 }

@@ -15,7 +15,10 @@ use Rattle.row_reader.specs.declared.reader.Class.TheVariants as class
 use Rattle.row_reader.specs.Expressions as rules
 use Rattle.row_reader.specs.Expressions.{grammar, nested_first, folded_left, and_of, or_of}
 use Rattle.row_ast.specs.View.{expr_of, arm_pair}
+use Rattle.row_expressions.specs.Levels.{next_rule, operand_rule, run_rule, sign_class}
 use Rattle.row_expressions.specs.View.{located}
+use Rattle.row_expressions.specs.declared.expressions.Level.{Level}
+use Rattle.row_expressions.specs.declared.expressions.Level.TheVariants as level
 use Rattle.row_ast.proofs.Trees.{appended}
 use Rattle.row_reader.proofs.Lists.{listed_stop, listed_over, listed_fail, listed_go, listed_first, listed_none}
 use Rattle.row_expressions.proofs.Runs.{run_on, run_stop, run_full, run_fail, run_go, run_more, word_is_next, joined, joined_go, joined_end}
@@ -55,83 +58,49 @@ arms-loop-preserved g t c =
     listed_go c.args.reader.run_limit c.args.reader.depth_limit (λ a. arm_pair a) rules.arm (is k.When) _ c.loop.all _ (map word_of c.loop.rest.now) c.loop.invariant c.in_ok-next.next (map word_of c.in_ok-next.after.now) c.push-in-loop.new.self _ (omega arith) (cc)
     c.in_ok-next.ensures c.in_ok-push-2.ensures.ok (omega arith)
 
--- ---- product
+-- ---- operations
 
-begins_factor : first language nested_first rules.factor ≡ of class.Multiplication
-unfolding rules.factor rules.multiplication of
-begins_factor = refl
+begins : (l : Level) → first language nested_first (next_rule l) ≡ of (sign_class l)
+unfolding rules.factor rules.addend rules.multiplication rules.addition of
+begins level.Product = refl
+begins level.Sum = refl
 
-start_product : (w d n : _) (ts : List Word) (x : Located) (us : List Word) → reads grammar w d rules.unary ts ≡ Ok (x, us) → n ≡ w → run_on w d rules.factor (of class.Multiplication) (folded_left x) n us ≡ reads grammar w d rules.product ts
-unfolding rules.product
-start_product w d n ts x us e j = rw (j, ← begins_factor) (run_start grammar w d (λ x ys. folded_left x ys) rules.unary true rules.factor ts x us e)
+start_run : (l : Level) (w d n : _) (ts : List Word) (x : Located) (us : List Word) → reads grammar w d (operand_rule l) ts ≡ Ok (x, us) → n ≡ w → run_on w d (next_rule l) (of (sign_class l)) (folded_left x) n us ≡ reads grammar w d (run_rule l) ts
+unfolding rules.product rules.sum
+start_run level.Product w d n ts x us e j = rw (j, ← begins level.Product) (run_start grammar w d (λ x ys. folded_left x ys) rules.unary true rules.factor ts x us e)
+start_run level.Sum w d n ts x us e j = rw (j, ← begins level.Sum) (run_start grammar w d (λ x ys. folded_left x ys) rules.product true rules.addend ts x us e)
 
-pub product-returns-in_err-left : goal.product-returns-in_err-left
-unfolding rules.product
-product-returns-in_err-left g t c =
+no_run : (l : Level) (w d : _) (ts : List Word) (stop : ReadError) → reads grammar w d (operand_rule l) ts ≡ Err stop → reads grammar w d (run_rule l) ts ≡ Err stop
+unfolding rules.product rules.sum
+no_run level.Product w d ts stop r = run_err grammar w d (λ x ys. folded_left x ys) rules.unary true rules.factor ts stop r
+no_run level.Sum w d ts stop r = run_err grammar w d (λ x ys. folded_left x ys) rules.product true rules.addend ts stop r
+
+pub operations-returns-in_err-left : goal.operations-returns-in_err-left
+operations-returns-in_err-left g t c =
     let p = err_from_is_err_and c.from_residual.result c.from_residual.ensures.1 in
-    rw (p.1, p.2) (fault_along _ (reads grammar c.args.reader.run_limit c.args.reader.depth_limit rules.unary (map word_of c.args.tokens.now)) (reads grammar c.args.reader.run_limit c.args.reader.depth_limit rules.product (map word_of c.args.tokens.now))
-    (λ stop r. run_err grammar c.args.reader.run_limit c.args.reader.depth_limit (λ x ys. folded_left x ys) rules.unary true rules.factor (map word_of c.args.tokens.now) stop r) c.in_err-left.ensures)
+    rw (p.1, p.2) (fault_along _ (reads grammar c.args.reader.run_limit c.args.reader.depth_limit (operand_rule c.args.level) (map word_of c.args.tokens.now)) (reads grammar c.args.reader.run_limit c.args.reader.depth_limit (run_rule c.args.level) (map word_of c.args.tokens.now))
+    (no_run c.args.level c.args.reader.run_limit c.args.reader.depth_limit (map word_of c.args.tokens.now)) c.in_err-left.ensures)
 
-pub product-loop-init : goal.product-loop-init
-product-loop-init g t c = start_product c.args.reader.run_limit c.args.reader.depth_limit _ (map word_of c.args.tokens.now) (located c.in_ok-left.left) (map word_of c.in_ok-left.rest.now) c.in_ok-left.ensures (omega arith)
+pub operations-loop-init : goal.operations-loop-init
+operations-loop-init g t c = start_run c.args.level c.args.reader.run_limit c.args.reader.depth_limit _ (map word_of c.args.tokens.now) (located c.in_ok-left.left) (map word_of c.in_ok-left.rest.now) c.in_ok-left.ensures (omega arith)
 
-pub product-returns-then-not-sees_any : goal.product-returns-then-not-sees_any
-product-returns-then-not-sees_any g t c = run_stop c.args.reader.run_limit c.args.reader.depth_limit rules.factor (of class.Multiplication) (folded_left (located c.loop.left)) _ _ (map word_of c.loop.rest.now) c.loop.invariant (cc)
+pub operations-returns-then-not-sees_any : goal.operations-returns-then-not-sees_any
+operations-returns-then-not-sees_any g t c = run_stop c.args.reader.run_limit c.args.reader.depth_limit (next_rule c.args.level) (of (sign_class c.args.level)) (folded_left (located c.loop.left)) _ _ (map word_of c.loop.rest.now) c.loop.invariant (cc)
 
-pub product-returns : goal.product-returns
-product-returns g t c = run_stop c.args.reader.run_limit c.args.reader.depth_limit rules.factor (of class.Multiplication) (folded_left (located c.loop.left)) _ _ (map word_of c.loop.rest.now) c.loop.invariant (cc)
+pub operations-returns : goal.operations-returns
+operations-returns g t c = run_stop c.args.reader.run_limit c.args.reader.depth_limit (next_rule c.args.level) (of (sign_class c.args.level)) (folded_left (located c.loop.left)) _ _ (map word_of c.loop.rest.now) c.loop.invariant (cc)
 
-pub product-returns-then-sees_any : goal.product-returns-then-sees_any
-product-returns-then-sees_any g t c = rw (← length-map c.loop.rest.now word_of) (run_full c.args.reader.run_limit c.args.reader.depth_limit rules.factor (of class.Multiplication) (folded_left (located c.loop.left)) _ _ (map word_of c.loop.rest.now) c.loop.invariant (omega arith) (cc))
+pub operations-returns-then-sees_any : goal.operations-returns-then-sees_any
+operations-returns-then-sees_any g t c = rw (← length-map c.loop.rest.now word_of) (run_full c.args.reader.run_limit c.args.reader.depth_limit (next_rule c.args.level) (of (sign_class c.args.level)) (folded_left (located c.loop.left)) _ _ (map word_of c.loop.rest.now) c.loop.invariant (omega arith) (cc))
 
-pub product-returns-in_err-sign : goal.product-returns-in_err-sign
-product-returns-in_err-sign g t c =
+pub operations-returns-in_err-sign : goal.operations-returns-in_err-sign
+operations-returns-in_err-sign g t c =
     let p = err_from_is_err_and c.from_residual-in_err-sign.result c.from_residual-in_err-sign.ensures.1 in
-    rw (p.1, p.2) (run_fail c.args.reader.run_limit c.args.reader.depth_limit rules.factor (of class.Multiplication) (folded_left (located c.loop.left)) _ _ (map word_of c.loop.rest.now) c.loop.invariant _ (omega arith) (cc) c.in_err-sign.ensures)
+    rw (p.1, p.2) (run_fail c.args.reader.run_limit c.args.reader.depth_limit (next_rule c.args.level) (of (sign_class c.args.level)) (folded_left (located c.loop.left)) _ _ (map word_of c.loop.rest.now) c.loop.invariant _ (omega arith) (cc (c.sign_class-signs.ensures, c.sees_any.ensures, c.if-not-sees_any.false)) c.in_err-sign.ensures)
 
-pub product-loop-preserved : goal.product-loop-preserved
-product-loop-preserved g t c =
-    run_go c.args.reader.run_limit c.args.reader.depth_limit rules.factor (of class.Multiplication) (folded_left (located c.loop.left)) _ _ (map word_of c.loop.rest.now) c.loop.invariant
-    (c.in_ok-sign.sign, located c.in_ok-sign.right) (map word_of c.in_ok-sign.after.now) _ _ (omega arith) (cc) c.in_ok-sign.ensures
-    (λ xs. ap (λ x. folded_left x xs) (sym c.in_ok-left-2.ensures)) (omega arith)
-
--- ---- sum
-
-begins_addend : first language nested_first rules.addend ≡ of class.Addition
-unfolding rules.addend rules.addition of
-begins_addend = refl
-
-start_sum : (w d n : _) (ts : List Word) (x : Located) (us : List Word) → reads grammar w d rules.product ts ≡ Ok (x, us) → n ≡ w → run_on w d rules.addend (of class.Addition) (folded_left x) n us ≡ reads grammar w d rules.sum ts
-unfolding rules.sum
-start_sum w d n ts x us e j = rw (j, ← begins_addend) (run_start grammar w d (λ x ys. folded_left x ys) rules.product true rules.addend ts x us e)
-
-pub sum-returns-in_err-left : goal.sum-returns-in_err-left
-unfolding rules.sum
-sum-returns-in_err-left g t c =
-    let p = err_from_is_err_and c.from_residual.result c.from_residual.ensures.1 in
-    rw (p.1, p.2) (fault_along _ (reads grammar c.args.reader.run_limit c.args.reader.depth_limit rules.product (map word_of c.args.tokens.now)) (reads grammar c.args.reader.run_limit c.args.reader.depth_limit rules.sum (map word_of c.args.tokens.now))
-    (λ stop r. run_err grammar c.args.reader.run_limit c.args.reader.depth_limit (λ x ys. folded_left x ys) rules.product true rules.addend (map word_of c.args.tokens.now) stop r) c.in_err-left.ensures)
-
-pub sum-loop-init : goal.sum-loop-init
-sum-loop-init g t c = start_sum c.args.reader.run_limit c.args.reader.depth_limit _ (map word_of c.args.tokens.now) (located c.in_ok-left.left) (map word_of c.in_ok-left.rest.now) c.in_ok-left.ensures (omega arith)
-
-pub sum-returns-then-not-sees_any : goal.sum-returns-then-not-sees_any
-sum-returns-then-not-sees_any g t c = run_stop c.args.reader.run_limit c.args.reader.depth_limit rules.addend (of class.Addition) (folded_left (located c.loop.left)) _ _ (map word_of c.loop.rest.now) c.loop.invariant (cc)
-
-pub sum-returns : goal.sum-returns
-sum-returns g t c = run_stop c.args.reader.run_limit c.args.reader.depth_limit rules.addend (of class.Addition) (folded_left (located c.loop.left)) _ _ (map word_of c.loop.rest.now) c.loop.invariant (cc)
-
-pub sum-returns-then-sees_any : goal.sum-returns-then-sees_any
-sum-returns-then-sees_any g t c = rw (← length-map c.loop.rest.now word_of) (run_full c.args.reader.run_limit c.args.reader.depth_limit rules.addend (of class.Addition) (folded_left (located c.loop.left)) _ _ (map word_of c.loop.rest.now) c.loop.invariant (omega arith) (cc))
-
-pub sum-returns-in_err-sign : goal.sum-returns-in_err-sign
-sum-returns-in_err-sign g t c =
-    let p = err_from_is_err_and c.from_residual-in_err-sign.result c.from_residual-in_err-sign.ensures.1 in
-    rw (p.1, p.2) (run_fail c.args.reader.run_limit c.args.reader.depth_limit rules.addend (of class.Addition) (folded_left (located c.loop.left)) _ _ (map word_of c.loop.rest.now) c.loop.invariant _ (omega arith) (cc) c.in_err-sign.ensures)
-
-pub sum-loop-preserved : goal.sum-loop-preserved
-sum-loop-preserved g t c =
-    run_go c.args.reader.run_limit c.args.reader.depth_limit rules.addend (of class.Addition) (folded_left (located c.loop.left)) _ _ (map word_of c.loop.rest.now) c.loop.invariant
+pub operations-loop-preserved : goal.operations-loop-preserved
+operations-loop-preserved g t c =
+    run_go c.args.reader.run_limit c.args.reader.depth_limit (next_rule c.args.level) (of (sign_class c.args.level)) (folded_left (located c.loop.left)) _ _ (map word_of c.loop.rest.now) c.loop.invariant
     (c.in_ok-sign.sign, located c.in_ok-sign.right) (map word_of c.in_ok-sign.after.now) _ _ (omega arith) (cc) c.in_ok-sign.ensures
     (λ xs. ap (λ x. folded_left x xs) (sym c.in_ok-left-2.ensures)) (omega arith)
 

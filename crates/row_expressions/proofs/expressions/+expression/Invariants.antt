@@ -1,4 +1,4 @@
-use Rattle.std.proofs.Common.{◌≡◌, ◌+◌, ◌-◌, ◌*◌, map}
+use Rattle.std.proofs.Common.{◌≡◌, ℕ, ◌+◌, ◌-◌, ◌*◌, map}
 use Rattle.row_grammar.specs.Limits.{reads}
 use Rattle.row_tokens.specs.declared.token.TokenKind.TheVariants as k
 use Rattle.row_tokens.specs.View.{word_of}
@@ -8,7 +8,10 @@ use Rattle.row_reader.specs.declared.reader.Class.TheVariants as c
 use Rattle.row_reader.specs.Expressions as rules
 use Rattle.row_reader.specs.Expressions.{grammar, folded_left}
 use Rattle.row_ast.specs.View.{expr_of, arm_pair}
+use Rattle.row_expressions.specs.Levels.{next_rule, run_rule, sign_class}
 use Rattle.row_expressions.specs.View.{located}
+use Rattle.row_expressions.specs.declared.expressions.Level.{Level}
+use Rattle.row_expressions.specs.declared.expressions.Level.TheVariants as level
 use Rattle.row_reader.proofs.Lists.{listed}
 use Rattle.row_expressions.proofs.Runs.{run_on, joined}
 use Rattle.row_expressions.proofs.expressions.+expression.Given as goal
@@ -61,56 +64,55 @@ decreases-primary g l = 30 * l.reader.depth_limit + 4
 abbrev pub decreases-unary : goal.decreases-unary
 decreases-unary g l = 30 * l.reader.depth_limit + 5
 
-abbrev pub decreases-factor : goal.decreases-factor
-decreases-factor g l = 30 * l.reader.depth_limit + 6
+-- the operators of sums bind less than those of products
+abbrev rank : Level → ℕ
+rank level.Product = 0
+rank level.Sum = 4
 
-abbrev pub decreases-product : goal.decreases-product
-decreases-product g l = 30 * l.reader.depth_limit + 7
+abbrev pub decreases-first_operand : goal.decreases-first_operand
+decreases-first_operand g l = 30 * l.reader.depth_limit + (6 + rank l.level)
 
-abbrev pub decreases-addend : goal.decreases-addend
-decreases-addend g l = 30 * l.reader.depth_limit + 8
+abbrev pub decreases-next_operand : goal.decreases-next_operand
+decreases-next_operand g l = 30 * l.reader.depth_limit + (7 + rank l.level)
 
-abbrev pub decreases-sum : goal.decreases-sum
-decreases-sum g l = 30 * l.reader.depth_limit + 9
+abbrev pub decreases-operations : goal.decreases-operations
+decreases-operations g l = 30 * l.reader.depth_limit + (8 + rank l.level)
 
 abbrev pub decreases-between : goal.decreases-between
-decreases-between g l = 30 * l.reader.depth_limit + 10
+decreases-between g l = 30 * l.reader.depth_limit + 13
 
 abbrev pub decreases-negated_range : goal.decreases-negated_range
-decreases-negated_range g l = 30 * l.reader.depth_limit + 11
+decreases-negated_range g l = 30 * l.reader.depth_limit + 14
 
 abbrev pub decreases-range_tail : goal.decreases-range_tail
-decreases-range_tail g l = 30 * l.reader.depth_limit + 12
+decreases-range_tail g l = 30 * l.reader.depth_limit + 15
 
 abbrev pub decreases-ranged_sum : goal.decreases-ranged_sum
-decreases-ranged_sum g l = 30 * l.reader.depth_limit + 13
+decreases-ranged_sum g l = 30 * l.reader.depth_limit + 16
 
 abbrev pub decreases-comparison : goal.decreases-comparison
-decreases-comparison g l = 30 * l.reader.depth_limit + 14
+decreases-comparison g l = 30 * l.reader.depth_limit + 17
 
 abbrev pub decreases-null_test : goal.decreases-null_test
-decreases-null_test g l = 30 * l.reader.depth_limit + 15
+decreases-null_test g l = 30 * l.reader.depth_limit + 18
 
 abbrev pub decreases-negation : goal.decreases-negation
-decreases-negation g l = 30 * l.reader.depth_limit + 16
+decreases-negation g l = 30 * l.reader.depth_limit + 19
 
 abbrev pub decreases-and_operand : goal.decreases-and_operand
-decreases-and_operand g l = 30 * l.reader.depth_limit + 17
+decreases-and_operand g l = 30 * l.reader.depth_limit + 20
 
 abbrev pub decreases-conjunction : goal.decreases-conjunction
-decreases-conjunction g l = 30 * l.reader.depth_limit + 18
+decreases-conjunction g l = 30 * l.reader.depth_limit + 21
 
 abbrev pub decreases-or_operand : goal.decreases-or_operand
-decreases-or_operand g l = 30 * l.reader.depth_limit + 19
+decreases-or_operand g l = 30 * l.reader.depth_limit + 22
 
 abbrev pub decreases-expression : goal.decreases-expression
-decreases-expression g l = 30 * l.reader.depth_limit + 20
+decreases-expression g l = 30 * l.reader.depth_limit + 23
 
-abbrev pub invariant-product-loop : goal.invariant-product-loop
-invariant-product-loop g l = run_on l.reader.run_limit l.reader.depth_limit rules.factor (of c.Multiplication) (folded_left (located l.left)) (l.reader.run_limit - l.counter) (map word_of l.rest) ≡ reads grammar l.reader.run_limit l.reader.depth_limit rules.product (map word_of l.tokens)
-
-abbrev pub invariant-sum-loop : goal.invariant-sum-loop
-invariant-sum-loop g l = run_on l.reader.run_limit l.reader.depth_limit rules.addend (of c.Addition) (folded_left (located l.left)) (l.reader.run_limit - l.counter) (map word_of l.rest) ≡ reads grammar l.reader.run_limit l.reader.depth_limit rules.sum (map word_of l.tokens)
+abbrev pub invariant-operations-loop : goal.invariant-operations-loop
+invariant-operations-loop g l = run_on l.reader.run_limit l.reader.depth_limit (next_rule l.level) (of (sign_class l.level)) (folded_left (located l.left)) (l.reader.run_limit - l.counter) (map word_of l.rest) ≡ reads grammar l.reader.run_limit l.reader.depth_limit (run_rule l.level) (map word_of l.tokens)
 
 abbrev pub invariant-conjunction-loop : goal.invariant-conjunction-loop
 invariant-conjunction-loop g l = run_on l.reader.run_limit l.reader.depth_limit rules.and_operand (is k.And) (joined (λ ms. And l.offset (exprs_of ms)) and_members l.start (map (λ e. expr_of e) l.members.items)) (l.reader.run_limit - l.counter) (map word_of l.rest) ≡ reads grammar l.reader.run_limit l.reader.depth_limit rules.conjunction (map word_of l.tokens)
