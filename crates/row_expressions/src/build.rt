@@ -6,6 +6,7 @@ ghost use Rattle.row_reader.specs.Expressions as rules;
 ghost use Rattle.row_ast.specs.Ast as ast;
 ghost use Rattle.row_ast.specs.Ast.{arms_of, exprs_of};
 ghost use Rattle.row_ast.specs.View.{expr_of, arm_pair};
+ghost use Rattle.row_expressions.specs.Levels.{joined_expr, members_of};
 ghost use Rattle.row_expressions.specs.View.{located, signed_of, suffix_of, otherwise_of};
 
 use memory::{Heap, boxed};
@@ -19,6 +20,13 @@ use value::{Aggregate, Arithmetic, Value};
 /// An expression, and where its first token starts. It is boxed, since where a tree is alive at a `?` its whole drop,
 /// each variant and field, is part of that function's proof.
 pub type Located<A> = (u32, Box<Expr<A>, A>);
+
+/// AND or OR.
+#[derive(Clone, Copy)]
+pub enum Connective {
+    And,
+    Or,
+}
 
 /// What follows in BETWEEN or IN.
 #[derive(Drop)]
@@ -215,12 +223,9 @@ fn alone<A: Heap>(alloc: A, member: Expr<A>) -> Result<Vec<Expr<A>, A>, AllocErr
     Ok(members.into_vec())
 }
 
-/// The members of an expression that is an operand of AND: its own where it is one.
+// The members of an expression that is an operand of AND: its own where it is one.
 #[tactic(auto, using(row_ast::proofs::Trees::tree_lemmas))]
-pub fn and_members<A: Heap>(
-    alloc: A,
-    member: Box<Expr<A>, A>,
-) -> Result<Vec<Expr<A>, A>, AllocError>
+fn and_members<A: Heap>(alloc: A, member: Box<Expr<A>, A>) -> Result<Vec<Expr<A>, A>, AllocError>
     ensures { IfOk result (λ v. map (λ e. expr_of e) v.items ≡ ast.and_members (expr_of member.value)) }
 {
     match Box::into_inner(member) {
@@ -229,9 +234,9 @@ pub fn and_members<A: Heap>(
     }
 }
 
-/// The members of an expression that is an operand of OR: its own where it is one.
+// The members of an expression that is an operand of OR: its own where it is one.
 #[tactic(auto, using(row_ast::proofs::Trees::tree_lemmas))]
-pub fn or_members<A: Heap>(alloc: A, member: Box<Expr<A>, A>) -> Result<Vec<Expr<A>, A>, AllocError>
+fn or_members<A: Heap>(alloc: A, member: Box<Expr<A>, A>) -> Result<Vec<Expr<A>, A>, AllocError>
     ensures { IfOk result (λ v. map (λ e. expr_of e) v.items ≡ ast.or_members (expr_of member.value)) }
 {
     match Box::into_inner(member) {
@@ -240,9 +245,9 @@ pub fn or_members<A: Heap>(alloc: A, member: Box<Expr<A>, A>) -> Result<Vec<Expr
     }
 }
 
-/// An AND of several members.
+// An AND of several members.
 #[tactic(auto, using(row_ast::proofs::Trees::tree_lemmas))]
-pub fn and_of<A: Heap>(
+fn and_of<A: Heap>(
     alloc: A,
     start: u32,
     offset: u32,
@@ -253,9 +258,9 @@ pub fn and_of<A: Heap>(
     Ok((start, boxed(alloc, Expr::And { offset, members })?))
 }
 
-/// An OR of several members.
+// An OR of several members.
 #[tactic(auto, using(row_ast::proofs::Trees::tree_lemmas))]
-pub fn or_of<A: Heap>(
+fn or_of<A: Heap>(
     alloc: A,
     start: u32,
     offset: u32,
@@ -264,4 +269,34 @@ pub fn or_of<A: Heap>(
     ensures { IfOk result (λ p. located p ≡ (start, ast.Or offset (exprs_of (map (λ e. expr_of e) members.items)))) }
 {
     Ok((start, boxed(alloc, Expr::Or { offset, members })?))
+}
+
+/// The members of an operand of AND or OR: its own where it is itself one of these.
+pub fn members_of<A: Heap>(
+    alloc: A,
+    connective: Connective,
+    member: Box<Expr<A>, A>,
+) -> Result<Vec<Expr<A>, A>, AllocError>
+    ensures { IfOk result (λ v. map (λ e. expr_of e) v.items ≡ members_of connective (expr_of member.value)) }
+{
+    match connective {
+        Connective::And => and_members(alloc, member),
+        Connective::Or => or_members(alloc, member),
+    }
+}
+
+/// An AND or OR of several members, by where it starts and by the offset of its first word.
+pub fn joined<A: Heap>(
+    alloc: A,
+    connective: Connective,
+    offsets: (u32, u32),
+    members: Vec<Expr<A>, A>,
+) -> Result<Located<A>, AllocError>
+    ensures { IfOk result (λ p. located p ≡ (offsets.0, joined_expr connective offsets.1 (map (λ e. expr_of e) members.items))) }
+{
+    let (start, offset) = offsets;
+    match connective {
+        Connective::And => and_of(alloc, start, offset, members),
+        Connective::Or => or_of(alloc, start, offset, members),
+    }
 }

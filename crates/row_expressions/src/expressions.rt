@@ -9,12 +9,12 @@ ghost use Rattle.row_reader.specs.Expressions.{grammar};
 ghost use Rattle.row_reader.specs.Language.{an_expression, a_negation, a_unary};
 ghost use Rattle.row_reader.specs.Reading.{Parses};
 ghost use Rattle.row_ast.specs.View.{expr_of, arm_pair};
-ghost use Rattle.row_expressions.specs.Levels.{next_rule, operand_rule, run_rule, sign_class};
+ghost use Rattle.row_expressions.specs.Levels.{connected_rule, connective_word, member_rule, next_member_rule, next_rule, operand_rule, run_rule, sign_class};
 ghost use Rattle.row_expressions.specs.View.{located, range_of, signed_of, suffix_of, otherwise_of};
 
 use crate::build::{
-    CallSuffix, Located, Otherwise, Range, and_members, and_of, called, case_of, column_expr,
-    combined, counted, or_members, or_of, ranged,
+    CallSuffix, Connective, Located, Otherwise, Range, called, case_of, column_expr, combined,
+    counted, joined, members_of, ranged,
 };
 use memory::{Failure, Heap, boxed};
 use row_ast::{Arm, Expr};
@@ -546,82 +546,95 @@ fn negation<'t, A: Heap>(reader: Reader<A>, tokens: &'t [Token<'t>]) -> Parsed<'
     }
 }
 
-// `AND negation`.
+fn connective_word(connective: Connective) -> TokenKind
+    ensures { result ≡ connective_word connective }
+{
+    match connective {
+        Connective::And => TokenKind::And,
+        Connective::Or => TokenKind::Or,
+    }
+}
+
+// The first operand of AND or OR.
 #[cycle(expression)]
-#[tactic(auto, unfolding(row_reader::specs::Expressions::and_operand))]
-fn and_operand<'t, A: Heap>(
+fn first_member<'t, A: Heap>(
+    connective: Connective,
+    reader: Reader<A>,
+    tokens: &'t [Token<'t>],
+) -> Parsed<'t, Located<A>>
+    ensures { Parses (λ t. located t) (member_rule connective) reader tokens.now result }
+{
+    match connective {
+        Connective::And => negation(reader, tokens),
+        Connective::Or => connected(Connective::And, reader, tokens),
+    }
+}
+
+// `AND negation`, or `OR conjunction`.
+#[cycle(expression)]
+#[tactic(auto, unfolding(row_reader::specs::Expressions::and_operand, row_reader::specs::Expressions::or_operand))]
+fn next_member<'t, A: Heap>(
+    connective: Connective,
     reader: Reader<A>,
     tokens: &'t [Token<'t>],
 ) -> Parsed<'t, (Token<'t>, Located<A>)>
-    ensures { Parses (λ t. (word_of t.0, located t.1)) rules.and_operand reader tokens.now result }
+    ensures { Parses (λ t. (word_of t.0, located t.1)) (next_member_rule connective) reader tokens.now result }
 {
-    let (word, rest) = expect(TokenKind::And, tokens)?;
-    let (operand, rest) = negation(reader, rest)?;
-    Ok(((word, operand), rest))
+    match connective {
+        Connective::And => {
+            let (word, rest) = expect(TokenKind::And, tokens)?;
+            let (operand, rest) = negation(reader, rest)?;
+            Ok(((word, operand), rest))
+        }
+        Connective::Or => {
+            let (word, rest) = expect(TokenKind::Or, tokens)?;
+            let (operand, rest) = connected(Connective::And, reader, rest)?;
+            Ok(((word, operand), rest))
+        }
+    }
 }
 
-// `negation {AND negation}`; a member that is itself an AND is merged.
+// `negation {AND negation}`, or `conjunction {OR conjunction}`; a member that is itself one of these is merged.
 #[cycle(expression)]
-fn conjunction<'t, A: Heap>(reader: Reader<A>, tokens: &'t [Token<'t>]) -> Parsed<'t, Located<A>>
-    ensures { Parses (λ t. located t) rules.conjunction reader tokens.now result }
+fn connected<'t, A: Heap>(
+    connective: Connective,
+    reader: Reader<A>,
+    tokens: &'t [Token<'t>],
+) -> Parsed<'t, Located<A>>
+    ensures { Parses (λ t. located t) (connected_rule connective) reader tokens.now result }
 {
-    let ((start, first), mut rest) = negation(reader, tokens)?;
-    if !sees(TokenKind::And, rest) {
+    let ((start, first), mut rest) = first_member(connective, reader, tokens)?;
+    let word = connective_word(connective);
+    if !sees(word, rest) {
         return Ok(((start, first), rest));
     }
     let offset = next_offset(rest);
-    let mut members = and_members(reader.alloc, first)?;
+    let mut members = members_of(reader.alloc, connective, first)?;
     for _ in 0..reader.run_limit {
-        if !sees(TokenKind::And, rest) {
-            return Ok((and_of(reader.alloc, start, offset, members)?, rest));
+        if !sees(word, rest) {
+            return Ok((
+                joined(reader.alloc, connective, (start, offset), members)?,
+                rest,
+            ));
         }
-        let ((_, (_, next)), after) = and_operand(reader, rest)?;
-        let mut more = and_members(reader.alloc, next)?;
+        let ((_, (_, next)), after) = next_member(connective, reader, rest)?;
+        let mut more = members_of(reader.alloc, connective, next)?;
         members.append(&mut more)?;
         rest = after;
     }
-    if sees(TokenKind::And, rest) {
+    if sees(word, rest) {
         return Err(Failure::Fault(ReadError::Limit { left: rest.len() }));
     }
-    Ok((and_of(reader.alloc, start, offset, members)?, rest))
+    Ok((
+        joined(reader.alloc, connective, (start, offset), members)?,
+        rest,
+    ))
 }
 
-// `OR conjunction`.
-#[cycle(expression)]
-#[tactic(auto, unfolding(row_reader::specs::Expressions::or_operand))]
-fn or_operand<'t, A: Heap>(
-    reader: Reader<A>,
-    tokens: &'t [Token<'t>],
-) -> Parsed<'t, (Token<'t>, Located<A>)>
-    ensures { Parses (λ t. (word_of t.0, located t.1)) rules.or_operand reader tokens.now result }
-{
-    let (word, rest) = expect(TokenKind::Or, tokens)?;
-    let (operand, rest) = conjunction(reader, rest)?;
-    Ok(((word, operand), rest))
-}
-
-/// An expression: `conjunction {OR conjunction}`; a member that is itself an OR is merged.
+/// An expression: `conjunction {OR conjunction}`.
 #[cycle(expression)]
 pub fn expression<'t, A: Heap>(reader: Reader<A>, tokens: &'t [Token<'t>]) -> Parsed<'t, Located<A>>
     ensures { Parses (λ t. located t) rules.expression reader tokens.now result }
 {
-    let ((start, first), mut rest) = conjunction(reader, tokens)?;
-    if !sees(TokenKind::Or, rest) {
-        return Ok(((start, first), rest));
-    }
-    let offset = next_offset(rest);
-    let mut members = or_members(reader.alloc, first)?;
-    for _ in 0..reader.run_limit {
-        if !sees(TokenKind::Or, rest) {
-            return Ok((or_of(reader.alloc, start, offset, members)?, rest));
-        }
-        let ((_, (_, next)), after) = or_operand(reader, rest)?;
-        let mut more = or_members(reader.alloc, next)?;
-        members.append(&mut more)?;
-        rest = after;
-    }
-    if sees(TokenKind::Or, rest) {
-        return Err(Failure::Fault(ReadError::Limit { left: rest.len() }));
-    }
-    Ok((or_of(reader.alloc, start, offset, members)?, rest))
+    connected(Connective::Or, reader, tokens)
 }

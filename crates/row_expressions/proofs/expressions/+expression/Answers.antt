@@ -15,8 +15,10 @@ use Rattle.row_reader.specs.declared.reader.Class.TheVariants as class
 use Rattle.row_reader.specs.Expressions as rules
 use Rattle.row_reader.specs.Expressions.{grammar, nested_first, folded_left, and_of, or_of}
 use Rattle.row_ast.specs.View.{expr_of, arm_pair}
-use Rattle.row_expressions.specs.Levels.{next_rule, operand_rule, run_rule, sign_class}
+use Rattle.row_expressions.specs.Levels.{connected_rule, connective_word, joined_expr, member_rule, members_of, next_member_rule, next_rule, operand_rule, run_rule, sign_class}
 use Rattle.row_expressions.specs.View.{located}
+use Rattle.row_expressions.specs.declared.build.Connective.{Connective}
+use Rattle.row_expressions.specs.declared.build.Connective.TheVariants as word
 use Rattle.row_expressions.specs.declared.expressions.Level.{Level}
 use Rattle.row_expressions.specs.declared.expressions.Level.TheVariants as level
 use Rattle.row_ast.proofs.Trees.{appended}
@@ -104,124 +106,77 @@ operations-loop-preserved g t c =
     (c.in_ok-sign.sign, located c.in_ok-sign.right) (map word_of c.in_ok-sign.after.now) _ _ (omega arith) (cc) c.in_ok-sign.ensures
     (λ xs. ap (λ x. folded_left x xs) (sym c.in_ok-left-2.ensures)) (omega arith)
 
--- ---- conjunction
+-- ---- AND and OR
 
-begins_and_operand : first language nested_first rules.and_operand ≡ is k.And
-unfolding rules.and_operand
-begins_and_operand = refl
+begins_member : (l : Connective) → first language nested_first (next_member_rule l) ≡ is (connective_word l)
+unfolding rules.and_operand rules.or_operand
+begins_member word.And = refl
+begins_member word.Or = refl
 
-next_and_operand : (w d : _) (us : List Word) (y : Word × Located) (vs : List Word) → reads grammar w d rules.and_operand us ≡ Ok (y, vs) → y.0.at ≡ next_at us
-unfolding rules.and_operand
-next_and_operand w d us y vs e = word_is_next w d (is k.And) rules.negation us y vs e
+next_member_word : (l : Connective) (w d : _) (us : List Word) (y : Word × Located) (vs : List Word) → reads grammar w d (next_member_rule l) us ≡ Ok (y, vs) → y.0.at ≡ next_at us
+unfolding rules.and_operand rules.or_operand
+next_member_word word.And w d us y vs e = word_is_next w d (is k.And) rules.negation us y vs e
+next_member_word word.Or w d us y vs e = word_is_next w d (is k.Or) rules.conjunction us y vs e
 
-alone_conjunction : (w d : _) (ts : List Word) (x : Located) (us : List Word) → reads grammar w d rules.negation ts ≡ Ok (x, us) → head_in kind_of (is k.And) us ≡ false → reads grammar w d rules.conjunction ts ≡ Ok (x, us)
-unfolding rules.conjunction
-alone_conjunction w d ts x us e n =
+alone : (l : Connective) (w d : _) (ts : List Word) (x : Located) (us : List Word) → reads grammar w d (member_rule l) ts ≡ Ok (x, us) → head_in kind_of (is (connective_word l)) us ≡ false → reads grammar w d (connected_rule l) ts ≡ Ok (x, us)
+unfolding rules.conjunction rules.expression
+alone word.And w d ts x us e n =
     run_stop w d rules.and_operand (is k.And) (and_of x) (reads grammar w d rules.conjunction ts) w us
-    (rw (← begins_and_operand) (run_start grammar w d (λ x ys. and_of x ys) rules.negation true rules.and_operand ts x us e)) n
-
-start_conjunction : (w d n : _) (ts : List Word) (x : Located) (us : List Word) (at : _) (ms : List Expr) → reads grammar w d rules.negation ts ≡ Ok (x, us) → head_in kind_of (is k.And) us ≡ true → at ≡ next_at us → ms ≡ and_members x.1 → n ≡ w
-    → run_on w d rules.and_operand (is k.And) (joined (λ ms. And at (exprs_of ms)) and_members x.0 ms) n us ≡ reads grammar w d rules.conjunction ts
-unfolding rules.conjunction
-start_conjunction w d n ts x us at ms e h a m j =
-    rw (a, m, j) (run_more w d rules.and_operand (is k.And) (joined (λ ms. And (next_at us) (exprs_of ms)) and_members x.0 (and_members x.1)) (and_of x) w us h
-    (λ y vs ys r. ap (λ n. (x.0, And n (exprs_of (and_members x.1 ++ flat_map and_members (map (λ z. z.1.1) (y ∷ ys)))))) (sym (next_and_operand w d us y vs r)))
-    ∙ rw (← begins_and_operand) (run_start grammar w d (λ x ys. and_of x ys) rules.negation true rules.and_operand ts x us e))
-
-pub conjunction-returns-in_err-start : goal.conjunction-returns-in_err-start
-unfolding rules.conjunction
-conjunction-returns-in_err-start g t c =
-    let p = err_from_is_err_and c.from_residual.result c.from_residual.ensures.1 in
-    rw (p.1, p.2) (fault_along _ (reads grammar c.args.reader.run_limit c.args.reader.depth_limit rules.negation (map word_of c.args.tokens.now)) (reads grammar c.args.reader.run_limit c.args.reader.depth_limit rules.conjunction (map word_of c.args.tokens.now))
-    (λ stop r. run_err grammar c.args.reader.run_limit c.args.reader.depth_limit (λ x ys. and_of x ys) rules.negation true rules.and_operand (map word_of c.args.tokens.now) stop r) c.in_err-start.ensures)
-
-pub conjunction-returns-then-not-sees : goal.conjunction-returns-then-not-sees
-conjunction-returns-then-not-sees g t c = alone_conjunction c.args.reader.run_limit c.args.reader.depth_limit (map word_of c.args.tokens.now) (c.in_ok-start.start, expr_of c.in_ok-start.first.value) (map word_of c.in_ok-start.rest.now) c.in_ok-start.ensures (cc)
-
-pub conjunction-loop-init : goal.conjunction-loop-init
-conjunction-loop-init g t c = start_conjunction c.args.reader.run_limit c.args.reader.depth_limit _ (map word_of c.args.tokens.now) (c.in_ok-start.start, expr_of c.in_ok-start.first.value) (map word_of c.in_ok-start.rest.now) c.next_offset-offset.result (map (λ e. expr_of e) c.in_ok-members.members.items)
-    c.in_ok-start.ensures (cc) c.next_offset-offset.ensures c.in_ok-members.ensures (omega arith)
-
-pub conjunction-returns-then-not-sees-2 : goal.conjunction-returns-then-not-sees-2
-conjunction-returns-then-not-sees-2 g t c = run_stop c.args.reader.run_limit c.args.reader.depth_limit rules.and_operand (is k.And) (joined (λ ms. And c.next_offset-offset.result (exprs_of ms)) and_members c.in_ok-start.start (map (λ e. expr_of e) c.loop.members.items)) _ _ (map word_of c.loop.rest.now) c.loop.invariant (cc) ∙ ap (λ (p : Located). let o : Outcome Word Located = Ok (p, map word_of c.loop.rest.now) in o) (joined_end (λ ms. And c.next_offset-offset.result (exprs_of ms)) and_members c.in_ok-start.start (map (λ e. expr_of e) c.loop.members.items) ∙ sym c.in_ok-and_of.ensures)
-
-pub conjunction-returns : goal.conjunction-returns
-conjunction-returns g t c = run_stop c.args.reader.run_limit c.args.reader.depth_limit rules.and_operand (is k.And) (joined (λ ms. And c.next_offset-offset.result (exprs_of ms)) and_members c.in_ok-start.start (map (λ e. expr_of e) c.loop.members.items)) _ _ (map word_of c.loop.rest.now) c.loop.invariant (cc) ∙ ap (λ (p : Located). let o : Outcome Word Located = Ok (p, map word_of c.loop.rest.now) in o) (joined_end (λ ms. And c.next_offset-offset.result (exprs_of ms)) and_members c.in_ok-start.start (map (λ e. expr_of e) c.loop.members.items) ∙ sym c.in_ok-and_of-2.ensures)
-
-pub conjunction-returns-then-sees : goal.conjunction-returns-then-sees
-conjunction-returns-then-sees g t c = rw (← length-map c.loop.rest.now word_of) (run_full c.args.reader.run_limit c.args.reader.depth_limit rules.and_operand (is k.And) (joined (λ ms. And c.next_offset-offset.result (exprs_of ms)) and_members c.in_ok-start.start (map (λ e. expr_of e) c.loop.members.items)) _ _ (map word_of c.loop.rest.now) c.loop.invariant (omega arith) (cc))
-
-pub conjunction-returns-in_err-next : goal.conjunction-returns-in_err-next
-conjunction-returns-in_err-next g t c =
-    let p = err_from_is_err_and c.from_residual-in_err-next.result c.from_residual-in_err-next.ensures.1 in
-    rw (p.1, p.2) (run_fail c.args.reader.run_limit c.args.reader.depth_limit rules.and_operand (is k.And) (joined (λ ms. And c.next_offset-offset.result (exprs_of ms)) and_members c.in_ok-start.start (map (λ e. expr_of e) c.loop.members.items)) _ _ (map word_of c.loop.rest.now) c.loop.invariant _ (omega arith) (cc) c.in_err-next.ensures)
-
-pub conjunction-loop-preserved : goal.conjunction-loop-preserved
-conjunction-loop-preserved g t c =
-    run_go c.args.reader.run_limit c.args.reader.depth_limit rules.and_operand (is k.And) (joined (λ ms. And c.next_offset-offset.result (exprs_of ms)) and_members c.in_ok-start.start (map (λ e. expr_of e) c.loop.members.items)) _ _ (map word_of c.loop.rest.now) c.loop.invariant
-    (word_of c.in_ok-next.field-0-0-0, (c.in_ok-next.field-0-0-1-0, expr_of c.in_ok-next.next.value)) (map word_of c.in_ok-next.after.now) _ _ (omega arith) (cc) c.in_ok-next.ensures
-    (λ xs. joined_go (λ ms. And c.next_offset-offset.result (exprs_of ms)) and_members c.in_ok-start.start (map (λ e. expr_of e) c.loop.members.items) (word_of c.in_ok-next.field-0-0-0, (c.in_ok-next.field-0-0-1-0, expr_of c.in_ok-next.next.value)) xs
-    ∙ ap (λ l. joined (λ ms. And c.next_offset-offset.result (exprs_of ms)) and_members c.in_ok-start.start l xs) (appended c.loop.members.items c.in_ok-more.more.items c.append.new.self.items _ c.in_ok-append.ensures.items c.in_ok-more.ensures))
-    (omega arith)
-
--- ---- expression
-
-begins_or_operand : first language nested_first rules.or_operand ≡ is k.Or
-unfolding rules.or_operand
-begins_or_operand = refl
-
-next_or_operand : (w d : _) (us : List Word) (y : Word × Located) (vs : List Word) → reads grammar w d rules.or_operand us ≡ Ok (y, vs) → y.0.at ≡ next_at us
-unfolding rules.or_operand
-next_or_operand w d us y vs e = word_is_next w d (is k.Or) rules.conjunction us y vs e
-
-alone_expression : (w d : _) (ts : List Word) (x : Located) (us : List Word) → reads grammar w d rules.conjunction ts ≡ Ok (x, us) → head_in kind_of (is k.Or) us ≡ false → reads grammar w d rules.expression ts ≡ Ok (x, us)
-unfolding rules.expression
-alone_expression w d ts x us e n =
+    (rw (← begins_member word.And) (run_start grammar w d (λ x ys. and_of x ys) rules.negation true rules.and_operand ts x us e)) n
+alone word.Or w d ts x us e n =
     run_stop w d rules.or_operand (is k.Or) (or_of x) (reads grammar w d rules.expression ts) w us
-    (rw (← begins_or_operand) (run_start grammar w d (λ x ys. or_of x ys) rules.conjunction true rules.or_operand ts x us e)) n
+    (rw (← begins_member word.Or) (run_start grammar w d (λ x ys. or_of x ys) rules.conjunction true rules.or_operand ts x us e)) n
 
-start_expression : (w d n : _) (ts : List Word) (x : Located) (us : List Word) (at : _) (ms : List Expr) → reads grammar w d rules.conjunction ts ≡ Ok (x, us) → head_in kind_of (is k.Or) us ≡ true → at ≡ next_at us → ms ≡ or_members x.1 → n ≡ w
-    → run_on w d rules.or_operand (is k.Or) (joined (λ ms. Or at (exprs_of ms)) or_members x.0 ms) n us ≡ reads grammar w d rules.expression ts
-unfolding rules.expression
-start_expression w d n ts x us at ms e h a m j =
+start : (l : Connective) (w d n : _) (ts : List Word) (x : Located) (us : List Word) (at : _) (ms : List Expr) → reads grammar w d (member_rule l) ts ≡ Ok (x, us) → head_in kind_of (is (connective_word l)) us ≡ true → at ≡ next_at us → ms ≡ members_of l x.1 → n ≡ w
+    → run_on w d (next_member_rule l) (is (connective_word l)) (joined (λ ms. joined_expr l at ms) (λ e. members_of l e) x.0 ms) n us ≡ reads grammar w d (connected_rule l) ts
+unfolding rules.conjunction rules.expression
+start word.And w d n ts x us at ms e h a m j =
+    rw (a, m, j) (run_more w d rules.and_operand (is k.And) (joined (λ ms. And (next_at us) (exprs_of ms)) and_members x.0 (and_members x.1)) (and_of x) w us h
+    (λ y vs ys r. ap (λ n. (x.0, And n (exprs_of (and_members x.1 ++ flat_map and_members (map (λ z. z.1.1) (y ∷ ys)))))) (sym (next_member_word word.And w d us y vs r)))
+    ∙ rw (← begins_member word.And) (run_start grammar w d (λ x ys. and_of x ys) rules.negation true rules.and_operand ts x us e))
+start word.Or w d n ts x us at ms e h a m j =
     rw (a, m, j) (run_more w d rules.or_operand (is k.Or) (joined (λ ms. Or (next_at us) (exprs_of ms)) or_members x.0 (or_members x.1)) (or_of x) w us h
-    (λ y vs ys r. ap (λ n. (x.0, Or n (exprs_of (or_members x.1 ++ flat_map or_members (map (λ z. z.1.1) (y ∷ ys)))))) (sym (next_or_operand w d us y vs r)))
-    ∙ rw (← begins_or_operand) (run_start grammar w d (λ x ys. or_of x ys) rules.conjunction true rules.or_operand ts x us e))
+    (λ y vs ys r. ap (λ n. (x.0, Or n (exprs_of (or_members x.1 ++ flat_map or_members (map (λ z. z.1.1) (y ∷ ys)))))) (sym (next_member_word word.Or w d us y vs r)))
+    ∙ rw (← begins_member word.Or) (run_start grammar w d (λ x ys. or_of x ys) rules.conjunction true rules.or_operand ts x us e))
 
-pub expression-returns-in_err-start : goal.expression-returns-in_err-start
-unfolding rules.expression
-expression-returns-in_err-start g t c =
+no_member : (l : Connective) (w d : _) (ts : List Word) (stop : ReadError) → reads grammar w d (member_rule l) ts ≡ Err stop → reads grammar w d (connected_rule l) ts ≡ Err stop
+unfolding rules.conjunction rules.expression
+no_member word.And w d ts stop r = run_err grammar w d (λ x ys. and_of x ys) rules.negation true rules.and_operand ts stop r
+no_member word.Or w d ts stop r = run_err grammar w d (λ x ys. or_of x ys) rules.conjunction true rules.or_operand ts stop r
+
+pub connected-returns-in_err-start : goal.connected-returns-in_err-start
+connected-returns-in_err-start g t c =
     let p = err_from_is_err_and c.from_residual.result c.from_residual.ensures.1 in
-    rw (p.1, p.2) (fault_along _ (reads grammar c.args.reader.run_limit c.args.reader.depth_limit rules.conjunction (map word_of c.args.tokens.now)) (reads grammar c.args.reader.run_limit c.args.reader.depth_limit rules.expression (map word_of c.args.tokens.now))
-    (λ stop r. run_err grammar c.args.reader.run_limit c.args.reader.depth_limit (λ x ys. or_of x ys) rules.conjunction true rules.or_operand (map word_of c.args.tokens.now) stop r) c.in_err-start.ensures)
+    rw (p.1, p.2) (fault_along _ (reads grammar c.args.reader.run_limit c.args.reader.depth_limit (member_rule c.args.connective) (map word_of c.args.tokens.now)) (reads grammar c.args.reader.run_limit c.args.reader.depth_limit (connected_rule c.args.connective) (map word_of c.args.tokens.now))
+    (no_member c.args.connective c.args.reader.run_limit c.args.reader.depth_limit (map word_of c.args.tokens.now)) c.in_err-start.ensures)
 
-pub expression-returns-then-not-sees : goal.expression-returns-then-not-sees
-expression-returns-then-not-sees g t c = alone_expression c.args.reader.run_limit c.args.reader.depth_limit (map word_of c.args.tokens.now) (c.in_ok-start.start, expr_of c.in_ok-start.first.value) (map word_of c.in_ok-start.rest.now) c.in_ok-start.ensures (cc)
+pub connected-returns-then-not-sees : goal.connected-returns-then-not-sees
+connected-returns-then-not-sees g t c = alone c.args.connective c.args.reader.run_limit c.args.reader.depth_limit (map word_of c.args.tokens.now) (c.in_ok-start.start, expr_of c.in_ok-start.first.value) (map word_of c.in_ok-start.rest.now) c.in_ok-start.ensures (cc)
 
-pub expression-loop-init : goal.expression-loop-init
-expression-loop-init g t c = start_expression c.args.reader.run_limit c.args.reader.depth_limit _ (map word_of c.args.tokens.now) (c.in_ok-start.start, expr_of c.in_ok-start.first.value) (map word_of c.in_ok-start.rest.now) c.next_offset-offset.result (map (λ e. expr_of e) c.in_ok-members.members.items)
+pub connected-loop-init : goal.connected-loop-init
+connected-loop-init g t c = start c.args.connective c.args.reader.run_limit c.args.reader.depth_limit _ (map word_of c.args.tokens.now) (c.in_ok-start.start, expr_of c.in_ok-start.first.value) (map word_of c.in_ok-start.rest.now) c.next_offset-offset.result (map (λ e. expr_of e) c.in_ok-members.members.items)
     c.in_ok-start.ensures (cc) c.next_offset-offset.ensures c.in_ok-members.ensures (omega arith)
 
-pub expression-returns-then-not-sees-2 : goal.expression-returns-then-not-sees-2
-expression-returns-then-not-sees-2 g t c = run_stop c.args.reader.run_limit c.args.reader.depth_limit rules.or_operand (is k.Or) (joined (λ ms. Or c.next_offset-offset.result (exprs_of ms)) or_members c.in_ok-start.start (map (λ e. expr_of e) c.loop.members.items)) _ _ (map word_of c.loop.rest.now) c.loop.invariant (cc) ∙ ap (λ (p : Located). let o : Outcome Word Located = Ok (p, map word_of c.loop.rest.now) in o) (joined_end (λ ms. Or c.next_offset-offset.result (exprs_of ms)) or_members c.in_ok-start.start (map (λ e. expr_of e) c.loop.members.items) ∙ sym c.in_ok-or_of.ensures)
+pub connected-returns-then-not-sees-2 : goal.connected-returns-then-not-sees-2
+connected-returns-then-not-sees-2 g t c = run_stop c.args.reader.run_limit c.args.reader.depth_limit (next_member_rule c.args.connective) (is (connective_word c.args.connective)) (joined (λ ms. joined_expr c.args.connective c.next_offset-offset.result ms) (λ e. members_of c.args.connective e) c.in_ok-start.start (map (λ e. expr_of e) c.loop.members.items)) _ _ (map word_of c.loop.rest.now) c.loop.invariant (cc (c.connective_word-word.ensures, c.sees-in-loop.ensures, c.if-not-sees-2.true)) ∙ ap (λ (p : Located). let o : Outcome Word Located = Ok (p, map word_of c.loop.rest.now) in o) (joined_end (λ ms. joined_expr c.args.connective c.next_offset-offset.result ms) (λ e. members_of c.args.connective e) c.in_ok-start.start (map (λ e. expr_of e) c.loop.members.items) ∙ sym c.in_ok-joined.ensures)
 
-pub expression-returns : goal.expression-returns
-expression-returns g t c = run_stop c.args.reader.run_limit c.args.reader.depth_limit rules.or_operand (is k.Or) (joined (λ ms. Or c.next_offset-offset.result (exprs_of ms)) or_members c.in_ok-start.start (map (λ e. expr_of e) c.loop.members.items)) _ _ (map word_of c.loop.rest.now) c.loop.invariant (cc) ∙ ap (λ (p : Located). let o : Outcome Word Located = Ok (p, map word_of c.loop.rest.now) in o) (joined_end (λ ms. Or c.next_offset-offset.result (exprs_of ms)) or_members c.in_ok-start.start (map (λ e. expr_of e) c.loop.members.items) ∙ sym c.in_ok-or_of-2.ensures)
+pub connected-returns : goal.connected-returns
+connected-returns g t c = run_stop c.args.reader.run_limit c.args.reader.depth_limit (next_member_rule c.args.connective) (is (connective_word c.args.connective)) (joined (λ ms. joined_expr c.args.connective c.next_offset-offset.result ms) (λ e. members_of c.args.connective e) c.in_ok-start.start (map (λ e. expr_of e) c.loop.members.items)) _ _ (map word_of c.loop.rest.now) c.loop.invariant (cc (c.connective_word-word.ensures, c.sees-2.ensures, c.if-sees.false)) ∙ ap (λ (p : Located). let o : Outcome Word Located = Ok (p, map word_of c.loop.rest.now) in o) (joined_end (λ ms. joined_expr c.args.connective c.next_offset-offset.result ms) (λ e. members_of c.args.connective e) c.in_ok-start.start (map (λ e. expr_of e) c.loop.members.items) ∙ sym c.in_ok-joined-2.ensures)
 
-pub expression-returns-then-sees : goal.expression-returns-then-sees
-expression-returns-then-sees g t c = rw (← length-map c.loop.rest.now word_of) (run_full c.args.reader.run_limit c.args.reader.depth_limit rules.or_operand (is k.Or) (joined (λ ms. Or c.next_offset-offset.result (exprs_of ms)) or_members c.in_ok-start.start (map (λ e. expr_of e) c.loop.members.items)) _ _ (map word_of c.loop.rest.now) c.loop.invariant (omega arith) (cc))
+pub connected-returns-then-sees : goal.connected-returns-then-sees
+connected-returns-then-sees g t c = rw (← length-map c.loop.rest.now word_of) (run_full c.args.reader.run_limit c.args.reader.depth_limit (next_member_rule c.args.connective) (is (connective_word c.args.connective)) (joined (λ ms. joined_expr c.args.connective c.next_offset-offset.result ms) (λ e. members_of c.args.connective e) c.in_ok-start.start (map (λ e. expr_of e) c.loop.members.items)) _ _ (map word_of c.loop.rest.now) c.loop.invariant (omega arith) (cc (c.connective_word-word.ensures, c.sees-2.ensures, c.if-sees.true)))
 
-pub expression-returns-in_err-next : goal.expression-returns-in_err-next
-expression-returns-in_err-next g t c =
+pub connected-returns-in_err-next : goal.connected-returns-in_err-next
+connected-returns-in_err-next g t c =
     let p = err_from_is_err_and c.from_residual-in_err-next.result c.from_residual-in_err-next.ensures.1 in
-    rw (p.1, p.2) (run_fail c.args.reader.run_limit c.args.reader.depth_limit rules.or_operand (is k.Or) (joined (λ ms. Or c.next_offset-offset.result (exprs_of ms)) or_members c.in_ok-start.start (map (λ e. expr_of e) c.loop.members.items)) _ _ (map word_of c.loop.rest.now) c.loop.invariant _ (omega arith) (cc) c.in_err-next.ensures)
+    rw (p.1, p.2) (run_fail c.args.reader.run_limit c.args.reader.depth_limit (next_member_rule c.args.connective) (is (connective_word c.args.connective)) (joined (λ ms. joined_expr c.args.connective c.next_offset-offset.result ms) (λ e. members_of c.args.connective e) c.in_ok-start.start (map (λ e. expr_of e) c.loop.members.items)) _ _ (map word_of c.loop.rest.now) c.loop.invariant _ (omega arith) (cc (c.connective_word-word.ensures, c.sees-in-loop.ensures, c.if-not-sees-2.false)) c.in_err-next.ensures)
 
-pub expression-loop-preserved : goal.expression-loop-preserved
-expression-loop-preserved g t c =
-    run_go c.args.reader.run_limit c.args.reader.depth_limit rules.or_operand (is k.Or) (joined (λ ms. Or c.next_offset-offset.result (exprs_of ms)) or_members c.in_ok-start.start (map (λ e. expr_of e) c.loop.members.items)) _ _ (map word_of c.loop.rest.now) c.loop.invariant
-    (word_of c.in_ok-next.field-0-0-0, (c.in_ok-next.field-0-0-1-0, expr_of c.in_ok-next.next.value)) (map word_of c.in_ok-next.after.now) _ _ (omega arith) (cc) c.in_ok-next.ensures
-    (λ xs. joined_go (λ ms. Or c.next_offset-offset.result (exprs_of ms)) or_members c.in_ok-start.start (map (λ e. expr_of e) c.loop.members.items) (word_of c.in_ok-next.field-0-0-0, (c.in_ok-next.field-0-0-1-0, expr_of c.in_ok-next.next.value)) xs
-    ∙ ap (λ l. joined (λ ms. Or c.next_offset-offset.result (exprs_of ms)) or_members c.in_ok-start.start l xs) (appended c.loop.members.items c.in_ok-more.more.items c.append.new.self.items _ c.in_ok-append.ensures.items c.in_ok-more.ensures))
+pub connected-loop-preserved : goal.connected-loop-preserved
+connected-loop-preserved g t c =
+    run_go c.args.reader.run_limit c.args.reader.depth_limit (next_member_rule c.args.connective) (is (connective_word c.args.connective)) (joined (λ ms. joined_expr c.args.connective c.next_offset-offset.result ms) (λ e. members_of c.args.connective e) c.in_ok-start.start (map (λ e. expr_of e) c.loop.members.items)) _ _ (map word_of c.loop.rest.now) c.loop.invariant
+    (word_of c.in_ok-next.field-0-0-0, (c.in_ok-next.field-0-0-1-0, expr_of c.in_ok-next.next.value)) (map word_of c.in_ok-next.after.now) _ _ (omega arith) (cc (c.connective_word-word.ensures, c.sees-in-loop.ensures, c.if-not-sees-2.false)) c.in_ok-next.ensures
+    (λ xs. joined_go (λ ms. joined_expr c.args.connective c.next_offset-offset.result ms) (λ e. members_of c.args.connective e) c.in_ok-start.start (map (λ e. expr_of e) c.loop.members.items) (word_of c.in_ok-next.field-0-0-0, (c.in_ok-next.field-0-0-1-0, expr_of c.in_ok-next.next.value)) xs
+    ∙ ap (λ l. joined (λ ms. joined_expr c.args.connective c.next_offset-offset.result ms) (λ e. members_of c.args.connective e) c.in_ok-start.start l xs) (appended c.loop.members.items c.in_ok-more.more.items c.append.new.self.items _ c.in_ok-append.ensures.items c.in_ok-more.ensures))
     (omega arith)
 
 -- ---- CASE

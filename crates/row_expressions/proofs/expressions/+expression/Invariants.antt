@@ -8,8 +8,10 @@ use Rattle.row_reader.specs.declared.reader.Class.TheVariants as c
 use Rattle.row_reader.specs.Expressions as rules
 use Rattle.row_reader.specs.Expressions.{grammar, folded_left}
 use Rattle.row_ast.specs.View.{expr_of, arm_pair}
-use Rattle.row_expressions.specs.Levels.{next_rule, run_rule, sign_class}
+use Rattle.row_expressions.specs.Levels.{connected_rule, connective_word, joined_expr, members_of, next_member_rule, next_rule, run_rule, sign_class}
 use Rattle.row_expressions.specs.View.{located}
+use Rattle.row_expressions.specs.declared.build.Connective.{Connective}
+use Rattle.row_expressions.specs.declared.build.Connective.TheVariants as word
 use Rattle.row_expressions.specs.declared.expressions.Level.{Level}
 use Rattle.row_expressions.specs.declared.expressions.Level.TheVariants as level
 use Rattle.row_reader.proofs.Lists.{listed}
@@ -99,26 +101,28 @@ decreases-null_test g l = 30 * l.reader.depth_limit + 18
 abbrev pub decreases-negation : goal.decreases-negation
 decreases-negation g l = 30 * l.reader.depth_limit + 19
 
-abbrev pub decreases-and_operand : goal.decreases-and_operand
-decreases-and_operand g l = 30 * l.reader.depth_limit + 20
+-- OR binds less than AND
+abbrev word_rank : Connective → ℕ
+word_rank word.And = 0
+word_rank word.Or = 3
 
-abbrev pub decreases-conjunction : goal.decreases-conjunction
-decreases-conjunction g l = 30 * l.reader.depth_limit + 21
+abbrev pub decreases-first_member : goal.decreases-first_member
+decreases-first_member g l = 30 * l.reader.depth_limit + (20 + word_rank l.connective)
 
-abbrev pub decreases-or_operand : goal.decreases-or_operand
-decreases-or_operand g l = 30 * l.reader.depth_limit + 22
+abbrev pub decreases-next_member : goal.decreases-next_member
+decreases-next_member g l = 30 * l.reader.depth_limit + (21 + word_rank l.connective)
+
+abbrev pub decreases-connected : goal.decreases-connected
+decreases-connected g l = 30 * l.reader.depth_limit + (22 + word_rank l.connective)
 
 abbrev pub decreases-expression : goal.decreases-expression
-decreases-expression g l = 30 * l.reader.depth_limit + 23
+decreases-expression g l = 30 * l.reader.depth_limit + 26
 
 abbrev pub invariant-operations-loop : goal.invariant-operations-loop
 invariant-operations-loop g l = run_on l.reader.run_limit l.reader.depth_limit (next_rule l.level) (of (sign_class l.level)) (folded_left (located l.left)) (l.reader.run_limit - l.counter) (map word_of l.rest) ≡ reads grammar l.reader.run_limit l.reader.depth_limit (run_rule l.level) (map word_of l.tokens)
 
-abbrev pub invariant-conjunction-loop : goal.invariant-conjunction-loop
-invariant-conjunction-loop g l = run_on l.reader.run_limit l.reader.depth_limit rules.and_operand (is k.And) (joined (λ ms. And l.offset (exprs_of ms)) and_members l.start (map (λ e. expr_of e) l.members.items)) (l.reader.run_limit - l.counter) (map word_of l.rest) ≡ reads grammar l.reader.run_limit l.reader.depth_limit rules.conjunction (map word_of l.tokens)
-
-abbrev pub invariant-expression-loop : goal.invariant-expression-loop
-invariant-expression-loop g l = run_on l.reader.run_limit l.reader.depth_limit rules.or_operand (is k.Or) (joined (λ ms. Or l.offset (exprs_of ms)) or_members l.start (map (λ e. expr_of e) l.members.items)) (l.reader.run_limit - l.counter) (map word_of l.rest) ≡ reads grammar l.reader.run_limit l.reader.depth_limit rules.expression (map word_of l.tokens)
+abbrev pub invariant-connected-loop : goal.invariant-connected-loop
+invariant-connected-loop g l = run_on l.reader.run_limit l.reader.depth_limit (next_member_rule l.connective) (is (connective_word l.connective)) (joined (λ ms. joined_expr l.connective l.offset ms) (λ e. members_of l.connective e) l.start (map (λ e. expr_of e) l.members.items)) (l.reader.run_limit - l.counter) (map word_of l.rest) ≡ reads grammar l.reader.run_limit l.reader.depth_limit (connected_rule l.connective) (map word_of l.tokens)
 
 abbrev pub invariant-arms-loop : goal.invariant-arms-loop
 invariant-arms-loop g l = listed l.reader.run_limit l.reader.depth_limit (λ a. arm_pair a) rules.arm (is k.When) l.all (l.most - l.counter) (map word_of l.rest) ≡ reads grammar l.reader.run_limit l.reader.depth_limit rules.arms (map word_of l.tokens)
