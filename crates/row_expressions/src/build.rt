@@ -6,13 +6,13 @@ ghost use Rattle.row_reader.specs.Expressions as rules;
 ghost use Rattle.row_ast.specs.Ast as ast;
 ghost use Rattle.row_ast.specs.Ast.{arms_of, exprs_of};
 ghost use Rattle.row_ast.specs.View.{expr_of, arm_pair};
-ghost use Rattle.row_expressions.specs.Levels.{joined_expr, members_of};
+ghost use Rattle.row_expressions.specs.Levels.{connective_word, joined_expr, members_of};
 ghost use Rattle.row_expressions.specs.View.{located, signed_of, suffix_of, otherwise_of};
 
 use memory::{Heap, boxed};
 use row_ast::{Arm, Expr};
 use row_reader::names::column_ref;
-use row_tokens::Token;
+use row_tokens::{Token, TokenKind};
 use std::alloc::AllocError;
 use text::{Items, Text};
 use value::{Aggregate, Arithmetic, Value};
@@ -269,6 +269,16 @@ fn or_of<A: Heap>(
     ensures { IfOk result (λ p. located p ≡ (start, ast.Or offset (exprs_of (map (λ e. expr_of e) members.items)))) }
 {
     Ok((start, boxed(alloc, Expr::Or { offset, members })?))
+}
+
+/// The word of a connective.
+pub fn connective_word(connective: Connective) -> TokenKind
+    ensures { result ≡ connective_word connective }
+{
+    match connective {
+        Connective::And => TokenKind::And,
+        Connective::Or => TokenKind::Or,
+    }
 }
 
 /// The members of an operand of AND or OR: its own where it is itself one of these.

@@ -9,12 +9,12 @@ ghost use Rattle.row_reader.specs.Expressions.{grammar};
 ghost use Rattle.row_reader.specs.Language.{an_expression, a_negation, a_unary};
 ghost use Rattle.row_reader.specs.Reading.{Parses};
 ghost use Rattle.row_ast.specs.View.{expr_of, arm_pair};
-ghost use Rattle.row_expressions.specs.Levels.{connected_rule, connective_word, member_rule, next_member_rule, next_rule, operand_rule, run_rule, sign_class};
+ghost use Rattle.row_expressions.specs.Levels.{connected_rule, member_rule, next_member_rule, next_rule, operand_rule, run_rule, sign_class};
 ghost use Rattle.row_expressions.specs.View.{located, range_of, signed_of, suffix_of, otherwise_of};
 
 use crate::build::{
     CallSuffix, Connective, Located, Otherwise, Range, called, case_of, column_expr, combined,
-    counted, joined, members_of, ranged,
+    connective_word, counted, joined, members_of, ranged,
 };
 use memory::{Failure, Heap, boxed};
 use row_ast::{Arm, Expr};
@@ -546,15 +546,6 @@ fn negation<'t, A: Heap>(reader: Reader<A>, tokens: &'t [Token<'t>]) -> Parsed<'
     }
 }
 
-fn connective_word(connective: Connective) -> TokenKind
-    ensures { result ≡ connective_word connective }
-{
-    match connective {
-        Connective::And => TokenKind::And,
-        Connective::Or => TokenKind::Or,
-    }
-}
-
 // The first operand of AND or OR.
 #[cycle(expression)]
 fn first_member<'t, A: Heap>(
@@ -572,7 +563,6 @@ fn first_member<'t, A: Heap>(
 
 // `AND negation`, or `OR conjunction`.
 #[cycle(expression)]
-#[tactic(auto, unfolding(row_reader::specs::Expressions::and_operand, row_reader::specs::Expressions::or_operand))]
 fn next_member<'t, A: Heap>(
     connective: Connective,
     reader: Reader<A>,
@@ -580,18 +570,9 @@ fn next_member<'t, A: Heap>(
 ) -> Parsed<'t, (Token<'t>, Located<A>)>
     ensures { Parses (λ t. (word_of t.0, located t.1)) (next_member_rule connective) reader tokens.now result }
 {
-    match connective {
-        Connective::And => {
-            let (word, rest) = expect(TokenKind::And, tokens)?;
-            let (operand, rest) = negation(reader, rest)?;
-            Ok(((word, operand), rest))
-        }
-        Connective::Or => {
-            let (word, rest) = expect(TokenKind::Or, tokens)?;
-            let (operand, rest) = connected(Connective::And, reader, rest)?;
-            Ok(((word, operand), rest))
-        }
-    }
+    let (word, rest) = expect(connective_word(connective), tokens)?;
+    let (operand, rest) = first_member(connective, reader, rest)?;
+    Ok(((word, operand), rest))
 }
 
 // `negation {AND negation}`, or `conjunction {OR conjunction}`; a member that is itself one of these is merged.

@@ -119,7 +119,7 @@ next_member_word word.And w d us y vs e = word_is_next w d (is k.And) rules.nega
 next_member_word word.Or w d us y vs e = word_is_next w d (is k.Or) rules.conjunction us y vs e
 
 alone : (l : Connective) (w d : _) (ts : List Word) (x : Located) (us : List Word) → reads grammar w d (member_rule l) ts ≡ Ok (x, us) → head_in kind_of (is (connective_word l)) us ≡ false → reads grammar w d (connected_rule l) ts ≡ Ok (x, us)
-unfolding rules.conjunction rules.expression
+unfolding rules.conjunction rules.expression is rules.and_operand rules.or_operand
 alone word.And w d ts x us e n =
     run_stop w d rules.and_operand (is k.And) (and_of x) (reads grammar w d rules.conjunction ts) w us
     (rw (← begins_member word.And) (run_start grammar w d (λ x ys. and_of x ys) rules.negation true rules.and_operand ts x us e)) n
@@ -129,7 +129,7 @@ alone word.Or w d ts x us e n =
 
 start : (l : Connective) (w d n : _) (ts : List Word) (x : Located) (us : List Word) (at : _) (ms : List Expr) → reads grammar w d (member_rule l) ts ≡ Ok (x, us) → head_in kind_of (is (connective_word l)) us ≡ true → at ≡ next_at us → ms ≡ members_of l x.1 → n ≡ w
     → run_on w d (next_member_rule l) (is (connective_word l)) (joined (λ ms. joined_expr l at ms) (λ e. members_of l e) x.0 ms) n us ≡ reads grammar w d (connected_rule l) ts
-unfolding rules.conjunction rules.expression
+unfolding rules.conjunction rules.expression rules.and_operand rules.or_operand
 start word.And w d n ts x us at ms e h a m j =
     rw (a, m, j) (run_more w d rules.and_operand (is k.And) (joined (λ ms. And (next_at us) (exprs_of ms)) and_members x.0 (and_members x.1)) (and_of x) w us h
     (λ y vs ys r. ap (λ n. (x.0, And n (exprs_of (and_members x.1 ++ flat_map and_members (map (λ z. z.1.1) (y ∷ ys)))))) (sym (next_member_word word.And w d us y vs r)))
