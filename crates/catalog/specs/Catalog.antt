@@ -14,7 +14,7 @@ pub record Catalog : Type 0 where
 
 -- a catalogue at first: the superuser root alone
 abbrev pub at_first : Catalog
-at_first = record { roles = record { name = codes "root"; superuser = true } ∷ []; memberships = []; tables = [] }
+at_first = record { roles = record { name = codes "root"; superuser = true; bypass_rls = false } ∷ []; memberships = []; tables = [] }
 
 -- ---- roles
 
@@ -30,6 +30,13 @@ has_superuser (Some role) = role.superuser
 
 abbrev pub is_superuser : Catalog → Name → Bool
 is_superuser cat name = has_superuser (role_named name cat)
+
+abbrev pub has_bypass_rls : Option Role → Bool
+has_bypass_rls None = false
+has_bypass_rls (Some role) = role.bypass_rls
+
+abbrev pub bypasses_rls : Catalog → Name → Bool
+bypasses_rls cat name = has_bypass_rls (role_named name cat)
 
 -- r is s, or memberships lead from r to s: without the newest one, or through it
 abbrev pub belongs_by : List (Name × Name) → Name → Name → Bool

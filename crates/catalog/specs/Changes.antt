@@ -27,7 +27,7 @@ abbrev pub is_supported_policy : Catalog → ast.CreatePolicy → Bool
 is_supported_policy cat p = not p.restrictive && is_some (equation_in p.predicate) && if_found true (λ t. is_empty t.policies) (table_named p.table cat)
 
 abbrev pub is_supported : Catalog → Statement → Bool
-is_supported cat (CreateRole name superuser bypass_rls) = not superuser && not bypass_rls
+is_supported cat (CreateRole name superuser bypass_rls) = true
 is_supported cat (CreateTable name columns) = true
 is_supported cat (SetOwner table owner) = true
 is_supported cat (SetRowSecurity table setting) = is_enable setting
@@ -53,7 +53,7 @@ checks cat actor _ = []
 
 -- the catalogue after a statement that is not refused; one that is not supported does not come this far
 abbrev pub after : Catalog → Name → Statement → Catalog
-after cat actor (CreateRole name superuser bypass_rls) = after_create_role cat name
+after cat actor (CreateRole name superuser bypass_rls) = after_create_role cat name superuser bypass_rls
 after cat actor (CreateTable name columns) = after_create_table cat actor name columns
 after cat actor (SetOwner table owner) = after_set_owner cat table owner
 after cat actor (SetRowSecurity table setting) = after_row_security cat table

@@ -27,12 +27,8 @@ fn is_supported<A: Heap>(catalog: &Catalog<A>, statement: &Statement<A>) -> bool
     ensures { result ≡ is_supported catalog.now (statement_of statement.now) }
 {
     match statement {
-        Statement::CreateRole {
-            superuser,
-            bypass_rls,
-            ..
-        } => !superuser && !bypass_rls,
-        Statement::CreateTable { .. } | Statement::SetOwner { .. } => true,
+        Statement::CreateRole { .. } | Statement::CreateTable { .. } | Statement::SetOwner { .. } =>
+            true,
         Statement::SetRowSecurity { setting, .. } => matches!(setting, RowSecurity::Enable),
         Statement::GrantSelect(grant) => grant.columns.is_none(),
         Statement::CreatePolicy(policy) => is_supported_policy(catalog, policy),
@@ -51,7 +47,11 @@ impl<A: Heap> Catalog<A> {
         ensures { IsChange self.old self.new (unless (first_refusal (checks self.old actor.now (statement_of statement.now))) (after self.old actor.now (statement_of statement.now))) result }
     {
         match statement {
-            Statement::CreateRole { name, .. } => self.create_role(actor, name.as_str()),
+            Statement::CreateRole {
+                name,
+                superuser,
+                bypass_rls,
+            } => self.create_role(actor, name.as_str(), *superuser, *bypass_rls),
             Statement::CreateTable { name, columns } => {
                 self.create_table(actor, name.as_str(), columns.as_slice())
             }

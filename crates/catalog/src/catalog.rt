@@ -3,7 +3,7 @@
 ghost use Rattle.std.specs.Prelude.{◌≡◌, ◌<◌, length, IfOk, IfSome, map, option_map};
 ghost use Rattle.std.specs.List.{list_all};
 ghost use Rattle.row_objects.specs.View.{table_of};
-ghost use Rattle.catalog.specs.Catalog.{at_first, belongs, is_known, is_role, is_superuser, owns, table_named, table_place};
+ghost use Rattle.catalog.specs.Catalog.{at_first, belongs, bypasses_rls, is_known, is_role, is_superuser, owns, table_named, table_place};
 
 use memory::Heap;
 use row_objects::{ByName, Role, Table, TableDef};
@@ -35,7 +35,14 @@ impl<A: Heap> Catalog<A> {
         ensures { IfOk result (λ cat. cat ≡ at_first) }
     {
         let mut roles = ByName::new(alloc);
-        roles.insert(alloc, "root", Role { superuser: true })?;
+        roles.insert(
+            alloc,
+            "root",
+            Role {
+                superuser: true,
+                bypass_rls: false,
+            },
+        )?;
         Ok(Catalog {
             alloc,
             roles,
@@ -70,6 +77,16 @@ impl<A: Heap> Catalog<A> {
     {
         match self.roles.get(name) {
             Some(role) => role.superuser,
+            None => false,
+        }
+    }
+
+    /// Whether the role of that name has BYPASSRLS.
+    pub fn bypasses_rls(&self, name: &str) -> bool
+        ensures { result ≡ bypasses_rls self.now name.now }
+    {
+        match self.roles.get(name) {
+            Some(role) => role.bypass_rls,
             None => false,
         }
     }

@@ -1,4 +1,4 @@
-//! `CREATE ROLE name` (PostgreSQL: CREATE ROLE).
+//! `CREATE ROLE name [SUPERUSER] [BYPASSRLS]` (PostgreSQL: CREATE ROLE).
 
 ghost use Rattle.std.specs.Prelude.{◌≡◌, false, OnErr, OnOk};
 ghost use Rattle.catalog.specs.Catalog.{is_role};
@@ -30,23 +30,35 @@ fn check_create_role<A: Heap>(catalog: &Catalog<A>, actor: &str, name: &str) -> 
 }
 
 impl<A: Heap> Catalog<A> {
-    fn add_role(&mut self, name: &str) -> Result<(), AllocError>
+    fn add_role(&mut self, name: &str, superuser: bool, bypass_rls: bool) -> Result<(), AllocError>
         requires { is_role self.old name.now ≡ false }
-        ensures done { OnOk result (self.new ≡ after_create_role self.old name.now) }
+        ensures done { OnOk result (self.new ≡ after_create_role self.old name.now superuser bypass_rls) }
         ensures unchanged { OnErr result (self.new ≡ self.old) }
     {
-        self.roles
-            .insert(self.alloc, name, Role { superuser: false })
+        self.roles.insert(
+            self.alloc,
+            name,
+            Role {
+                superuser,
+                bypass_rls,
+            },
+        )
     }
 
     /// Makes a role, if no check refuses it.
-    pub(crate) fn create_role(&mut self, actor: &str, name: &str) -> Result<(), Refusal>
-        ensures { IsChange self.old self.new (unless (first_refusal (checks_create_role self.old actor.now name.now)) (after_create_role self.old name.now)) result }
+    pub(crate) fn create_role(
+        &mut self,
+        actor: &str,
+        name: &str,
+        superuser: bool,
+        bypass_rls: bool,
+    ) -> Result<(), Refusal>
+        ensures { IsChange self.old self.new (unless (first_refusal (checks_create_role self.old actor.now name.now)) (after_create_role self.old name.now superuser bypass_rls)) result }
     {
         if let Some(why) = check_create_role(self, actor, name) {
             return Err(why);
         }
-        match self.add_role(name) {
+        match self.add_role(name, superuser, bypass_rls) {
             Ok(()) => Ok(()),
             Err(_) => Err(Refusal::OutOfMemory),
         }

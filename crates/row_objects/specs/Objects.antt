@@ -7,6 +7,8 @@ use Rattle.row_ast.specs.Ast.{Name}
 pub record Role : Type 0 where
   pub name : Name
   pub superuser : Bool
+  -- row security does not act on its queries
+  pub bypass_rls : Bool
 
 -- SELECT on a column, or on the whole table, for a role or for everyone
 pub record Grant : Type 0 where

@@ -14,7 +14,7 @@ use Rattle.row_objects.specs.Objects.{Role, Grant, Operand, CurrentUser, Literal
 
 -- a role by its name
 abbrev pub role_of : Name × declared.Role → Role
-role_of r = record { name = r.0; superuser = r.1.superuser }
+role_of r = record { name = r.0; superuser = r.1.superuser; bypass_rls = r.1.bypass_rls }
 
 abbrev pub grant_of : {A : Type 0} → declared_grant.Grant A → Grant
 grant_of g = record { to = g.to; column = g.column }

@@ -13,6 +13,8 @@ use value::{Column, Value};
 pub struct Role {
     /// Whether it is a superuser.
     pub superuser: bool,
+    /// Whether row security does not act on its queries.
+    pub bypass_rls: bool,
 }
 
 /// SELECT on a column, or on the whole table, for a role or for everyone (PostgreSQL: GRANT).
