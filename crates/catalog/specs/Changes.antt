@@ -10,6 +10,8 @@ use Rattle.row_ast.specs.declared.statement.RowSecurity.TheVariants.{Enable}
 use Rattle.catalog.specs.Catalog.{Catalog, is_role, table_named}
 use Rattle.catalog.specs.Checks.{Check, first_refusal, if_found, unless}
 use Rattle.catalog.specs.CreateRole.{checks_create_role, after_create_role}
+use Rattle.catalog.specs.GrantRole.{checks_grant_role, after_grant_role}
+use Rattle.catalog.specs.RevokeRole.{checks_revoke_role, after_revoke_role}
 use Rattle.catalog.specs.CreateTable.{checks_create_table, after_create_table}
 use Rattle.catalog.specs.SetOwner.{checks_set_owner, after_set_owner}
 use Rattle.catalog.specs.RowSecurity.{checks_row_security, after_row_security}
@@ -28,13 +30,13 @@ is_supported_policy cat p = not p.restrictive && is_some (equation_in p.predicat
 
 abbrev pub is_supported : Catalog → Statement → Bool
 is_supported cat (CreateRole name superuser bypass_rls) = true
+is_supported cat (GrantRole group member) = true
+is_supported cat (RevokeRole group member) = true
 is_supported cat (CreateTable name columns) = true
 is_supported cat (SetOwner table owner) = true
 is_supported cat (SetRowSecurity table setting) = is_enable setting
 is_supported cat (GrantSelect grant) = is_none grant.columns
 is_supported cat (CreatePolicy policy) = is_supported_policy cat policy
-is_supported cat (GrantRole group member) = false
-is_supported cat (RevokeRole group member) = false
 is_supported cat (CreateIndex name table column) = false
 is_supported cat (RevokeSelect grant) = false
 is_supported cat (DropPolicy name table) = false
@@ -44,6 +46,8 @@ is_supported cat (DropPolicy name table) = false
 -- the checks of a statement that is supported, by an actor that is a role; no other statement comes this far
 abbrev pub checks : Catalog → Name → Statement → List Check
 checks cat actor (CreateRole name superuser bypass_rls) = checks_create_role cat actor name
+checks cat actor (GrantRole group member) = checks_grant_role cat actor group member
+checks cat actor (RevokeRole group member) = checks_revoke_role cat actor group member
 checks cat actor (CreateTable name columns) = checks_create_table cat name columns
 checks cat actor (SetOwner table owner) = checks_set_owner cat actor table owner
 checks cat actor (SetRowSecurity table setting) = checks_row_security cat actor table
@@ -54,6 +58,8 @@ checks cat actor _ = []
 -- the catalogue after a statement that is not refused; one that is not supported does not come this far
 abbrev pub after : Catalog → Name → Statement → Catalog
 after cat actor (CreateRole name superuser bypass_rls) = after_create_role cat name superuser bypass_rls
+after cat actor (GrantRole group member) = after_grant_role cat group member
+after cat actor (RevokeRole group member) = after_revoke_role cat group member
 after cat actor (CreateTable name columns) = after_create_table cat actor name columns
 after cat actor (SetOwner table owner) = after_set_owner cat table owner
 after cat actor (SetRowSecurity table setting) = after_row_security cat table

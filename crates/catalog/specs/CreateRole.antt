@@ -1,12 +1,10 @@
 -- CREATE ROLE name [SUPERUSER] [BYPASSRLS].
-use Rattle.std.specs.Prelude.{ℕ, Bool, not, List, [], ◌∷◌, ◌++◌}
+use Rattle.std.specs.Prelude.{Bool, not, List, [], ◌∷◌, ◌++◌}
 use Rattle.value.specs.declared.refusal.Refusal.TheVariants as r
 use Rattle.row_ast.specs.Ast.{Name}
+use Rattle.row_objects.specs.Objects.{most_roles}
 use Rattle.catalog.specs.Catalog.{Catalog, is_known, is_superuser}
 use Rattle.catalog.specs.Checks.{Check, is_full}
-
-abbrev pub most_roles : ℕ
-most_roles = 256
 
 abbrev pub checks_create_role : Catalog → Name → Name → List Check
 checks_create_role cat actor name =

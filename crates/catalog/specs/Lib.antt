@@ -2,6 +2,8 @@ pub mod Catalog
 pub mod View
 pub mod Checks
 pub mod CreateRole
+pub mod GrantRole
+pub mod RevokeRole
 pub mod CreateTable
 pub mod SetOwner
 pub mod RowSecurity
@@ -10,3 +12,4 @@ pub mod CreatePolicy
 pub mod Equations
 pub mod Changes
 pub mod Granted
+pub mod Run

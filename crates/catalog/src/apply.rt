@@ -27,16 +27,16 @@ fn is_supported<A: Heap>(catalog: &Catalog<A>, statement: &Statement<A>) -> bool
     ensures { result ≡ is_supported catalog.now (statement_of statement.now) }
 {
     match statement {
-        Statement::CreateRole { .. } | Statement::CreateTable { .. } | Statement::SetOwner { .. } =>
-            true,
+        Statement::CreateRole { .. }
+        | Statement::GrantRole { .. }
+        | Statement::RevokeRole { .. }
+        | Statement::CreateTable { .. }
+        | Statement::SetOwner { .. } => true,
         Statement::SetRowSecurity { setting, .. } => matches!(setting, RowSecurity::Enable),
         Statement::GrantSelect(grant) => grant.columns.is_none(),
         Statement::CreatePolicy(policy) => is_supported_policy(catalog, policy),
-        Statement::GrantRole { .. }
-        | Statement::RevokeRole { .. }
-        | Statement::CreateIndex { .. }
-        | Statement::RevokeSelect(_)
-        | Statement::DropPolicy { .. } => false,
+        Statement::CreateIndex { .. } | Statement::RevokeSelect(_) | Statement::DropPolicy { .. } =>
+            false,
     }
 }
 
@@ -52,6 +52,12 @@ impl<A: Heap> Catalog<A> {
                 superuser,
                 bypass_rls,
             } => self.create_role(actor, name.as_str(), *superuser, *bypass_rls),
+            Statement::GrantRole { group, member } => {
+                self.grant_role(actor, group.as_str(), member.as_str())
+            }
+            Statement::RevokeRole { group, member } => {
+                self.revoke_role(actor, group.as_str(), member.as_str())
+            }
             Statement::CreateTable { name, columns } => {
                 self.create_table(actor, name.as_str(), columns.as_slice())
             }
@@ -65,9 +71,7 @@ impl<A: Heap> Catalog<A> {
                 self.grant_select(actor, grant.table.as_str(), grant.roles.as_slice())
             }
             Statement::CreatePolicy(policy) => self.create_policy(actor, policy),
-            Statement::GrantRole { .. }
-            | Statement::RevokeRole { .. }
-            | Statement::CreateIndex { .. }
+            Statement::CreateIndex { .. }
             | Statement::RevokeSelect(_)
             | Statement::DropPolicy { .. } => Ok(()),
         }

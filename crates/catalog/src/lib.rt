@@ -7,13 +7,17 @@ mod copies;
 mod create_policy;
 mod create_role;
 mod create_table;
+mod grant_role;
 mod grant_select;
+mod laws;
 mod names;
+mod revoke_role;
 mod row_security;
 mod set_owner;
 
 pub use catalog::Catalog;
-pub use create_role::MOST_ROLES;
 pub use create_table::{MOST_COLUMNS, MOST_TABLES};
 pub use grant_select::law_granted_again;
+pub use laws::law_no_loop;
 pub use names::{is_qualified, place};
+pub use row_objects::MOST_ROLES;

@@ -17,6 +17,15 @@ pub struct Role {
     pub bypass_rls: bool,
 }
 
+/// A member, and the group whose rights it has (PostgreSQL: Role Membership).
+#[derive(Drop)]
+pub struct Membership<A: Heap> {
+    /// The member.
+    pub member: Text<A>,
+    /// The group.
+    pub group: Text<A>,
+}
+
 /// SELECT on a column, or on the whole table, for a role or for everyone (PostgreSQL: GRANT).
 #[derive(Drop)]
 pub struct Grant<A: Heap> {
