@@ -5,8 +5,6 @@ use Rattle.value.specs.declared.refusal.Refusal.TheVariants as r
 use Rattle.row_ast.specs.Ast as ast
 use Rattle.row_ast.specs.Ast.{Name, is_empty}
 use Rattle.row_ast.specs.Statements.{Statement, CreateRole, GrantRole, RevokeRole, CreateTable, SetOwner, SetRowSecurity, CreateIndex, GrantSelect, RevokeSelect, CreatePolicy, DropPolicy}
-use Rattle.row_ast.specs.declared.statement.RowSecurity as declared
-use Rattle.row_ast.specs.declared.statement.RowSecurity.TheVariants.{Enable}
 use Rattle.catalog.specs.Catalog.{Catalog, is_role, table_named}
 use Rattle.catalog.specs.Checks.{Check, first_refusal, if_found, unless}
 use Rattle.catalog.specs.CreateRole.{checks_create_role, after_create_role}
@@ -20,10 +18,6 @@ use Rattle.catalog.specs.CreatePolicy.{equation_in, checks_create_policy, after_
 
 -- ---- what is supported
 
-abbrev pub is_enable : declared.RowSecurity → Bool
-is_enable Enable = true
-is_enable _ = false
-
 -- a permissive policy (column = operand), the first of its table
 abbrev pub is_supported_policy : Catalog → ast.CreatePolicy → Bool
 is_supported_policy cat p = not p.restrictive && is_some (equation_in p.predicate) && if_found true (λ t. is_empty t.policies) (table_named p.table cat)
@@ -34,7 +28,7 @@ is_supported cat (GrantRole group member) = true
 is_supported cat (RevokeRole group member) = true
 is_supported cat (CreateTable name columns) = true
 is_supported cat (SetOwner table owner) = true
-is_supported cat (SetRowSecurity table setting) = is_enable setting
+is_supported cat (SetRowSecurity table setting) = true
 is_supported cat (GrantSelect grant) = is_none grant.columns
 is_supported cat (CreatePolicy policy) = is_supported_policy cat policy
 is_supported cat (CreateIndex name table column) = false
@@ -62,7 +56,7 @@ after cat actor (GrantRole group member) = after_grant_role cat group member
 after cat actor (RevokeRole group member) = after_revoke_role cat group member
 after cat actor (CreateTable name columns) = after_create_table cat actor name columns
 after cat actor (SetOwner table owner) = after_set_owner cat table owner
-after cat actor (SetRowSecurity table setting) = after_row_security cat table
+after cat actor (SetRowSecurity table setting) = after_row_security cat table setting
 after cat actor (GrantSelect grant) = after_grant_select cat grant.table grant.roles
 after cat actor (CreatePolicy policy) = after_create_policy cat policy
 after cat actor _ = cat

@@ -8,7 +8,7 @@ ghost use Rattle.catalog.specs.Changes.{after, changed, checks, is_supported, is
 use crate::catalog::Catalog;
 use crate::create_policy::equation_in;
 use memory::Heap;
-use row_ast::{CreatePolicy, RowSecurity, Statement};
+use row_ast::{CreatePolicy, Statement};
 use value::Refusal;
 
 fn is_supported_policy<A: Heap>(catalog: &Catalog<A>, policy: &CreatePolicy<A>) -> bool
@@ -31,8 +31,8 @@ fn is_supported<A: Heap>(catalog: &Catalog<A>, statement: &Statement<A>) -> bool
         | Statement::GrantRole { .. }
         | Statement::RevokeRole { .. }
         | Statement::CreateTable { .. }
-        | Statement::SetOwner { .. } => true,
-        Statement::SetRowSecurity { setting, .. } => matches!(setting, RowSecurity::Enable),
+        | Statement::SetOwner { .. }
+        | Statement::SetRowSecurity { .. } => true,
         Statement::GrantSelect(grant) => grant.columns.is_none(),
         Statement::CreatePolicy(policy) => is_supported_policy(catalog, policy),
         Statement::CreateIndex { .. } | Statement::RevokeSelect(_) | Statement::DropPolicy { .. } =>
@@ -41,8 +41,8 @@ fn is_supported<A: Heap>(catalog: &Catalog<A>, statement: &Statement<A>) -> bool
 }
 
 impl<A: Heap> Catalog<A> {
-    // A statement that is supported, of an actor that is a role: of the settings of row security only ENABLE, of grants only
-    // those without a list of columns, and none of the last variants.
+    // A statement that is supported, of an actor that is a role: of grants only those without a list of columns, and none of
+    // the last variants.
     fn apply_supported(&mut self, actor: &str, statement: &Statement<A>) -> Result<(), Refusal>
         ensures { IsChange self.old self.new (unless (first_refusal (checks self.old actor.now (statement_of statement.now))) (after self.old actor.now (statement_of statement.now))) result }
     {
@@ -64,8 +64,8 @@ impl<A: Heap> Catalog<A> {
             Statement::SetOwner { table, owner } => {
                 self.set_owner(actor, table.as_str(), owner.as_str())
             }
-            Statement::SetRowSecurity { table, .. } => {
-                self.enable_row_security(actor, table.as_str())
+            Statement::SetRowSecurity { table, setting } => {
+                self.set_row_security(actor, table.as_str(), *setting)
             }
             Statement::GrantSelect(grant) => {
                 self.grant_select(actor, grant.table.as_str(), grant.roles.as_slice())

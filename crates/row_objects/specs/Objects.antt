@@ -42,5 +42,7 @@ pub record Table : Type 0 where
   pub owner : Name
   -- row security is enabled
   pub row_security : Bool
+  -- row security acts on the owner too
+  pub forced : Bool
   pub policies : List Policy
   pub grants : List Grant

@@ -37,6 +37,7 @@ table_entry t = record {
   columns = map column_of t.1.columns;
   owner = t.1.owner;
   row_security = t.1.row_security;
+  forced = t.1.forced;
   policies = map policy_of t.1.policies;
   grants = map grant_of t.1.grants;
 }

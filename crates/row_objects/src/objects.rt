@@ -66,6 +66,8 @@ pub struct TableDef<A: Heap> {
     pub owner: Text<A>,
     /// Whether row security is enabled.
     pub row_security: bool,
+    /// Whether row security acts on the owner too.
+    pub forced: bool,
     /// The policies, in order of creation.
     pub policies: Items<Policy<A>, A>,
     /// The grants, none twice.
@@ -113,6 +115,13 @@ impl<'c, A: Heap> Table<'c, A> {
         ensures { result ≡ (table_of self.entry).row_security }
     {
         self.parts.row_security
+    }
+
+    /// Whether row security acts on the owner too.
+    pub fn forced(self) -> bool
+        ensures { result ≡ (table_of self.entry).forced }
+    {
+        self.parts.forced
     }
 
     /// The policies, in order of creation.
