@@ -1,5 +1,5 @@
 -- What schema statements change, and which are supported.
-use Rattle.std.specs.Prelude.{◌≡◌, ◌⊎◌, Bool, true, false, not, ◌&&◌, List, [], ◌∷◌, is_some, is_none, Result, Ok, Err}
+use Rattle.std.specs.Prelude.{◌≡◌, ◌⊎◌, Bool, true, false, not, ◌&&◌, List, [], ◌∷◌, is_some, Result, Ok, Err}
 use Rattle.value.specs.declared.refusal.Refusal.{Refusal}
 use Rattle.value.specs.declared.refusal.Refusal.TheVariants as r
 use Rattle.row_ast.specs.Ast as ast
@@ -13,7 +13,8 @@ use Rattle.catalog.specs.RevokeRole.{checks_revoke_role, after_revoke_role}
 use Rattle.catalog.specs.CreateTable.{checks_create_table, after_create_table}
 use Rattle.catalog.specs.SetOwner.{checks_set_owner, after_set_owner}
 use Rattle.catalog.specs.RowSecurity.{checks_row_security, after_row_security}
-use Rattle.catalog.specs.GrantSelect.{checks_grant_select, after_grant_select}
+use Rattle.catalog.specs.GrantSelect.{checks_select, after_grant_select}
+use Rattle.catalog.specs.RevokeSelect.{after_revoke_select}
 use Rattle.catalog.specs.CreatePolicy.{equation_in, checks_create_policy, after_create_policy}
 
 -- ---- what is supported
@@ -29,10 +30,10 @@ is_supported cat (RevokeRole group member) = true
 is_supported cat (CreateTable name columns) = true
 is_supported cat (SetOwner table owner) = true
 is_supported cat (SetRowSecurity table setting) = true
-is_supported cat (GrantSelect grant) = is_none grant.columns
+is_supported cat (GrantSelect grant) = true
+is_supported cat (RevokeSelect grant) = true
 is_supported cat (CreatePolicy policy) = is_supported_policy cat policy
 is_supported cat (CreateIndex name table column) = false
-is_supported cat (RevokeSelect grant) = false
 is_supported cat (DropPolicy name table) = false
 
 -- ---- statements
@@ -45,7 +46,8 @@ checks cat actor (RevokeRole group member) = checks_revoke_role cat actor group 
 checks cat actor (CreateTable name columns) = checks_create_table cat name columns
 checks cat actor (SetOwner table owner) = checks_set_owner cat actor table owner
 checks cat actor (SetRowSecurity table setting) = checks_row_security cat actor table
-checks cat actor (GrantSelect grant) = checks_grant_select cat actor grant.table grant.roles
+checks cat actor (GrantSelect grant) = checks_select cat actor grant
+checks cat actor (RevokeSelect grant) = checks_select cat actor grant
 checks cat actor (CreatePolicy policy) = checks_create_policy cat actor policy
 checks cat actor _ = []
 
@@ -57,7 +59,8 @@ after cat actor (RevokeRole group member) = after_revoke_role cat group member
 after cat actor (CreateTable name columns) = after_create_table cat actor name columns
 after cat actor (SetOwner table owner) = after_set_owner cat table owner
 after cat actor (SetRowSecurity table setting) = after_row_security cat table setting
-after cat actor (GrantSelect grant) = after_grant_select cat grant.table grant.roles
+after cat actor (GrantSelect grant) = after_grant_select cat grant
+after cat actor (RevokeSelect grant) = after_revoke_select cat grant
 after cat actor (CreatePolicy policy) = after_create_policy cat policy
 after cat actor _ = cat
 

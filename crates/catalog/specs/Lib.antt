@@ -8,6 +8,7 @@ pub mod CreateTable
 pub mod SetOwner
 pub mod RowSecurity
 pub mod GrantSelect
+pub mod RevokeSelect
 pub mod CreatePolicy
 pub mod Equations
 pub mod Changes

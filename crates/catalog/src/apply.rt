@@ -32,17 +32,16 @@ fn is_supported<A: Heap>(catalog: &Catalog<A>, statement: &Statement<A>) -> bool
         | Statement::RevokeRole { .. }
         | Statement::CreateTable { .. }
         | Statement::SetOwner { .. }
-        | Statement::SetRowSecurity { .. } => true,
-        Statement::GrantSelect(grant) => grant.columns.is_none(),
+        | Statement::SetRowSecurity { .. }
+        | Statement::GrantSelect(_)
+        | Statement::RevokeSelect(_) => true,
         Statement::CreatePolicy(policy) => is_supported_policy(catalog, policy),
-        Statement::CreateIndex { .. } | Statement::RevokeSelect(_) | Statement::DropPolicy { .. } =>
-            false,
+        Statement::CreateIndex { .. } | Statement::DropPolicy { .. } => false,
     }
 }
 
 impl<A: Heap> Catalog<A> {
-    // A statement that is supported, of an actor that is a role: of grants only those without a list of columns, and none of
-    // the last variants.
+    // A statement that is supported, of an actor that is a role: none of the last variants.
     fn apply_supported(&mut self, actor: &str, statement: &Statement<A>) -> Result<(), Refusal>
         ensures { IsChange self.old self.new (unless (first_refusal (checks self.old actor.now (statement_of statement.now))) (after self.old actor.now (statement_of statement.now))) result }
     {
@@ -67,13 +66,10 @@ impl<A: Heap> Catalog<A> {
             Statement::SetRowSecurity { table, setting } => {
                 self.set_row_security(actor, table.as_str(), *setting)
             }
-            Statement::GrantSelect(grant) => {
-                self.grant_select(actor, grant.table.as_str(), grant.roles.as_slice())
-            }
+            Statement::GrantSelect(grant) => self.grant_select(actor, grant),
+            Statement::RevokeSelect(grant) => self.revoke_select(actor, grant),
             Statement::CreatePolicy(policy) => self.create_policy(actor, policy),
-            Statement::CreateIndex { .. }
-            | Statement::RevokeSelect(_)
-            | Statement::DropPolicy { .. } => Ok(()),
+            Statement::CreateIndex { .. } | Statement::DropPolicy { .. } => Ok(()),
         }
     }
 

@@ -12,12 +12,12 @@ mod grant_select;
 mod laws;
 mod names;
 mod revoke_role;
+mod revoke_select;
 mod row_security;
 mod set_owner;
 
 pub use catalog::Catalog;
 pub use create_table::{MOST_COLUMNS, MOST_TABLES};
-pub use grant_select::law_granted_again;
-pub use laws::law_no_loop;
+pub use laws::{law_granted_again, law_no_loop, law_revoked};
 pub use names::{is_qualified, place};
 pub use row_objects::MOST_ROLES;

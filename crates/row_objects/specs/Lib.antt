@@ -3,4 +3,5 @@ pub mod Lends
 pub mod Objects
 pub mod Memberships
 pub mod Reached
+pub mod Grants
 pub mod View
