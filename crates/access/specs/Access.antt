@@ -7,7 +7,7 @@ use Rattle.value.specs.Orders.{equal_of, is_true}
 use Rattle.value.specs.declared.order.Truth.{Truth}
 use Rattle.row_ast.specs.Ast.{Name, everyone}
 use Rattle.row_objects.specs.Objects.{Operand, CurrentUser, Literal, Policy, Table}
-use Rattle.catalog.specs.Catalog.{Catalog, belongs, owns}
+use Rattle.catalog.specs.Catalog.{Catalog, belongs, bypasses_rls, is_superuser, owns}
 
 -- r is among the roles that the name stands for
 abbrev pub includes_role : Catalog → Name → Name → Bool
@@ -64,9 +64,11 @@ applies cat r p = list_any (includes_role cat r) p.roles
 abbrev pub policy_allows : Catalog → Name → Row → Policy → Bool
 policy_allows cat r row p = applies cat r p && is_true (policy_truth r p row)
 
--- row security is off, or the role owns the table, or a policy allows the row
+-- row security is off, or the role is a superuser or has BYPASSRLS, or it belongs to the owner on whom row security is not
+-- forced, or a policy allows the row
 abbrev pub sees : Catalog → Name → Table → Row → Bool
-sees cat r t row = not t.row_security || owns cat r t || list_any (policy_allows cat r row) t.policies
+sees cat r t row =
+    not t.row_security || is_superuser cat r || bypasses_rls cat r || (belongs cat r t.owner && not t.forced) || list_any (policy_allows cat r row) t.policies
 
 -- the rows of the table that the role sees
 abbrev pub visible : Catalog → Name → Table → List Row → List Row

@@ -99,6 +99,7 @@ pub fn is_seen<A: Heap>(
 {
     !table.row_security()
         || catalog.is_superuser(role)
-        || catalog.is_member(role, table.owner())
+        || catalog.bypasses_rls(role)
+        || (catalog.is_member(role, table.owner()) && !table.forced())
         || any_policy_allows(catalog, role, table.policies(), rows, number)
 }

@@ -1,20 +1,21 @@
 -- A catalogue, who is who in it, and what names stand for.
-use Rattle.std.specs.Prelude.{ℕ, Bool, true, false, ◌&&◌, ◌||◌, codes, List, [], ◌∷◌, Option, Some, None, is_some}
+use Rattle.std.specs.Prelude.{ℕ, Bool, true, false, ◌||◌, codes, List, [], ◌∷◌, Option, Some, None, is_some}
 use Rattle.std.specs.Str.{bytes_eq}
 use Rattle.std.specs.List.{find, position_from}
 use Rattle.value.specs.Columns.{Column}
 use Rattle.row_ast.specs.Ast.{Name, everyone}
-use Rattle.row_objects.specs.Objects.{Role, Table}
+use Rattle.row_objects.specs.Objects.{Membership, Role, Table}
+use Rattle.row_objects.specs.Memberships.{belongs_by}
 
--- roles, who was made a member of what, the newest first, and tables
+-- roles, memberships and tables, each in order of creation
 pub record Catalog : Type 0 where
   pub roles : List Role
-  pub memberships : List (Name × Name)
+  pub memberships : List Membership
   pub tables : List Table
 
 -- a catalogue at first: the superuser root alone
 abbrev pub at_first : Catalog
-at_first = record { roles = record { name = codes "root"; superuser = true } ∷ []; memberships = []; tables = [] }
+at_first = record { roles = record { name = codes "root"; superuser = true; bypass_rls = false } ∷ []; memberships = []; tables = [] }
 
 -- ---- roles
 
@@ -31,11 +32,14 @@ has_superuser (Some role) = role.superuser
 abbrev pub is_superuser : Catalog → Name → Bool
 is_superuser cat name = has_superuser (role_named name cat)
 
--- r is s, or memberships lead from r to s: without the newest one, or through it
-abbrev pub belongs_by : List (Name × Name) → Name → Name → Bool
-belongs_by [] r s = bytes_eq r s
-belongs_by (m ∷ older) r s = belongs_by older r s || (belongs_by older r m.0 && belongs_by older m.1 s)
+abbrev pub has_bypass_rls : Option Role → Bool
+has_bypass_rls None = false
+has_bypass_rls (Some role) = role.bypass_rls
 
+abbrev pub bypasses_rls : Catalog → Name → Bool
+bypasses_rls cat name = has_bypass_rls (role_named name cat)
+
+-- r is s, or memberships lead from r to s
 abbrev pub belongs : Catalog → Name → Name → Bool
 belongs cat r s = belongs_by cat.memberships r s
 

@@ -1,42 +1,39 @@
 -- What schema statements change, and which are supported.
-use Rattle.std.specs.Prelude.{◌≡◌, ◌⊎◌, Bool, true, false, not, ◌&&◌, List, [], ◌∷◌, is_some, is_none, Result, Ok, Err}
+use Rattle.std.specs.Prelude.{◌≡◌, ◌⊎◌, Bool, true, false, not, ◌&&◌, List, [], ◌∷◌, is_some, Result, Ok, Err}
 use Rattle.value.specs.declared.refusal.Refusal.{Refusal}
 use Rattle.value.specs.declared.refusal.Refusal.TheVariants as r
 use Rattle.row_ast.specs.Ast as ast
 use Rattle.row_ast.specs.Ast.{Name, is_empty}
 use Rattle.row_ast.specs.Statements.{Statement, CreateRole, GrantRole, RevokeRole, CreateTable, SetOwner, SetRowSecurity, CreateIndex, GrantSelect, RevokeSelect, CreatePolicy, DropPolicy}
-use Rattle.row_ast.specs.declared.statement.RowSecurity as declared
-use Rattle.row_ast.specs.declared.statement.RowSecurity.TheVariants.{Enable}
 use Rattle.catalog.specs.Catalog.{Catalog, is_role, table_named}
 use Rattle.catalog.specs.Checks.{Check, first_refusal, if_found, unless}
 use Rattle.catalog.specs.CreateRole.{checks_create_role, after_create_role}
+use Rattle.catalog.specs.GrantRole.{checks_grant_role, after_grant_role}
+use Rattle.catalog.specs.RevokeRole.{checks_revoke_role, after_revoke_role}
 use Rattle.catalog.specs.CreateTable.{checks_create_table, after_create_table}
 use Rattle.catalog.specs.SetOwner.{checks_set_owner, after_set_owner}
 use Rattle.catalog.specs.RowSecurity.{checks_row_security, after_row_security}
-use Rattle.catalog.specs.GrantSelect.{checks_grant_select, after_grant_select}
+use Rattle.catalog.specs.GrantSelect.{checks_select, after_grant_select}
+use Rattle.catalog.specs.RevokeSelect.{after_revoke_select}
 use Rattle.catalog.specs.CreatePolicy.{equation_in, checks_create_policy, after_create_policy}
 
 -- ---- what is supported
-
-abbrev pub is_enable : declared.RowSecurity → Bool
-is_enable Enable = true
-is_enable _ = false
 
 -- a permissive policy (column = operand), the first of its table
 abbrev pub is_supported_policy : Catalog → ast.CreatePolicy → Bool
 is_supported_policy cat p = not p.restrictive && is_some (equation_in p.predicate) && if_found true (λ t. is_empty t.policies) (table_named p.table cat)
 
 abbrev pub is_supported : Catalog → Statement → Bool
-is_supported cat (CreateRole name superuser bypass_rls) = not superuser && not bypass_rls
+is_supported cat (CreateRole name superuser bypass_rls) = true
+is_supported cat (GrantRole group member) = true
+is_supported cat (RevokeRole group member) = true
 is_supported cat (CreateTable name columns) = true
 is_supported cat (SetOwner table owner) = true
-is_supported cat (SetRowSecurity table setting) = is_enable setting
-is_supported cat (GrantSelect grant) = is_none grant.columns
+is_supported cat (SetRowSecurity table setting) = true
+is_supported cat (GrantSelect grant) = true
+is_supported cat (RevokeSelect grant) = true
 is_supported cat (CreatePolicy policy) = is_supported_policy cat policy
-is_supported cat (GrantRole group member) = false
-is_supported cat (RevokeRole group member) = false
 is_supported cat (CreateIndex name table column) = false
-is_supported cat (RevokeSelect grant) = false
 is_supported cat (DropPolicy name table) = false
 
 -- ---- statements
@@ -44,20 +41,26 @@ is_supported cat (DropPolicy name table) = false
 -- the checks of a statement that is supported, by an actor that is a role; no other statement comes this far
 abbrev pub checks : Catalog → Name → Statement → List Check
 checks cat actor (CreateRole name superuser bypass_rls) = checks_create_role cat actor name
+checks cat actor (GrantRole group member) = checks_grant_role cat actor group member
+checks cat actor (RevokeRole group member) = checks_revoke_role cat actor group member
 checks cat actor (CreateTable name columns) = checks_create_table cat name columns
 checks cat actor (SetOwner table owner) = checks_set_owner cat actor table owner
 checks cat actor (SetRowSecurity table setting) = checks_row_security cat actor table
-checks cat actor (GrantSelect grant) = checks_grant_select cat actor grant.table grant.roles
+checks cat actor (GrantSelect grant) = checks_select cat actor grant
+checks cat actor (RevokeSelect grant) = checks_select cat actor grant
 checks cat actor (CreatePolicy policy) = checks_create_policy cat actor policy
 checks cat actor _ = []
 
 -- the catalogue after a statement that is not refused; one that is not supported does not come this far
 abbrev pub after : Catalog → Name → Statement → Catalog
-after cat actor (CreateRole name superuser bypass_rls) = after_create_role cat name
+after cat actor (CreateRole name superuser bypass_rls) = after_create_role cat name superuser bypass_rls
+after cat actor (GrantRole group member) = after_grant_role cat group member
+after cat actor (RevokeRole group member) = after_revoke_role cat group member
 after cat actor (CreateTable name columns) = after_create_table cat actor name columns
 after cat actor (SetOwner table owner) = after_set_owner cat table owner
-after cat actor (SetRowSecurity table setting) = after_row_security cat table
-after cat actor (GrantSelect grant) = after_grant_select cat grant.table grant.roles
+after cat actor (SetRowSecurity table setting) = after_row_security cat table setting
+after cat actor (GrantSelect grant) = after_grant_select cat grant
+after cat actor (RevokeSelect grant) = after_revoke_select cat grant
 after cat actor (CreatePolicy policy) = after_create_policy cat policy
 after cat actor _ = cat
 

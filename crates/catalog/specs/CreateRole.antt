@@ -1,12 +1,10 @@
--- CREATE ROLE name.
-use Rattle.std.specs.Prelude.{ℕ, false, not, List, [], ◌∷◌, ◌++◌}
+-- CREATE ROLE name [SUPERUSER] [BYPASSRLS].
+use Rattle.std.specs.Prelude.{Bool, not, List, [], ◌∷◌, ◌++◌}
 use Rattle.value.specs.declared.refusal.Refusal.TheVariants as r
 use Rattle.row_ast.specs.Ast.{Name}
+use Rattle.row_objects.specs.Objects.{most_roles}
 use Rattle.catalog.specs.Catalog.{Catalog, is_known, is_superuser}
 use Rattle.catalog.specs.Checks.{Check, is_full}
-
-abbrev pub most_roles : ℕ
-most_roles = 256
 
 abbrev pub checks_create_role : Catalog → Name → Name → List Check
 checks_create_role cat actor name =
@@ -14,5 +12,5 @@ checks_create_role cat actor name =
     ∷ (is_known cat name, r.DuplicateObject)
     ∷ (is_full most_roles cat.roles, r.ProgramLimitExceeded) ∷ []
 
-abbrev pub after_create_role : Catalog → Name → Catalog
-after_create_role cat name = record cat { roles = cat.roles ++ record { name = name; superuser = false } ∷ [] }
+abbrev pub after_create_role : Catalog → Name → Bool → Bool → Catalog
+after_create_role cat name superuser bypass_rls = record cat { roles = cat.roles ++ record { name = name; superuser = superuser; bypass_rls = bypass_rls } ∷ [] }

@@ -34,7 +34,7 @@ checks_create_table cat name columns =
 
 -- a new table, which its creator owns
 abbrev pub new_table : Name → Name → List Column → Table
-new_table actor name columns = record { name = name; columns = columns; owner = actor; row_security = false; policies = []; grants = [] }
+new_table actor name columns = record { name = name; columns = columns; owner = actor; row_security = false; forced = false; policies = []; grants = [] }
 
 abbrev pub after_create_table : Catalog → Name → Name → List Column → Catalog
 after_create_table cat actor name columns = record cat { tables = cat.tables ++ new_table actor name columns ∷ [] }

@@ -1,26 +1,52 @@
--- GRANT twice.
-use Rattle.std.specs.Prelude.{◌≡◌, Bool, false, List, None, IsTrue}
-use Rattle.std.specs.List.{list_all}
+-- GRANT twice, and what a REVOKE takes and leaves.
+use Rattle.std.specs.Prelude.{◌≡◌, Bool, false, List, [], filter, Option, Some, None, is_none, IsTrue}
+use Rattle.std.specs.Str.{bytes_eq}
+use Rattle.std.specs.List.{list_all, list_any}
+use Rattle.row_ast.specs.Ast as ast
 use Rattle.row_ast.specs.Ast.{Name}
-use Rattle.row_ast.specs.Statements.{Statement, GrantSelect}
+use Rattle.row_ast.specs.Statements.{GrantSelect, RevokeSelect}
+use Rattle.row_objects.specs.Objects.{Grant}
+use Rattle.row_objects.specs.Grants.{grants_to_all, has_grant}
 use Rattle.catalog.specs.Catalog.{Catalog, table_named}
 use Rattle.catalog.specs.Checks.{if_found}
 use Rattle.catalog.specs.CreateTable.{is_table}
-use Rattle.catalog.specs.GrantSelect.{grants_to, has_grant}
 use Rattle.catalog.specs.Changes.{after}
 
--- the table of that name is there, and the roles hold SELECT on the whole of it
-abbrev pub are_granted : Catalog → Name → List Name → Bool
-are_granted cat table roles = if_found false (λ t. list_all (has_grant t.grants) (grants_to roles)) (table_named table cat)
+-- ---- GRANT twice
 
--- GRANT SELECT ON table TO roles
-abbrev pub grant_select : Name → List Name → Statement
-grant_select table roles = GrantSelect record { columns = None; table = table; roles = roles }
+-- the table is there, and the roles hold SELECT on the whole of it, or on each of the columns
+abbrev pub are_granted : Catalog → ast.Grant → Bool
+are_granted cat grant = if_found false (λ t. list_all (has_grant t.grants) (grants_to_all grant.columns grant.roles)) (table_named grant.table cat)
 
--- after a GRANT on a table its roles hold SELECT on it
+-- after a GRANT on a table its roles hold what it grants
 abbrev pub IsGranted : Type 0
-IsGranted = (cat : Catalog) (actor table : Name) (roles : List Name) → IsTrue (is_table cat table) → IsTrue (are_granted (after cat actor (grant_select table roles)) table roles)
+IsGranted = (cat : Catalog) (actor : Name) (grant : ast.Grant) → IsTrue (is_table cat grant.table) → IsTrue (are_granted (after cat actor (GrantSelect grant)) grant)
 
 -- granting what is granted already leaves the catalogue as it is
 abbrev pub GrantedAgain : Type 0
-GrantedAgain = (cat : Catalog) (actor table : Name) (roles : List Name) → IsTrue (are_granted cat table roles) → after cat actor (grant_select table roles) ≡ cat
+GrantedAgain = (cat : Catalog) (actor : Name) (grant : ast.Grant) → IsTrue (are_granted cat grant) → after cat actor (GrantSelect grant) ≡ cat
+
+-- ---- REVOKE
+
+-- the grants on a table and its columns
+abbrev pub grants_on : Catalog → Name → List Grant
+grants_on cat table = if_found [] (λ t. t.grants) (table_named table cat)
+
+-- those to a role
+abbrev pub held_by : Name → List Grant → List Grant
+held_by role gs = filter (λ g. bytes_eq g.to role) gs
+
+-- those on a whole table
+abbrev pub on_table : List Grant → List Grant
+on_table gs = filter (λ g. is_none g.column) gs
+
+abbrev pub after_revoke : Catalog → Name → Option (List Name) → Name → List Name → Catalog
+after_revoke cat actor columns table roles = after cat actor (RevokeSelect record { columns = columns; table = table; roles = roles })
+
+-- after a REVOKE on a table its roles hold no grant on it or on its columns
+abbrev pub RevokedTable : Type 0
+RevokedTable = (cat : Catalog) (actor table role : Name) (roles : List Name) → IsTrue (list_any (bytes_eq role) roles) → held_by role (grants_on (after_revoke cat actor None table roles) table) ≡ []
+
+-- a REVOKE on columns leaves the grants on the whole table
+abbrev pub RevokedColumns : Type 0
+RevokedColumns = (cat : Catalog) (actor table : Name) (columns roles : List Name) → on_table (grants_on (after_revoke cat actor (Some columns) table roles) table) ≡ on_table (grants_on cat table)

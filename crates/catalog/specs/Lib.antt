@@ -2,11 +2,15 @@ pub mod Catalog
 pub mod View
 pub mod Checks
 pub mod CreateRole
+pub mod GrantRole
+pub mod RevokeRole
 pub mod CreateTable
 pub mod SetOwner
 pub mod RowSecurity
 pub mod GrantSelect
+pub mod RevokeSelect
 pub mod CreatePolicy
 pub mod Equations
 pub mod Changes
 pub mod Granted
+pub mod Run

@@ -1,9 +1,8 @@
 -- What the catalogue of the program is.
-use Rattle.std.specs.Prelude.{[], map}
-use Rattle.row_objects.specs.View.{role_of, table_entry}
+use Rattle.std.specs.Prelude.{map}
+use Rattle.row_objects.specs.View.{membership_of, role_of, table_entry}
 use Rattle.catalog.specs.Catalog.{Catalog}
 use Rattle.catalog.specs.declared.catalog.Catalog.TheInside.{Inside}
 
--- there are no statements that make a member yet
 abbrev pub catalog_of : {A : Type 0} → Inside A → Catalog
-catalog_of c = record { roles = map role_of c.roles; memberships = []; tables = map table_entry c.tables }
+catalog_of c = record { roles = map role_of c.roles; memberships = map membership_of c.memberships.items; tables = map table_entry c.tables }

@@ -8,7 +8,7 @@ ghost use Rattle.catalog.specs.Changes.{after, changed, checks, is_supported, is
 use crate::catalog::Catalog;
 use crate::create_policy::equation_in;
 use memory::Heap;
-use row_ast::{CreatePolicy, RowSecurity, Statement};
+use row_ast::{CreatePolicy, Statement};
 use value::Refusal;
 
 fn is_supported_policy<A: Heap>(catalog: &Catalog<A>, policy: &CreatePolicy<A>) -> bool
@@ -27,49 +27,49 @@ fn is_supported<A: Heap>(catalog: &Catalog<A>, statement: &Statement<A>) -> bool
     ensures { result ≡ is_supported catalog.now (statement_of statement.now) }
 {
     match statement {
-        Statement::CreateRole {
-            superuser,
-            bypass_rls,
-            ..
-        } => !superuser && !bypass_rls,
-        Statement::CreateTable { .. } | Statement::SetOwner { .. } => true,
-        Statement::SetRowSecurity { setting, .. } => matches!(setting, RowSecurity::Enable),
-        Statement::GrantSelect(grant) => grant.columns.is_none(),
-        Statement::CreatePolicy(policy) => is_supported_policy(catalog, policy),
-        Statement::GrantRole { .. }
+        Statement::CreateRole { .. }
+        | Statement::GrantRole { .. }
         | Statement::RevokeRole { .. }
-        | Statement::CreateIndex { .. }
-        | Statement::RevokeSelect(_)
-        | Statement::DropPolicy { .. } => false,
+        | Statement::CreateTable { .. }
+        | Statement::SetOwner { .. }
+        | Statement::SetRowSecurity { .. }
+        | Statement::GrantSelect(_)
+        | Statement::RevokeSelect(_) => true,
+        Statement::CreatePolicy(policy) => is_supported_policy(catalog, policy),
+        Statement::CreateIndex { .. } | Statement::DropPolicy { .. } => false,
     }
 }
 
 impl<A: Heap> Catalog<A> {
-    // A statement that is supported, of an actor that is a role: of the settings of row security only ENABLE, of grants only
-    // those without a list of columns, and none of the last variants.
+    // A statement that is supported, of an actor that is a role: none of the last variants.
     fn apply_supported(&mut self, actor: &str, statement: &Statement<A>) -> Result<(), Refusal>
         ensures { IsChange self.old self.new (unless (first_refusal (checks self.old actor.now (statement_of statement.now))) (after self.old actor.now (statement_of statement.now))) result }
     {
         match statement {
-            Statement::CreateRole { name, .. } => self.create_role(actor, name.as_str()),
+            Statement::CreateRole {
+                name,
+                superuser,
+                bypass_rls,
+            } => self.create_role(actor, name.as_str(), *superuser, *bypass_rls),
+            Statement::GrantRole { group, member } => {
+                self.grant_role(actor, group.as_str(), member.as_str())
+            }
+            Statement::RevokeRole { group, member } => {
+                self.revoke_role(actor, group.as_str(), member.as_str())
+            }
             Statement::CreateTable { name, columns } => {
                 self.create_table(actor, name.as_str(), columns.as_slice())
             }
             Statement::SetOwner { table, owner } => {
                 self.set_owner(actor, table.as_str(), owner.as_str())
             }
-            Statement::SetRowSecurity { table, .. } => {
-                self.enable_row_security(actor, table.as_str())
+            Statement::SetRowSecurity { table, setting } => {
+                self.set_row_security(actor, table.as_str(), *setting)
             }
-            Statement::GrantSelect(grant) => {
-                self.grant_select(actor, grant.table.as_str(), grant.roles.as_slice())
-            }
+            Statement::GrantSelect(grant) => self.grant_select(actor, grant),
+            Statement::RevokeSelect(grant) => self.revoke_select(actor, grant),
             Statement::CreatePolicy(policy) => self.create_policy(actor, policy),
-            Statement::GrantRole { .. }
-            | Statement::RevokeRole { .. }
-            | Statement::CreateIndex { .. }
-            | Statement::RevokeSelect(_)
-            | Statement::DropPolicy { .. } => Ok(()),
+            Statement::CreateIndex { .. } | Statement::DropPolicy { .. } => Ok(()),
         }
     }
 

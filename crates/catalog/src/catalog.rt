@@ -3,23 +3,29 @@
 ghost use Rattle.std.specs.Prelude.{◌≡◌, ◌<◌, length, IfOk, IfSome, map, option_map};
 ghost use Rattle.std.specs.List.{list_all};
 ghost use Rattle.row_objects.specs.View.{table_of};
-ghost use Rattle.catalog.specs.Catalog.{at_first, belongs, is_known, is_role, is_superuser, owns, table_named, table_place};
+ghost use Rattle.catalog.specs.Catalog.{at_first, belongs, bypasses_rls, is_known, is_role, is_superuser, owns, table_named, table_place};
 
 use memory::Heap;
-use row_objects::{ByName, Role, Table, TableDef};
+use row_objects::{ByName, Membership, Role, Table, TableDef, belongs_by};
 use std::alloc::AllocError;
 use std::marker::Model;
 use text::Text;
 
-/// Roles and tables, each in order of creation.
+/// Roles, memberships and tables, each in order of creation.
 #[derive(Drop)]
 pub struct Catalog<A: Heap> {
     pub(crate) alloc: A,
     pub(crate) roles: ByName<Role, A>,
+    pub(crate) memberships: Vec<Membership<A>, A>,
     pub(crate) tables: ByName<TableDef<A>, A>,
 }
 
 impl<A: Heap> Model for Catalog<A> {
+    ghost use Rattle.std.specs.Prelude.{◌≡◌, ◌≤◌, length, map, true};
+    ghost use Rattle.std.specs.List.{list_all};
+    ghost use Rattle.row_objects.specs.Objects.{most_roles};
+    ghost use Rattle.row_objects.specs.Reached.{is_of_roles};
+    ghost use Rattle.row_objects.specs.View.{membership_of};
     ghost use Rattle.catalog.specs.Catalog as spec;
 
     ghost Value = { spec.Catalog };
@@ -27,6 +33,8 @@ impl<A: Heap> Model for Catalog<A> {
     ghost use Rattle.catalog.specs.View.{catalog_of};
 
     ghost view = { catalog_of };
+
+    ghost invariant = { λ c. (length c.roles ≤ most_roles) × (list_all (is_of_roles c.roles) (map membership_of c.memberships.items) ≡ true) };
 }
 
 impl<A: Heap> Catalog<A> {
@@ -35,10 +43,18 @@ impl<A: Heap> Catalog<A> {
         ensures { IfOk result (λ cat. cat ≡ at_first) }
     {
         let mut roles = ByName::new(alloc);
-        roles.insert(alloc, "root", Role { superuser: true })?;
+        roles.insert(
+            alloc,
+            "root",
+            Role {
+                superuser: true,
+                bypass_rls: false,
+            },
+        )?;
         Ok(Catalog {
             alloc,
             roles,
+            memberships: Vec::new(alloc),
             tables: ByName::new(alloc),
         })
     }
@@ -74,12 +90,21 @@ impl<A: Heap> Catalog<A> {
         }
     }
 
-    /// Whether r is s, or memberships lead from r to s (PostgreSQL: Role Membership). There are no memberships yet.
+    /// Whether the role of that name has BYPASSRLS.
+    pub fn bypasses_rls(&self, name: &str) -> bool
+        ensures { result ≡ bypasses_rls self.now name.now }
+    {
+        match self.roles.get(name) {
+            Some(role) => role.bypass_rls,
+            None => false,
+        }
+    }
+
+    /// Whether r is s, or memberships lead from r to s (PostgreSQL: Role Membership). It takes no memory.
     pub fn is_member(&self, r: &str, s: &str) -> bool
         ensures { result ≡ belongs self.now r.now s.now }
     {
-        let _roles = &self.roles;
-        r == s
+        belongs_by(&self.roles, self.memberships.as_slice(), r, s)
     }
 
     /// The table of that name.

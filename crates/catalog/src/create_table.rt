@@ -73,6 +73,7 @@ fn new_table<A: Heap>(
         columns,
         owner,
         row_security: false,
+        forced: false,
         policies: Items::new(alloc),
         grants: Items::new(alloc),
     })

@@ -1,6 +1,6 @@
-//! `ALTER TABLE table ENABLE ROW LEVEL SECURITY` (PostgreSQL: ALTER TABLE).
+//! `ALTER TABLE table ENABLE`, `DISABLE`, `FORCE` or `NO FORCE ROW LEVEL SECURITY` (PostgreSQL: ALTER TABLE).
 
-ghost use Rattle.std.specs.Prelude.{◌≡◌, ◌<◌, IfOk, length, map};
+ghost use Rattle.std.specs.Prelude.{◌≡◌, ◌<◌, IfOk, List, length, map, ℕ};
 ghost use Rattle.row_objects.specs.View.{table_entry};
 ghost use Rattle.catalog.specs.Catalog.{table_place};
 ghost use Rattle.catalog.specs.Checks.{changed_at, first_refusal, unless, Checked};
@@ -9,6 +9,7 @@ ghost use Rattle.catalog.specs.Changes.{IsChange};
 
 use crate::catalog::Catalog;
 use memory::Heap;
+use row_ast::RowSecurity;
 use row_objects::{ByName, TableDef};
 use value::Refusal;
 
@@ -30,29 +31,45 @@ fn check_row_security<A: Heap>(
     }
 }
 
-fn enable_in<A: Heap>(tables: &mut ByName<TableDef<A>, A>, place: usize)
-    requires { place < length tables.old }
-    ensures { map (λ t. table_entry t) tables.new ≡ changed_at place with_row_security (map (λ t. table_entry t) tables.old) }
+fn set<A: Heap>(table: &mut TableDef<A>, setting: RowSecurity)
+    ensures { (name : List ℕ) → table_entry (name, table.new) ≡ with_row_security setting (table_entry (name, table.old)) }
 {
-    tables.at_mut(place).row_security = true;
+    match setting {
+        RowSecurity::Enable => table.row_security = true,
+        RowSecurity::Disable => table.row_security = false,
+        RowSecurity::Force => table.forced = true,
+        RowSecurity::NoForce => table.forced = false,
+    }
+}
+
+fn set_in<A: Heap>(tables: &mut ByName<TableDef<A>, A>, place: usize, setting: RowSecurity)
+    requires { place < length tables.old }
+    ensures { map (λ t. table_entry t) tables.new ≡ changed_at place (with_row_security setting) (map (λ t. table_entry t) tables.old) }
+{
+    set(tables.at_mut(place), setting);
 }
 
 impl<A: Heap> Catalog<A> {
-    fn enable_at(&mut self, place: usize)
+    fn set_row_security_at(&mut self, place: usize, setting: RowSecurity)
         requires { place < length self.old.tables }
-        ensures { self.new ≡ record self.old { tables = changed_at place with_row_security self.old.tables } }
+        ensures { self.new ≡ record self.old { tables = changed_at place (with_row_security setting) self.old.tables } }
     {
-        enable_in(&mut self.tables, place);
+        set_in(&mut self.tables, place, setting);
     }
 
-    /// Enables row security, if no check refuses it. It takes no memory.
-    pub(crate) fn enable_row_security(&mut self, actor: &str, table: &str) -> Result<(), Refusal>
-        ensures { IsChange self.old self.new (unless (first_refusal (checks_row_security self.old actor.now table.now)) (after_row_security self.old table.now)) result }
+    /// Sets row security, if no check refuses it. It takes no memory.
+    pub(crate) fn set_row_security(
+        &mut self,
+        actor: &str,
+        table: &str,
+        setting: RowSecurity,
+    ) -> Result<(), Refusal>
+        ensures { IsChange self.old self.new (unless (first_refusal (checks_row_security self.old actor.now table.now)) (after_row_security self.old table.now setting)) result }
     {
         match check_row_security(self, actor, table) {
             Err(why) => Err(why),
             Ok(place) => {
-                self.enable_at(place);
+                self.set_row_security_at(place, setting);
                 Ok(())
             }
         }

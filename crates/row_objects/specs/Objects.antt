@@ -4,9 +4,20 @@ use Rattle.value.specs.Datum.{Datum}
 use Rattle.value.specs.Columns.{Column}
 use Rattle.row_ast.specs.Ast.{Name}
 
+-- the most roles of a catalogue
+abbrev pub most_roles : ℕ
+most_roles = 256
+
 pub record Role : Type 0 where
   pub name : Name
   pub superuser : Bool
+  -- row security does not act on its queries
+  pub bypass_rls : Bool
+
+-- the member has the rights of the group
+pub record Membership : Type 0 where
+  pub member : Name
+  pub group : Name
 
 -- SELECT on a column, or on the whole table, for a role or for everyone
 pub record Grant : Type 0 where
@@ -31,5 +42,7 @@ pub record Table : Type 0 where
   pub owner : Name
   -- row security is enabled
   pub row_security : Bool
+  -- row security acts on the owner too
+  pub forced : Bool
   pub policies : List Policy
   pub grants : List Grant

@@ -4,17 +4,21 @@ use Rattle.value.specs.Datum.{datum}
 use Rattle.value.specs.Columns.{column_of}
 use Rattle.row_ast.specs.Ast.{Name}
 use Rattle.row_objects.specs.declared.objects.Role as declared
+use Rattle.row_objects.specs.declared.objects.Membership as declared_membership
 use Rattle.row_objects.specs.declared.objects.Grant as declared_grant
 use Rattle.row_objects.specs.declared.objects.Operand as declared_operand
 use Rattle.row_objects.specs.declared.objects.Operand.TheVariants as operand
 use Rattle.row_objects.specs.declared.objects.Policy as declared_policy
 use Rattle.row_objects.specs.declared.objects.TableDef.{TableDef}
 use Rattle.row_objects.specs.declared.objects.Table as declared_table
-use Rattle.row_objects.specs.Objects.{Role, Grant, Operand, CurrentUser, Literal, Policy, Table}
+use Rattle.row_objects.specs.Objects.{Role, Membership, Grant, Operand, CurrentUser, Literal, Policy, Table}
 
 -- a role by its name
 abbrev pub role_of : Name × declared.Role → Role
-role_of r = record { name = r.0; superuser = r.1.superuser }
+role_of r = record { name = r.0; superuser = r.1.superuser; bypass_rls = r.1.bypass_rls }
+
+abbrev pub membership_of : {A : Type 0} → declared_membership.Membership A → Membership
+membership_of m = record { member = m.member; group = m.group }
 
 abbrev pub grant_of : {A : Type 0} → declared_grant.Grant A → Grant
 grant_of g = record { to = g.to; column = g.column }
@@ -33,6 +37,7 @@ table_entry t = record {
   columns = map column_of t.1.columns;
   owner = t.1.owner;
   row_security = t.1.row_security;
+  forced = t.1.forced;
   policies = map policy_of t.1.policies;
   grants = map grant_of t.1.grants;
 }

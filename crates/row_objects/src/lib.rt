@@ -2,7 +2,13 @@
 #![tactic(auto)]
 
 mod by_name;
+mod grants;
+mod memberships;
 mod objects;
 
 pub use by_name::ByName;
-pub use objects::{Grant, Operand, Policy, Role, Table, TableDef};
+pub use grants::{add_grants, remove_grants};
+pub use memberships::{
+    MOST_ROLES, add_membership, belongs_by, law_belongs_by_paths, law_no_loop, remove_membership,
+};
+pub use objects::{Grant, Membership, Operand, Policy, Role, Table, TableDef};

@@ -13,6 +13,17 @@ use value::{Column, Value};
 pub struct Role {
     /// Whether it is a superuser.
     pub superuser: bool,
+    /// Whether row security does not act on its queries.
+    pub bypass_rls: bool,
+}
+
+/// A member, and the group whose rights it has (PostgreSQL: Role Membership).
+#[derive(Drop)]
+pub struct Membership<A: Heap> {
+    /// The member.
+    pub member: Text<A>,
+    /// The group.
+    pub group: Text<A>,
 }
 
 /// SELECT on a column, or on the whole table, for a role or for everyone (PostgreSQL: GRANT).
@@ -55,6 +66,8 @@ pub struct TableDef<A: Heap> {
     pub owner: Text<A>,
     /// Whether row security is enabled.
     pub row_security: bool,
+    /// Whether row security acts on the owner too.
+    pub forced: bool,
     /// The policies, in order of creation.
     pub policies: Items<Policy<A>, A>,
     /// The grants, none twice.
@@ -102,6 +115,13 @@ impl<'c, A: Heap> Table<'c, A> {
         ensures { result ≡ (table_of self.entry).row_security }
     {
         self.parts.row_security
+    }
+
+    /// Whether row security acts on the owner too.
+    pub fn forced(self) -> bool
+        ensures { result ≡ (table_of self.entry).forced }
+    {
+        self.parts.forced
     }
 
     /// The policies, in order of creation.

@@ -1,9 +1,9 @@
 use Rattle.std.proofs.Common.{◌∙◌, ap}
-use Rattle.catalog.proofs.Roles.{flag, its_flag}
+use Rattle.catalog.proofs.Roles.{flag_by, its_superuser}
 use Rattle.catalog.proofs.catalog.Catalog.is_superuser.Goals as goal
 
 pub returns-in-Some : goal.returns-in-Some
-returns-in-Some g c = rw (← c.self.view_is) (ap flag c.in-Some.ensures ∙ its_flag c.args.name.now c.self.inside.roles)
+returns-in-Some g c = rw (← c.self.view_is) (ap (flag_by (λ role. role.superuser)) c.in-Some.ensures ∙ its_superuser c.args.name.now c.self.inside.roles)
 
 pub returns-in-None : goal.returns-in-None
-returns-in-None g c = rw (← c.self.view_is) (ap flag c.in-None.ensures ∙ its_flag c.args.name.now c.self.inside.roles)
+returns-in-None g c = rw (← c.self.view_is) (ap (flag_by (λ role. role.superuser)) c.in-None.ensures ∙ its_superuser c.args.name.now c.self.inside.roles)

@@ -1,9 +1,0 @@
-use Rattle.catalog.specs.Checks.{first_refusal}
-use Rattle.catalog.specs.RowSecurity.{checks_row_security, with_row_security}
-use Rattle.catalog.proofs.Places.{due}
-use Rattle.catalog.proofs.catalog.Catalog.enable_row_security.Goals as goal
-
-pub returns-in-Ok : goal.returns-in-Ok
-returns-in-Ok g c =
-    due c.args.self.now c.args.table.now with_row_security c.in-Ok.place (first_refusal (checks_row_security c.args.self.now c.args.actor.now c.args.table.now)) c.enable_at.new.self
-    c.in-Ok.ensures.checked.0 c.in-Ok.ensures.checked.1 c.enable_at.ensures

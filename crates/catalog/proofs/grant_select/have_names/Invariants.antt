@@ -1,0 +1,10 @@
+use Rattle.std.proofs.Common.{◌≡◌, drop, map, is_some}
+use Rattle.std.specs.List.{list_all}
+use Rattle.value.specs.Columns.{column_of}
+use Rattle.catalog.specs.Catalog.{column_named}
+use Rattle.catalog.proofs.grant_select.have_names.Given as goal
+
+abbrev pub invariant-loop-name : goal.invariant-loop-name
+invariant-loop-name g l =
+    list_all (λ name. is_some (column_named name (map (λ c. column_of c) l.columns))) (drop l.name-index l.names)
+    ≡ list_all (λ name. is_some (column_named name (map (λ c. column_of c) l.columns))) l.names

@@ -1,0 +1,15 @@
+-- REVOKE group FROM member.
+use Rattle.std.specs.Prelude.{not, ◌&&◌, List, [], ◌∷◌}
+use Rattle.value.specs.declared.refusal.Refusal.TheVariants as r
+use Rattle.row_ast.specs.Ast.{Name}
+use Rattle.row_objects.specs.Memberships.{without_membership}
+use Rattle.catalog.specs.Catalog.{Catalog, is_role, is_superuser}
+use Rattle.catalog.specs.Checks.{Check}
+
+abbrev pub checks_revoke_role : Catalog → Name → Name → Name → List Check
+checks_revoke_role cat actor group member =
+    (not (is_superuser cat actor), r.InsufficientPrivilege)
+    ∷ (not (is_role cat group && is_role cat member), r.UndefinedObject) ∷ []
+
+abbrev pub after_revoke_role : Catalog → Name → Name → Catalog
+after_revoke_role cat group member = record cat { memberships = without_membership group member cat.memberships }

@@ -1,0 +1,32 @@
+-- Who belongs to whom, and the set of memberships.
+use Rattle.std.specs.Prelude.{◌≡◌, Bool, not, ◌&&◌, ◌||◌, List, [], ◌∷◌, ◌++◌, Contains, filter, if◌then◌else◌}
+use Rattle.std.specs.Str.{bytes_eq}
+use Rattle.std.specs.List.{list_any}
+use Rattle.row_ast.specs.Ast.{Name}
+use Rattle.row_objects.specs.Objects.{Membership}
+
+-- r is s, or reaches it by the further memberships alone, or by way of the first one
+abbrev pub belongs_by : List Membership → Name → Name → Bool
+belongs_by [] r s = bytes_eq r s
+belongs_by (m ∷ further) r s = belongs_by further r s || (belongs_by further r m.member && belongs_by further m.group s)
+
+-- these memberships lead from r to s, one after the other
+abbrev pub Leads : List Membership → Name → Name → List Membership → Type 0
+Leads ms r s [] = r ≡ s
+Leads ms r s (m ∷ path) = Contains ms m × (r ≡ m.member) × Leads ms m.group s path
+
+-- no role is reached from itself by one or more memberships
+abbrev pub HasNoLoop : List Membership → Type 0
+HasNoLoop ms = (r : Name) (m : Membership) (path : List Membership) → Leads ms r r (m ∷ path) → ⊥
+
+-- ---- the set of memberships
+
+abbrev pub is_membership : Name → Name → Membership → Bool
+is_membership group member m = bytes_eq m.group group && bytes_eq m.member member
+
+-- one more at the end, unless it is there
+abbrev pub with_membership : Name → Name → List Membership → List Membership
+with_membership group member ms = if list_any (is_membership group member) ms then ms else ms ++ record { member = member; group = group } ∷ []
+
+abbrev pub without_membership : Name → Name → List Membership → List Membership
+without_membership group member ms = filter (λ m. not (is_membership group member m)) ms
