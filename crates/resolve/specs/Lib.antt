@@ -2,3 +2,5 @@ pub mod Parts
 pub mod Served
 pub mod Names
 pub mod View
+pub mod Entries
+pub mod EntryView

@@ -2,8 +2,10 @@
 #![tactic(auto)]
 
 mod binding;
+mod from;
 mod parts;
 mod served;
 
 pub use binding::{Bound, NameFault, bind};
+pub use from::{Entry, entries};
 pub use served::is_served;
