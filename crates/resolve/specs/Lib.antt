@@ -4,3 +4,4 @@ pub mod Names
 pub mod View
 pub mod Entries
 pub mod EntryView
+pub mod Lookup

@@ -3,9 +3,11 @@
 
 mod binding;
 mod from;
+mod lookup;
 mod parts;
 mod served;
 
 pub use binding::{Bound, NameFault, bind};
 pub use from::{Entry, entries};
+pub use lookup::{ColumnId, Reach, find_column};
 pub use served::is_served;
