@@ -5,3 +5,5 @@ pub mod View
 pub mod Entries
 pub mod EntryView
 pub mod Lookup
+pub mod Mentions
+pub mod MentionView

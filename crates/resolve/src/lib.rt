@@ -4,6 +4,7 @@
 mod binding;
 mod from;
 mod lookup;
+mod naming;
 mod parts;
 mod served;
 
