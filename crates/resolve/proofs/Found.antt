@@ -29,3 +29,7 @@ module _ {W X B E : Type 0} (step : B → W → Result X E) (grown : B → X →
       -- it gives x
       pub walk_next : (x : X) → step known (g y) ≡ Ok x → (new : B) → new ≡ grown known x → all new (map g (drop (k + 1) ys)) ≡ whole
       walk_next x h new n = rw n (ap (λ r. and_then r (λ x. all (grown known x) (map g (drop (k + 1) ys)))) (sym h) ∙ walk_opened)
+
+-- what follows a part that is given
+pub given : {X Y Z E : Type 0} (v : X → Y) (result : Result X (Failure E)) (stated : Result Z E) (z : Z) (f : Z → Result Y E) → stated ≡ Ok z → Gives v result (f z) → Gives v result (and_then stated f)
+given v result stated z f e h = rw e h

@@ -7,3 +7,5 @@ pub mod EntryView
 pub mod Lookup
 pub mod Mentions
 pub mod MentionView
+pub mod Needed
+pub mod NeededView

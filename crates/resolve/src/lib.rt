@@ -6,9 +6,11 @@ mod from;
 mod lookup;
 mod naming;
 mod parts;
+mod reading;
 mod served;
 
 pub use binding::{Bound, NameFault, bind};
 pub use from::{Entry, entries};
 pub use lookup::{ColumnId, Reach, find_column};
+pub use reading::{RequiredPrivilege, first_name_fault, needed};
 pub use served::is_served;
