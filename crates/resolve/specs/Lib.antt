@@ -2,3 +2,10 @@ pub mod Parts
 pub mod Served
 pub mod Names
 pub mod View
+pub mod Entries
+pub mod EntryView
+pub mod Lookup
+pub mod Mentions
+pub mod MentionView
+pub mod Needed
+pub mod NeededView

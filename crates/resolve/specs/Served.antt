@@ -1,5 +1,5 @@
 -- The queries that are supported yet, among those of the grammar: SELECT columns FROM table.
-use Rattle.std.specs.Prelude.{Bool, true, false, ◌&&◌, List, [], ◌∷◌, is_none, is_some}
+use Rattle.std.specs.Prelude.{Bool, false, ◌&&◌, List, [], ◌∷◌, is_none, is_some}
 use Rattle.std.specs.List.{list_all}
 use Rattle.row_ast.specs.Ast as ast
 use Rattle.row_ast.specs.Ast.{column_in, is_empty}

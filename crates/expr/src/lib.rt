@@ -1,0 +1,6 @@
+//! What expressions are made of.
+#![tactic(auto)]
+
+mod columns;
+
+pub use columns::push_columns;
