@@ -5,4 +5,4 @@ mod policies;
 mod privileges;
 
 pub use policies::{cell, is_seen};
-pub use privileges::{denial, is_granted};
+pub use privileges::{RequiredPrivilege, denied, is_granted};

@@ -1,14 +1,24 @@
 //! Which columns a role may read (PostgreSQL: Privileges).
 
-ghost use Rattle.std.specs.Prelude.{◌≡◌, ◌&&◌, Some, map, option_map};
+ghost use Rattle.std.specs.Prelude.{◌≡◌, ◌&&◌, map, option_map};
 ghost use Rattle.std.specs.List.{list_any};
-ghost use Rattle.row_objects.specs.View.{grant_of, table_of};
-ghost use Rattle.access.specs.Access.{includes_role, covers, granted, denial, select_on};
+ghost use Rattle.row_objects.specs.View.{grant_of};
+ghost use Rattle.access.specs.Access.{includes_role, covers, granted, denial};
+ghost use Rattle.access.specs.View.{privilege_of};
 
 use catalog::Catalog;
 use memory::Heap;
 use row_objects::{Grant, Table};
 use text::Text;
+
+/// SELECT on a column of a table, or on any part of it.
+#[derive(Clone, Copy)]
+pub struct RequiredPrivilege<'s, A: Heap> {
+    /// The table.
+    pub table: Table<'s, A>,
+    /// The column's name; none for any part of the table.
+    pub column: Option<&'s Text<A>>,
+}
 
 // Whether the role is among those that the name stands for.
 fn includes_role<A: Heap>(catalog: &Catalog<A>, role: &str, name: &str) -> bool
@@ -33,64 +43,68 @@ pub(crate) fn any_includes_role<A: Heap>(
     false
 }
 
-// Whether a grant on a column, or on the whole table, is one on the column of that name.
-fn covers<A: Heap>(held: &Option<Text<A>>, column: &str) -> bool
-    ensures { result ≡ covers held.now (Some column.now) }
+// Whether what a grant is on, a column or the whole table, covers what is required.
+fn covers<A: Heap>(held: &Option<Text<A>>, required: Option<&Text<A>>) -> bool
+    ensures { result ≡ covers held.now (option_map (λ c. c.now) required.entry) }
 {
-    match held {
-        None => true,
-        Some(name) => name.as_str() == column,
+    match (held, required) {
+        (None, _) => true,
+        (Some(_), None) => true,
+        (Some(name), Some(column)) => name.as_str() == column.as_str(),
     }
 }
 
-fn grants_to<A: Heap>(catalog: &Catalog<A>, role: &str, grant: &Grant<A>, column: &str) -> bool
-    ensures { result ≡ (includes_role catalog.now role.now (grant_of grant.now).to && covers (grant_of grant.now).column (Some column.now)) }
+fn grants_to<A: Heap>(
+    catalog: &Catalog<A>,
+    role: &str,
+    grant: &Grant<A>,
+    required: Option<&Text<A>>,
+) -> bool
+    ensures { result ≡ (includes_role catalog.now role.now (grant_of grant.now).to && covers (grant_of grant.now).column (option_map (λ c. c.now) required.entry)) }
 {
-    includes_role(catalog, role, grant.to.as_str()) && covers(&grant.column, column)
+    includes_role(catalog, role, grant.to.as_str()) && covers(&grant.column, required)
 }
 
 fn any_grants_to<A: Heap>(
     catalog: &Catalog<A>,
     role: &str,
     grants: &[Grant<A>],
-    column: &str,
+    required: Option<&Text<A>>,
 ) -> bool
-    ensures { result ≡ list_any (λ g. includes_role catalog.now role.now g.to && covers g.column (Some column.now)) (map (λ g. grant_of g) grants.now) }
+    ensures { result ≡ list_any (λ g. includes_role catalog.now role.now g.to && covers g.column (option_map (λ c. c.now) required.entry)) (map (λ g. grant_of g) grants.now) }
 {
     for grant in grants {
-        if grants_to(catalog, role, grant, column) {
+        if grants_to(catalog, role, grant, required) {
             return true;
         }
     }
     false
 }
 
-/// Whether the role has SELECT on a column of the table.
+/// Whether the role has a privilege: SELECT on a column of a table, or on any part of it.
 pub fn is_granted<A: Heap>(
     catalog: &Catalog<A>,
     role: &str,
-    table: Table<'_, A>,
-    column: &str,
+    privilege: RequiredPrivilege<'_, A>,
 ) -> bool
-    ensures { result ≡ granted catalog.now role.now (select_on (table_of table.entry) column.now) }
+    ensures { result ≡ granted catalog.now role.now (privilege_of privilege.entry) }
 {
     catalog.is_superuser(role)
-        || catalog.is_member(role, table.owner())
-        || any_grants_to(catalog, role, table.grants(), column)
+        || catalog.is_member(role, privilege.table.owner())
+        || any_grants_to(catalog, role, privilege.table.grants(), privilege.column)
 }
 
-/// The first of these columns of the table on which the role lacks SELECT.
-pub fn denial<'a, A: Heap>(
+/// The first of these privileges that the role lacks.
+pub fn denied<'s, A: Heap>(
     catalog: &Catalog<A>,
     role: &str,
-    table: Table<'_, A>,
-    columns: &'a [Text<A>],
-) -> Option<&'a Text<A>>
-    ensures { option_map (λ column. select_on (table_of table.entry) column.now) result ≡ denial catalog.now role.now (map (select_on (table_of table.entry)) columns.now) }
+    needed: &[RequiredPrivilege<'s, A>],
+) -> Option<RequiredPrivilege<'s, A>>
+    ensures { option_map (λ p. privilege_of p) result ≡ denial catalog.now role.now (map (λ p. privilege_of p) needed.now) }
 {
-    for column in columns {
-        if !is_granted(catalog, role, table, column.as_str()) {
-            return Some(column);
+    for privilege in needed {
+        if !is_granted(catalog, role, *privilege) {
+            return Some(*privilege);
         }
     }
     None

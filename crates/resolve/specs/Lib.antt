@@ -1,4 +1,3 @@
-pub mod Parts
 pub mod Served
 pub mod Names
 pub mod View

@@ -3,13 +3,12 @@ use Rattle.std.specs.Prelude.{ℕ, nat_lt, ◌+◌, ◌&&◌, not, Bool, List, [
 use Rattle.value.specs.declared.refusal.Refusal.TheVariants as r
 use Rattle.row_ast.specs.Ast as ast
 use Rattle.catalog.specs.Catalog.{is_qualified, place_of}
-use Rattle.resolve.specs.declared.binding.NameFault.{NameFault}
+use Rattle.resolve.specs.declared.fault.NameFault.{NameFault}
 use Rattle.resolve.specs.declared.lookup.Reach.{Reach}
 use Rattle.resolve.specs.declared.lookup.ColumnId.{ColumnId}
 use Rattle.resolve.specs.declared.lookup.Search.{Search}
 use Rattle.resolve.specs.declared.lookup.Search.TheVariants as search
-use Rattle.resolve.specs.Names.{fault}
-use Rattle.resolve.specs.Entries.{Entry}
+use Rattle.resolve.specs.Entries.{Entry, fault}
 
 -- ---- reach
 

@@ -1,57 +1,35 @@
--- What the names of a query stand for, or the first that stands for nothing.
-use Rattle.std.specs.Prelude.{ℕ, List, [], ◌∷◌, map, Option, Some, None, Result, Ok, Err, if◌then◌else◌}
-use Rattle.value.specs.declared.refusal.Refusal.{Refusal}
-use Rattle.value.specs.declared.refusal.Refusal.TheVariants as r
-use Rattle.row_ast.specs.Ast as ast
+-- The names of a query that is supported, as places in its table.
+use Rattle.std.specs.Prelude.{ℕ, List, Option, Some, None, option_map, slice_get}
+use Rattle.std.specs.List.{filter_map}
 use Rattle.row_ast.specs.Ast.{Name}
 use Rattle.row_objects.specs.Objects.{Table}
-use Rattle.catalog.specs.Catalog.{Catalog, table_named, place_of, is_qualified}
-use Rattle.resolve.specs.declared.binding.NameFault.{NameFault}
-use Rattle.resolve.specs.Parts.{columns_of, tables_of}
-
--- a refusal, and the byte of the text where it is due
-abbrev pub fault : Refusal → ℕ → NameFault
-fault code offset = record { code = code; offset = offset }
-
-abbrev pub found_at : ℕ → Option ℕ → Result ℕ NameFault
-found_at offset None = Err (fault r.UndefinedColumn offset)
-found_at offset (Some place) = Ok place
-
--- the place of a column that a text names
-abbrev pub column_place : Table → ast.ColumnRef → Result ℕ NameFault
-column_place t c = if is_qualified t.name c.table then found_at c.offset (place_of t.columns c.name) else Err (fault r.UndefinedTable c.offset)
-
--- a place before those of the rest, or the first fault
-abbrev pub place_then : Result ℕ NameFault → Result (List ℕ) NameFault → Result (List ℕ) NameFault
-place_then (Err e) rest = Err e
-place_then (Ok place) (Err e) = Err e
-place_then (Ok place) (Ok places) = Ok (place ∷ places)
-
-abbrev pub places_of : Table → List ast.ColumnRef → Result (List ℕ) NameFault
-places_of t [] = Ok []
-places_of t (c ∷ columns) = place_then (column_place t c) (places_of t columns)
+use Rattle.resolve.specs.declared.reading.Mark.{Mark}
+use Rattle.resolve.specs.declared.reading.Mark.TheVariants as mark
+use Rattle.resolve.specs.Entries.{Entry}
+use Rattle.resolve.specs.Needed.{Names}
 
 -- a query whose names are places
 pub record Bound : Type 0 where
   pub table : Table
   pub places : List ℕ
-  -- the names of the columns, which are the headings
+  -- the headings, which are the names of the columns
   pub names : List Name
 
-abbrev pub bound_at : Table → List ast.ColumnRef → Result (List ℕ) NameFault → Result Bound NameFault
-bound_at t columns (Err e) = Err e
-bound_at t columns (Ok places) = Ok record { table = t; places = places; names = map (λ c. c.name) columns }
+abbrev pub place_in : Mark → Option ℕ
+place_in (mark.From entry) = None
+place_in (mark.Column id) = Some id.column
 
-abbrev pub bound_in : List ast.ColumnRef → ℕ → Option Table → Result Bound NameFault
-bound_in columns offset None = Err (fault r.UndefinedTable offset)
-bound_in columns offset (Some t) = bound_at t columns (places_of t columns)
+-- the places of the columns that are named, as written
+abbrev pub places_in : List Mark → List ℕ
+places_in marks = filter_map place_in marks
 
--- A query that is supported has one table. None at all, which no query of the grammar has, is not supported; and tables after
--- the first are not looked at.
-abbrev pub bound_from : Catalog → List ast.ColumnRef → List ast.TableRef → Result Bound NameFault
-bound_from cat columns [] = Err (fault r.FeatureNotSupported 0)
-bound_from cat columns (t ∷ more) = bound_in columns t.offset (table_named t.table cat)
+-- the name of the column at a place; each place that is found has one
+abbrev pub heading : Table → ℕ → Option Name
+heading t place = option_map (λ c. c.name) (slice_get t.columns place)
 
--- the table of FROM first, then the columns in written order
-abbrev pub resolved : Catalog → ast.Query → Result Bound NameFault
-resolved cat q = bound_from cat (columns_of q.select) (tables_of q.from)
+abbrev pub bound_in : List Mark → Entry → Bound
+bound_in marks e = record { table = e.table; places = places_in marks; names = filter_map (heading e.table) (places_in marks) }
+
+-- a query that is supported has one entry, and names columns in its items alone; no query of the grammar has none
+abbrev pub bound : Names → Option Bound
+bound n = option_map (bound_in n.marks) (slice_get n.entries 0)

@@ -6,7 +6,7 @@ use Rattle.row_ast.specs.Ast as ast
 use Rattle.row_objects.specs.Objects.{Table}
 use Rattle.catalog.specs.Catalog.{Catalog}
 use Rattle.access.specs.Access.{RequiredPrivilege, select_on}
-use Rattle.resolve.specs.declared.binding.NameFault.{NameFault}
+use Rattle.resolve.specs.declared.fault.NameFault.{NameFault}
 use Rattle.resolve.specs.declared.reading.Mark.{Mark}
 use Rattle.resolve.specs.declared.reading.Mark.TheVariants as mark
 use Rattle.resolve.specs.Entries.{and_then, Entry, entries}
@@ -65,15 +65,21 @@ required entries marks = filter_map (required_by entries marks) marks
 
 -- ---- the query
 
-abbrev pub needed_with : ast.Query → List Entry → Result (List RequiredPrivilege) NameFault
-needed_with q es = and_then (marks q es) (λ ms. Ok (required es ms))
+-- the names of a query, found: its entries, and what stands in it
+pub record Names : Type 0 where
+  pub entries : List Entry
+  pub marks : List Mark
 
--- what the query needs to read, in written order; or the first fault: of the entries of FROM, then of its columns
-abbrev pub needed : Catalog → ast.Query → Result (List RequiredPrivilege) NameFault
-needed cat q = and_then (entries cat q.from) (needed_with q)
+abbrev pub names_with : ast.Query → List Entry → Result Names NameFault
+names_with q es = and_then (marks q es) (λ ms. Ok record { entries = es; marks = ms })
 
-abbrev pub marks_in : Catalog → ast.Query → Result (List Mark) NameFault
-marks_in cat q = and_then (entries cat q.from) (marks q)
+-- the names of the query; or the first fault: of the entries of FROM, then of its columns as written
+abbrev pub found_names : Catalog → ast.Query → Result Names NameFault
+found_names cat q = and_then (entries cat q.from) (names_with q)
+
+-- what the query needs to read, in written order
+abbrev pub needed : Names → List RequiredPrivilege
+needed n = required n.entries n.marks
 
 abbrev pub fault_in : {X : Type 0} → Result X NameFault → Option NameFault
 fault_in (Ok x) = None
@@ -81,4 +87,4 @@ fault_in (Err e) = Some e
 
 -- the first fault of the names of the query
 abbrev pub first_name_fault : Catalog → ast.Query → Option NameFault
-first_name_fault cat q = fault_in (marks_in cat q)
+first_name_fault cat q = fault_in (found_names cat q)

@@ -1,8 +1,8 @@
--- What a required privilege of the program is.
-use Rattle.std.specs.Prelude.{option_map}
-use Rattle.row_objects.specs.View.{table_of}
-use Rattle.access.specs.Access.{RequiredPrivilege}
-use Rattle.resolve.specs.declared.reading.RequiredPrivilege as declared
+-- What the names of the program's queries are.
+use Rattle.std.specs.Prelude.{map}
+use Rattle.resolve.specs.EntryView.{entry_of}
+use Rattle.resolve.specs.declared.reading.Names as declared
+use Rattle.resolve.specs.Needed.{Names}
 
-abbrev pub privilege_of : {A : Type 0} → declared.RequiredPrivilege A → RequiredPrivilege
-privilege_of p = record { table = table_of p.table; column = option_map (λ c. c.now) p.column }
+abbrev pub names_of : {A : Type 0} → declared.Names A → Names
+names_of n = record { entries = map entry_of n.entries; marks = n.marks }

@@ -1,5 +1,5 @@
--- The queries that are supported yet, among those of the grammar: SELECT columns FROM table.
-use Rattle.std.specs.Prelude.{Bool, false, ◌&&◌, List, [], ◌∷◌, is_none, is_some}
+-- The queries that are supported yet, among those of the grammar: SELECT columns or * FROM table.
+use Rattle.std.specs.Prelude.{Bool, true, false, ◌&&◌, List, [], ◌∷◌, is_none, is_some}
 use Rattle.std.specs.List.{list_all}
 use Rattle.row_ast.specs.Ast as ast
 use Rattle.row_ast.specs.Ast.{column_in, is_empty}
@@ -9,12 +9,12 @@ abbrev pub is_served_item : ast.SelectItem → Bool
 is_served_item i = is_some (column_in i.value) && is_none i.alias
 
 abbrev pub is_served_select : ast.SelectList → Bool
-is_served_select (ast.All offset) = false
+is_served_select (ast.All offset) = true
 is_served_select (ast.Items items) = list_all is_served_item items
 
--- a table without alias, to which nothing is joined
+-- a table to which nothing is joined
 abbrev pub is_lone_table : ast.FromItem → Bool
-is_lone_table f = is_none f.first.alias && is_empty f.joins
+is_lone_table f = is_empty f.joins
 
 abbrev pub is_served_from : List ast.FromItem → Bool
 is_served_from [] = false

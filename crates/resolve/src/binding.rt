@@ -1,32 +1,18 @@
-//! The names of a query as places in a table.
+//! The names of a query that is supported, as places in its table.
 
-ghost use Rattle.std.specs.Prelude.{◌≡◌, IfOk, map};
-ghost use Rattle.memory.specs.Gives.{Gives};
-ghost use Rattle.row_ast.specs.View.{column_ref_of, query_of, select_item_of};
+ghost use Rattle.std.specs.Prelude.{◌≡◌, ◌++◌, IfOk, OnOk, option_map, option_to_list};
 ghost use Rattle.row_objects.specs.View.{table_of};
-ghost use Rattle.resolve.specs.Names.{bound_at, column_place, places_of, resolved};
-ghost use Rattle.resolve.specs.Parts.{columns_among};
+ghost use Rattle.resolve.specs.Names as spec;
+ghost use Rattle.resolve.specs.Names.{heading, place_in, places_in};
+ghost use Rattle.std.specs.List.{filter_map};
+ghost use Rattle.resolve.specs.NeededView.{names_of};
 ghost use Rattle.resolve.specs.View.{bound_of};
 
-use crate::parts::{first_table, item_column, items_of};
-use catalog::{Catalog, is_qualified, place};
-use memory::{Failure, Heap};
-use row_ast::{ColumnRef, Query, SelectItem};
+use crate::reading::{Mark, Names};
+use memory::Heap;
 use row_objects::Table;
 use std::alloc::AllocError;
 use text::{Items, Text};
-use thiserror::Error;
-use value::Refusal;
-
-/// A name that stands for nothing.
-#[derive(Clone, Copy, Debug, Error, PartialEq, Eq)]
-#[error("{code} at byte {offset}")]
-pub struct NameFault {
-    /// The refusal.
-    pub code: Refusal,
-    /// The byte of the text where it is due, from 0.
-    pub offset: u32,
-}
 
 /// A query whose names are places in a table.
 #[derive(Drop)]
@@ -39,74 +25,78 @@ pub struct Bound<'c, A: Heap> {
     pub names: Items<Text<A>, A>,
 }
 
-fn column_place<A: Heap>(table: Table<'_, A>, column: &ColumnRef<A>) -> Result<usize, NameFault>
-    ensures { result ≡ column_place (table_of table.entry) (column_ref_of column.now) }
+fn push_place<A: Heap>(places: &mut Items<usize, A>, mark: Mark) -> Result<(), AllocError>
+    ensures { OnOk result (places.new ≡ places.old ++ option_to_list (place_in mark)) }
 {
-    if !is_qualified(table.name(), &column.table) {
-        return Err(NameFault {
-            code: Refusal::UndefinedTable,
-            offset: column.offset,
-        });
-    }
-    match place(table.columns(), column.name.as_str()) {
-        Some(place) => Ok(place),
-        None => Err(NameFault {
-            code: Refusal::UndefinedColumn,
-            offset: column.offset,
-        }),
+    match mark {
+        Mark::From { .. } => Ok(()),
+        Mark::Column { id } => {
+            places.push(id.column)?;
+            Ok(())
+        }
     }
 }
 
-// The place of each column among the items, or the first fault.
-fn places<A: Heap>(
-    alloc: A,
-    table: Table<'_, A>,
-    items: &[SelectItem<A>],
-) -> Result<Items<usize, A>, Failure<NameFault>>
-    ensures { Gives (λ v. v) result (places_of (table_of table.entry) (columns_among (map (λ i. select_item_of i) items.now))) }
+fn places_in<A: Heap>(alloc: A, marks: &[Mark]) -> Result<Items<usize, A>, AllocError>
+    ensures { IfOk result (λ places. places ≡ places_in marks.now) }
 {
     let mut places = Items::new(alloc);
-    for item in items {
-        let column = match item_column(item) {
-            Some(column) => column,
-            None => continue,
-        };
-        match column_place(table, column) {
-            Ok(place) => places.push(place)?,
-            Err(fault) => return Err(Failure::Fault(fault)),
-        }
+    for mark in marks {
+        push_place(&mut places, *mark)?;
     }
     Ok(places)
 }
 
-// The name of each column among the items.
-fn names<A: Heap>(alloc: A, items: &[SelectItem<A>]) -> Result<Items<Text<A>, A>, AllocError>
-    ensures { IfOk result (λ names. names ≡ map (λ c. c.name) (columns_among (map (λ i. select_item_of i) items.now))) }
+fn heading<'c, A: Heap>(table: Table<'c, A>, place: usize) -> Option<&'c Text<A>>
+    ensures { option_map (λ name. name.now) result ≡ heading (table_of table.entry) place }
 {
-    let mut names = Items::new(alloc);
-    for item in items {
-        let column = match item_column(item) {
-            Some(column) => column,
-            None => continue,
-        };
-        names.push(Text::new(alloc, column.name.as_str())?)?;
+    match table.columns().get(place) {
+        Some(column) => Some(&column.name),
+        None => None,
     }
-    Ok(names)
 }
 
-// The columns among the items as places in a table.
-fn bind_columns<'c, A: Heap>(
+fn push_heading<A: Heap>(
+    alloc: A,
+    headings: &mut Items<Text<A>, A>,
+    name: Option<&Text<A>>,
+) -> Result<(), AllocError>
+    ensures { OnOk result (headings.new ≡ headings.old ++ option_to_list (option_map (λ n. n.now) name.entry)) }
+{
+    match name {
+        Some(name) => {
+            headings.push(Text::new(alloc, name.as_str())?)?;
+            Ok(())
+        }
+        None => Ok(()),
+    }
+}
+
+fn headings<A: Heap>(
+    alloc: A,
+    table: Table<'_, A>,
+    places: &[usize],
+) -> Result<Items<Text<A>, A>, AllocError>
+    ensures { IfOk result (λ headings. headings ≡ filter_map (heading (table_of table.entry)) places.now) }
+{
+    let mut headings = Items::new(alloc);
+    for place in places {
+        push_heading(alloc, &mut headings, heading(table, *place))?;
+    }
+    Ok(headings)
+}
+
+fn bound_in<'c, A: Heap>(
     alloc: A,
     table: Table<'c, A>,
-    items: &[SelectItem<A>],
-) -> Result<Bound<'c, A>, Failure<NameFault>>
-    ensures { Gives (λ b. bound_of b) result (bound_at (table_of table.entry) (columns_among (map (λ i. select_item_of i) items.now)) (places_of (table_of table.entry) (columns_among (map (λ i. select_item_of i) items.now)))) }
+    marks: &[Mark],
+) -> Result<Bound<'c, A>, AllocError>
+    ensures table { IfOk result (λ b. (bound_of b).table ≡ table_of table.entry) }
+    ensures places { IfOk result (λ b. (bound_of b).places ≡ places_in marks.now) }
+    ensures names { IfOk result (λ b. (bound_of b).names ≡ filter_map (heading (table_of table.entry)) (places_in marks.now)) }
 {
-    let places = match places(alloc, table, items) {
-        Ok(places) => places,
-        Err(failure) => return Err(failure),
-    };
-    let names = names(alloc, items)?;
+    let places = places_in(alloc, marks)?;
+    let names = headings(alloc, table, places.as_slice())?;
     Ok(Bound {
         table,
         places,
@@ -114,26 +104,13 @@ fn bind_columns<'c, A: Heap>(
     })
 }
 
-/// The query with its names resolved, or the first name that stands for nothing: the table of FROM, then the columns as
-/// written. It is asked of a query that is supported.
-pub fn bind<'c, A: Heap>(
-    alloc: A,
-    catalog: &'c Catalog<A>,
-    query: &Query<A>,
-) -> Result<Bound<'c, A>, Failure<NameFault>>
-    ensures { Gives (λ b. bound_of b) result (resolved catalog.now (query_of query.now)) }
+/// The places of the columns that a query names, in the table of its first entry; none where FROM has no entry, which no
+/// query of the grammar has. It is asked of a query that is supported.
+pub fn bind<'c, A: Heap>(alloc: A, names: &Names<'c, A>) -> Result<Option<Bound<'c, A>>, AllocError>
+    ensures { IfOk result (λ b. option_map (λ b. bound_of b) b ≡ spec.bound (names_of names.now)) }
 {
-    let Some(first) = first_table(query.from.as_slice()) else {
-        return Err(Failure::Fault(NameFault {
-            code: Refusal::FeatureNotSupported,
-            offset: 0,
-        }));
-    };
-    match catalog.table(first.table.as_str()) {
-        Some(table) => bind_columns(alloc, table, items_of(&query.select)),
-        None => Err(Failure::Fault(NameFault {
-            code: Refusal::UndefinedTable,
-            offset: first.offset,
-        })),
+    match names.entries.get(0) {
+        Some(entry) => Ok(Some(bound_in(alloc, entry.table, names.marks.as_slice())?)),
+        None => Ok(None),
     }
 }

@@ -7,7 +7,7 @@ ghost use Rattle.row_objects.specs.View.{table_of};
 ghost use Rattle.resolve.specs.Entries as spec;
 ghost use Rattle.resolve.specs.EntryView.{entry_of, joined_table_of};
 
-use crate::binding::NameFault;
+use crate::fault::NameFault;
 use catalog::Catalog;
 use memory::{Failure, Heap};
 use row_ast::{Condition, FromItem, Join, TableRef};

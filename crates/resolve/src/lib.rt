@@ -2,15 +2,16 @@
 #![tactic(auto)]
 
 mod binding;
+mod fault;
 mod from;
 mod lookup;
 mod naming;
-mod parts;
 mod reading;
 mod served;
 
-pub use binding::{Bound, NameFault, bind};
+pub use binding::{Bound, bind};
+pub use fault::NameFault;
 pub use from::{Entry, entries};
 pub use lookup::{ColumnId, Reach, find_column};
-pub use reading::{RequiredPrivilege, first_name_fault, needed};
+pub use reading::{Names, first_name_fault, found_names, needed};
 pub use served::is_served;

@@ -5,7 +5,7 @@ ghost use Rattle.row_ast.specs.View.{column_ref_of};
 ghost use Rattle.resolve.specs.EntryView.{entry_of};
 ghost use Rattle.resolve.specs.Lookup as spec;
 
-use crate::binding::NameFault;
+use crate::fault::NameFault;
 use crate::from::Entry;
 use catalog::{is_qualified, place};
 use memory::Heap;

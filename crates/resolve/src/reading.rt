@@ -5,21 +5,22 @@ ghost use Rattle.std.specs.List.{list_any};
 ghost use Rattle.memory.specs.Gives.{Gives};
 ghost use Rattle.value.specs.Columns.{column_of};
 ghost use Rattle.row_ast.specs.View.{query_of};
+ghost use Rattle.access.specs.View.{privilege_of};
 ghost use Rattle.resolve.specs.EntryView.{entry_of};
 ghost use Rattle.resolve.specs.MentionView.{mention_of};
 ghost use Rattle.resolve.specs.Needed as spec;
-ghost use Rattle.resolve.specs.NeededView.{privilege_of};
+ghost use Rattle.resolve.specs.NeededView.{names_of};
 
-use crate::binding::NameFault;
+use crate::fault::NameFault;
 use crate::from::{Entry, entries};
 use crate::lookup::{ColumnId, find_column};
 use crate::naming::{Mention, mentions};
+use access::RequiredPrivilege;
 use catalog::Catalog;
 use memory::{Failure, Heap};
 use row_ast::Query;
-use row_objects::Table;
 use std::alloc::AllocError;
-use text::{Items, Text};
+use text::Items;
 use value::Column;
 
 // What stands in a query, found.
@@ -31,13 +32,13 @@ pub(crate) enum Mark {
     Column { id: ColumnId },
 }
 
-/// SELECT on a column of a table, or on any part of it.
-#[derive(Clone, Copy)]
-pub struct RequiredPrivilege<'s, A: Heap> {
-    /// The table.
-    pub table: Table<'s, A>,
-    /// The column's name; none for any part of the table.
-    pub column: Option<&'s Text<A>>,
+/// The names of a query, found.
+#[derive(Drop)]
+pub struct Names<'s, A: Heap> {
+    // The entries of FROM.
+    pub(crate) entries: Items<Entry<'s, A>, A>,
+    // What stands in the query.
+    pub(crate) marks: Items<Mark, A>,
 }
 
 fn push_columns<A: Heap>(
@@ -205,41 +206,39 @@ fn required<'s, A: Heap>(
     Ok(required)
 }
 
-fn needed_with<'s, A: Heap>(
+fn names_with<'s, A: Heap>(
     alloc: A,
-    entries: &[Entry<'s, A>],
+    entries: Items<Entry<'s, A>, A>,
     query: &Query<A>,
-) -> Result<Items<RequiredPrivilege<'s, A>, A>, Failure<NameFault>>
-    ensures { Gives (λ required. map (λ p. privilege_of p) required) result (spec.needed_with (query_of query.now) (map (λ e. entry_of e) entries.now)) }
+) -> Result<Names<'s, A>, Failure<NameFault>>
+    ensures { Gives (λ names. names_of names) result (spec.names_with (query_of query.now) (map (λ e. entry_of e) entries.entry)) }
 {
-    let marks = marks(alloc, entries, query)?;
-    Ok(required(alloc, entries, marks.as_slice())?)
+    let marks = marks(alloc, entries.as_slice(), query)?;
+    Ok(Names { entries, marks })
 }
 
-/// What a query needs to read, in written order: of each column that it names SELECT on the column, at a `*` on all
-/// columns of all entries, and at an entry of which no column is named on any part of its table. Or the first fault of
-/// its names: of the entries of FROM, then of its columns as written.
-pub fn needed<'s, A: Heap>(
+/// The names of a query, or the first fault: of the entries of FROM, then of its columns as written (PostgreSQL: FROM
+/// Clause; Column References).
+pub fn found_names<'s, A: Heap>(
     alloc: A,
     catalog: &'s Catalog<A>,
     query: &'s Query<A>,
-) -> Result<Items<RequiredPrivilege<'s, A>, A>, Failure<NameFault>>
-    ensures { Gives (λ required. map (λ p. privilege_of p) required) result (spec.needed catalog.now (query_of query.now)) }
+) -> Result<Names<'s, A>, Failure<NameFault>>
+    ensures { Gives (λ names. names_of names) result (spec.found_names catalog.now (query_of query.now)) }
 {
     let entries = entries(alloc, catalog, query.from.as_slice())?;
-    needed_with(alloc, entries.as_slice(), query)
+    names_with(alloc, entries, query)
 }
 
-// The marks of a query in a catalogue, or the first fault.
-fn marks_in<A: Heap>(
+/// What a query needs to read, in written order: of each column that it names SELECT on the column, at a `*` on all
+/// columns of all entries, and at an entry of which no column is named on any part of its table.
+pub fn needed<'s, A: Heap>(
     alloc: A,
-    catalog: &Catalog<A>,
-    query: &Query<A>,
-) -> Result<Items<Mark, A>, Failure<NameFault>>
-    ensures { Gives (λ marks. marks) result (spec.marks_in catalog.now (query_of query.now)) }
+    names: &Names<'s, A>,
+) -> Result<Items<RequiredPrivilege<'s, A>, A>, AllocError>
+    ensures { IfOk result (λ required. map (λ p. privilege_of p) required ≡ spec.needed (names_of names.now)) }
 {
-    let entries = entries(alloc, catalog, query.from.as_slice())?;
-    marks(alloc, entries.as_slice(), query)
+    required(alloc, names.entries.as_slice(), names.marks.as_slice())
 }
 
 /// The first fault of the names of a query: of the entries of FROM, then of its columns as written.
@@ -250,7 +249,7 @@ pub fn first_name_fault<A: Heap>(
 ) -> Result<Option<NameFault>, AllocError>
     ensures { IfOk result (λ fault. fault ≡ spec.first_name_fault catalog.now (query_of query.now)) }
 {
-    match marks_in(alloc, catalog, query) {
+    match found_names(alloc, catalog, query) {
         Ok(_) => Ok(None),
         Err(Failure::Fault(fault)) => Ok(Some(fault)),
         Err(Failure::OutOfMemory) => Err(AllocError),

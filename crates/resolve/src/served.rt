@@ -5,14 +5,13 @@ ghost use Rattle.std.specs.List.{list_all};
 ghost use Rattle.row_ast.specs.View.{from_item_of, query_of, select_item_of, select_list_of};
 ghost use Rattle.resolve.specs.Served as spec;
 
-use crate::parts::item_column;
 use memory::Heap;
-use row_ast::{FromItem, Query, SelectItem, SelectList};
+use row_ast::{FromItem, Query, SelectItem, SelectList, column_in};
 
 fn is_served_item<A: Heap>(item: &SelectItem<A>) -> bool
     ensures { result ≡ spec.is_served_item (select_item_of item.now) }
 {
-    item_column(item).is_some() && item.alias.is_none()
+    column_in(&item.value).is_some() && item.alias.is_none()
 }
 
 fn are_served_items<A: Heap>(items: &[SelectItem<A>]) -> bool
@@ -30,7 +29,7 @@ fn is_served_select<A: Heap>(select: &SelectList<A>) -> bool
     ensures { result ≡ spec.is_served_select (select_list_of select.now) }
 {
     match select {
-        SelectList::All { .. } => false,
+        SelectList::All { .. } => true,
         SelectList::Items(items) => are_served_items(items.as_slice()),
     }
 }
@@ -38,7 +37,7 @@ fn is_served_select<A: Heap>(select: &SelectList<A>) -> bool
 fn is_lone_table<A: Heap>(item: &FromItem<A>) -> bool
     ensures { result ≡ spec.is_lone_table (from_item_of item.now) }
 {
-    item.first.alias.is_none() && item.joins.as_slice().is_empty()
+    item.joins.as_slice().is_empty()
 }
 
 fn is_served_from<A: Heap>(from: &[FromItem<A>]) -> bool
@@ -61,7 +60,7 @@ fn has_no_clauses<A: Heap>(query: &Query<A>) -> bool
         && query.limit.is_none()
 }
 
-/// Whether the query is supported yet: `SELECT columns FROM table`.
+/// Whether the query is supported yet: `SELECT columns FROM table`, or `*` for the columns.
 pub fn is_served<A: Heap>(query: &Query<A>) -> bool
     ensures { result ≡ spec.is_served (query_of query.now) }
 {

@@ -1,13 +1,4 @@
-use Rattle.std.proofs.Common.{map}
-use Rattle.row_ast.specs.View.{query_of}
-use Rattle.resolve.specs.Entries.{entries}
-use Rattle.resolve.specs.EntryView.{entry_of}
-use Rattle.resolve.specs.Needed.{needed_with}
-use Rattle.resolve.specs.NeededView.{privilege_of}
-use Rattle.resolve.proofs.Found.{given}
 use Rattle.resolve.proofs.reading.needed.Goals as goal
 
 pub returns : goal.returns
-returns g c =
-    given (λ ps. map (λ p. privilege_of p) ps) c.needed_with.result (entries c.args.catalog.now (query_of c.args.query.now).from) (map (λ e. entry_of e) c.in_ok-entries.entries) (needed_with (query_of c.args.query.now))
-    (rw c.as_slice.ensures at c.in_ok-entries.ensures) (rw c.as_slice-2.ensures at c.needed_with.ensures)
+returns g c = rw (c.as_slice.ensures, c.as_slice-2.ensures) at c.required.ensures

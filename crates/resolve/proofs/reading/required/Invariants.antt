@@ -2,7 +2,7 @@ use Rattle.std.proofs.Common.{◌≡◌, ◌++◌, drop, map}
 use Rattle.std.specs.List.{filter_map}
 use Rattle.resolve.specs.EntryView.{entry_of}
 use Rattle.resolve.specs.Needed.{required_by, required}
-use Rattle.resolve.specs.NeededView.{privilege_of}
+use Rattle.access.specs.View.{privilege_of}
 use Rattle.resolve.proofs.reading.required.Given as goal
 
 abbrev pub invariant-loop-mark : goal.invariant-loop-mark

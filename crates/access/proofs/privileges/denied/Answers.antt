@@ -1,0 +1,7 @@
+use Rattle.access.specs.View.{privilege_of}
+use Rattle.access.proofs.Passed.{passed}
+use Rattle.access.proofs.privileges.denied.Goals as goal
+
+pub loop-privilege-preserved : goal.loop-privilege-preserved
+loop-privilege-preserved g c =
+    passed c.args.catalog.now c.args.role.now (λ p. privilege_of p) c.args.needed.now c.loop-privilege.privilege-index c.privilege-item.result c.loop-privilege-test.true c.privilege-item.is _ c.loop-privilege.invariant (cc)

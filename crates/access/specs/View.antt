@@ -1,0 +1,8 @@
+-- What a required privilege of the program is.
+use Rattle.std.specs.Prelude.{option_map}
+use Rattle.row_objects.specs.View.{table_of}
+use Rattle.access.specs.Access.{RequiredPrivilege}
+use Rattle.access.specs.declared.privileges.RequiredPrivilege as declared
+
+abbrev pub privilege_of : {A : Type 0} → declared.RequiredPrivilege A → RequiredPrivilege
+privilege_of p = record { table = table_of p.table; column = option_map (λ c. c.now) p.column }
