@@ -13,12 +13,13 @@ use Rattle.syntax.specs.Parsing.{parsed_query}
 use Rattle.syntax.specs.declared.fault.ParseError.{ParseError}
 use Rattle.catalog.specs.Catalog.{Catalog, is_role}
 use Rattle.access.specs.Access.{RequiredPrivilege, denial, cell, visible}
-use Rattle.resolve.specs.declared.binding.NameFault.{NameFault}
-use Rattle.resolve.specs.Names.{Bound, resolved}
+use Rattle.resolve.specs.declared.fault.NameFault.{NameFault}
+use Rattle.resolve.specs.Names.{Bound, bound}
+use Rattle.resolve.specs.Needed.{Names, found_names, needed}
 use Rattle.resolve.specs.Served.{is_served}
 use Rattle.report.specs.Reply.{Refused, Rows as RowsReply}
 use Rattle.engine.specs.Database.{Rows}
-use Rattle.engine.specs.Answer.{items_of, answer, required, denied_or_rows, bound_reply, query_reply, parsed_reply, reply_to}
+use Rattle.engine.specs.Answer.{items_of, answer, rows_reply, served_reply, granted_reply, named_reply, query_reply, parsed_reply, reply_to}
 use Rattle.engine.specs.Hidden.{kept_from, restricted, SeesSame}
 
 -- a column that is kept is as it was
@@ -69,31 +70,40 @@ same_answer cat role b one other same =
     (subst₂ IsPermutation (items_of_all b.places (visible cat role b.table (one b.table.name))) (items_of_all b.places (visible cat role b.table (other b.table.name)))
     (IsPermutation-map (items_of b.places) _ _ same))
 
-same_rows : (cat : Catalog) (role : Name) (b : Bound) (one other : Rows) (no : Option RequiredPrivilege) →
-    (no ≡ None → answer cat one role b ≡ answer cat other role b) → denied_or_rows cat one role b no ≡ denied_or_rows cat other role b no
-same_rows cat role b one other (Some privilege) same = refl
-same_rows cat role b one other None same = ap (RowsReply b.names) (same refl)
+same_rows : (cat : Catalog) (role : Name) (one other : Rows) (bound : Option Bound) →
+    ((b : Bound) → bound ≡ Some b → answer cat one role b ≡ answer cat other role b) → rows_reply cat one role bound ≡ rows_reply cat other role bound
+same_rows cat role one other None same = refl
+same_rows cat role one other (Some b) same = ap (RowsReply b.names) (same b refl)
 
-same_bound : (cat : Catalog) (role : Name) (one other : Rows) (bound : Result Bound NameFault) →
-    ((b : Bound) → bound ≡ Ok b → denial cat role (required b) ≡ None → answer cat one role b ≡ answer cat other role b) →
-    bound_reply cat one role bound ≡ bound_reply cat other role bound
-same_bound cat role one other (Err e) same = refl
-same_bound cat role one other (Ok b) same = same_rows cat role b one other (denial cat role (required b)) (same b refl)
+same_served : (cat : Catalog) (role : Name) (one other : Rows) (q : Query) (n : Names) →
+    ((b : Bound) → is_served q ≡ true → bound n ≡ Some b → answer cat one role b ≡ answer cat other role b) → served_reply cat one role q n ≡ served_reply cat other role q n
+same_served cat role one other q n same = go (is_served q) refl
+  where
+    go : (s : Bool) → is_served q ≡ s → cond s (rows_reply cat one role (bound n)) (Refused FeatureNotSupported None) ≡ cond s (rows_reply cat other role (bound n)) (Refused FeatureNotSupported None)
+    go true served = same_rows cat role one other (bound n) (λ b is. same b served is)
+    go false not_served = refl
+
+same_granted : (cat : Catalog) (role : Name) (one other : Rows) (q : Query) (n : Names) (no : Option RequiredPrivilege) →
+    (no ≡ None → served_reply cat one role q n ≡ served_reply cat other role q n) → granted_reply cat one role q n no ≡ granted_reply cat other role q n no
+same_granted cat role one other q n (Some privilege) same = refl
+same_granted cat role one other q n None same = same refl
+
+same_named : (cat : Catalog) (role : Name) (one other : Rows) (q : Query) (found : Result Names NameFault) →
+    ((n : Names) → found ≡ Ok n → denial cat role (needed n) ≡ None → served_reply cat one role q n ≡ served_reply cat other role q n) → named_reply cat one role q found ≡ named_reply cat other role q found
+same_named cat role one other q (Err e) same = refl
+same_named cat role one other q (Ok n) same = same_granted cat role one other q n (denial cat role (needed n)) (same n refl)
 
 same_query : (cat : Catalog) (role : Name) (one other : Rows) (q : Query) →
-    ((b : Bound) → is_served q ≡ true → resolved cat q ≡ Ok b → denial cat role (required b) ≡ None → answer cat one role b ≡ answer cat other role b) →
+    ((n : Names) (b : Bound) → found_names cat q ≡ Ok n → denial cat role (needed n) ≡ None → is_served q ≡ true → bound n ≡ Some b → answer cat one role b ≡ answer cat other role b) →
     query_reply cat one role q ≡ query_reply cat other role q
-same_query cat role one other q same = go (is_served q) refl
-  where
-    go : (b : Bool) → is_served q ≡ b → cond b (bound_reply cat one role (resolved cat q)) (Refused FeatureNotSupported None) ≡ cond b (bound_reply cat other role (resolved cat q)) (Refused FeatureNotSupported None)
-    go true served = same_bound cat role one other (resolved cat q) (λ b bound granted. same b served bound granted)
-    go false not_served = refl
+same_query cat role one other q same =
+    same_named cat role one other q (found_names cat q) (λ n found granted. same_served cat role one other q n (λ b served is. same n b found granted served is))
 
 same_parsed : (cat : Catalog) (role : Name) (text : List ℕ) (one other : Rows) (parsed : Result Query ParseError) → parsed_query text ≡ parsed →
     SeesSame cat role text one other → parsed_reply cat one role parsed ≡ parsed_reply cat other role parsed
 same_parsed cat role text one other (Err e) is same = refl
 same_parsed cat role text one other (Ok q) is same =
-    same_query cat role one other q (λ b served bound granted. same_answer cat role b one other (same q b is served bound granted))
+    same_query cat role one other q (λ n b found granted served bound. same_answer cat role b one other (same q n b is found granted served bound))
 
 -- what the role does not see makes no difference
 pub same_reply : (cat : Catalog) (role : Name) (text : List ℕ) (one other : Rows) → SeesSame cat role text one other → reply_to cat one role text ≡ reply_to cat other role text

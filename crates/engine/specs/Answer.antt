@@ -9,9 +9,10 @@ use Rattle.syntax.specs.Parsing.{parsed_query}
 use Rattle.syntax.specs.declared.fault.ParseError.{ParseError}
 use Rattle.syntax.specs.declared.fault.ParseError.TheVariants as parsing
 use Rattle.catalog.specs.Catalog.{Catalog, is_role}
-use Rattle.access.specs.Access.{RequiredPrivilege, cell, denial, select_on, visible}
-use Rattle.resolve.specs.declared.binding.NameFault.{NameFault}
-use Rattle.resolve.specs.Names.{Bound, resolved}
+use Rattle.access.specs.Access.{RequiredPrivilege, cell, denial, visible}
+use Rattle.resolve.specs.declared.fault.NameFault.{NameFault}
+use Rattle.resolve.specs.Names.{Bound, bound}
+use Rattle.resolve.specs.Needed.{Names, found_names, needed}
 use Rattle.resolve.specs.Served.{is_served}
 use Rattle.report.specs.Reply as reply
 use Rattle.report.specs.Reply.{Reply}
@@ -25,21 +26,28 @@ items_of places row = map (cell row) places
 abbrev pub answer : Catalog → Rows → Name → Bound → List Row
 answer cat rows role b = sorted_by row_cmp (map (items_of b.places) (visible cat role b.table (rows b.table.name)))
 
--- SELECT on each column, in written order
-abbrev pub required : Bound → List RequiredPrivilege
-required b = map (select_on b.table) b.names
+-- the rows of a query that is supported; no query of the grammar has no entry
+abbrev pub rows_reply : Catalog → Rows → Name → Option Bound → Reply
+rows_reply cat rows role None = reply.Refused r.FeatureNotSupported None
+rows_reply cat rows role (Some b) = reply.Rows b.names (answer cat rows role b)
 
-abbrev pub denied_or_rows : Catalog → Rows → Name → Bound → Option RequiredPrivilege → Reply
-denied_or_rows cat rows role b (Some privilege) = reply.Denied privilege.column privilege.table.name
-denied_or_rows cat rows role b None = reply.Rows b.names (answer cat rows role b)
+abbrev pub served_reply : Catalog → Rows → Name → Query → Names → Reply
+served_reply cat rows role q n = if is_served q then rows_reply cat rows role (bound n) else reply.Refused r.FeatureNotSupported None
 
-abbrev pub bound_reply : Catalog → Rows → Name → Result Bound NameFault → Reply
-bound_reply cat rows role (Err e) = reply.Refused e.code (Some e.offset)
-bound_reply cat rows role (Ok b) = denied_or_rows cat rows role b (denial cat role (required b))
+abbrev pub denied_reply : RequiredPrivilege → Reply
+denied_reply privilege = reply.Denied privilege.column privilege.table.name
 
--- what is not supported yet is refused before its names
+abbrev pub granted_reply : Catalog → Rows → Name → Query → Names → Option RequiredPrivilege → Reply
+granted_reply cat rows role q n (Some privilege) = denied_reply privilege
+granted_reply cat rows role q n None = served_reply cat rows role q n
+
+abbrev pub named_reply : Catalog → Rows → Name → Query → Result Names NameFault → Reply
+named_reply cat rows role q (Err e) = reply.Refused e.code (Some e.offset)
+named_reply cat rows role q (Ok n) = granted_reply cat rows role q n (denial cat role (needed n))
+
+-- the first fault of its names, the first privilege that is missing, that it is not supported yet, or the rows
 abbrev pub query_reply : Catalog → Rows → Name → Query → Reply
-query_reply cat rows role q = if is_served q then bound_reply cat rows role (resolved cat q) else reply.Refused r.FeatureNotSupported None
+query_reply cat rows role q = named_reply cat rows role q (found_names cat q)
 
 abbrev pub fault_reply : ParseError → Reply
 fault_reply (parsing.Syntax offset) = reply.Refused r.SyntaxError (Some offset)

@@ -1,6 +1,6 @@
 //! Asking.
 
-ghost use Rattle.std.specs.Prelude.{◌≡◌, IfOk, Ok, None, map};
+ghost use Rattle.std.specs.Prelude.{◌≡◌, IfOk, Ok, None, Some, map, option_map};
 ghost use Rattle.bags.specs.Sorting.{sorted_by};
 ghost use Rattle.value.specs.Datum.{row_of};
 ghost use Rattle.value.specs.Orders.{row_cmp};
@@ -8,19 +8,22 @@ ghost use Rattle.row_ast.specs.View.{query_of};
 ghost use Rattle.row_objects.specs.View.{table_of};
 ghost use Rattle.syntax.specs.Parsing.{parsed_query};
 ghost use Rattle.access.specs.Access.{visible};
-ghost use Rattle.resolve.specs.Names.{resolved};
+ghost use Rattle.access.specs.View.{privilege_of};
+ghost use Rattle.resolve.specs.NeededView.{names_of};
 ghost use Rattle.resolve.specs.View.{bound_of};
+ghost use Rattle.report.specs.Reply as reply;
+ghost use Rattle.value.specs.declared.refusal.Refusal.TheVariants as codes;
 ghost use Rattle.report.specs.View.{reply_of};
 ghost use Rattle.engine.specs.Database.{rows_of};
-ghost use Rattle.engine.specs.Answer.{reply_to, parsed_reply, query_reply, bound_reply, denied_or_rows, fault_reply, items_of};
+ghost use Rattle.engine.specs.Answer.{reply_to, parsed_reply, query_reply, named_reply, served_reply, denied_reply, rows_reply, fault_reply, items_of};
 ghost use Rattle.engine.specs.Serving.{IsReply};
 
 use crate::answer::answer_rows;
 use crate::store::{Store, contents_of};
-use access::denial;
+use access::{RequiredPrivilege, denied};
 use memory::{Failure, Heap};
 use report::Reply;
-use resolve::{Bound, bind, is_served};
+use resolve::{Bound, Names, bind, found_names, is_served, needed};
 use row_ast::Query;
 use row_objects::Table;
 use std::alloc::AllocError;
@@ -45,14 +48,14 @@ fn rows_seen<A: Heap>(
     }
 }
 
-// The rows of a query whose names are resolved.
-fn answer_granted<A: Heap>(
+// The rows of a query that is supported.
+fn answer_bound<A: Heap>(
     alloc: A,
     store: &Store<A>,
     role: &str,
     bound: Bound<'_, A>,
 ) -> Result<Reply<A>, AllocError>
-    ensures { IfOk result (λ reply. reply_of reply ≡ denied_or_rows store.now.catalog (rows_of store.now) role.now (bound_of bound.entry) None) }
+    ensures { IfOk result (λ reply. reply_of reply ≡ rows_reply store.now.catalog (rows_of store.now) role.now (Some (bound_of bound.entry))) }
 {
     let rows = rows_seen(alloc, store, role, bound.table, bound.places.as_slice())?;
     Ok(Reply::Rows {
@@ -61,48 +64,72 @@ fn answer_granted<A: Heap>(
     })
 }
 
-// The rows of a query whose names are resolved, or its denial.
-fn answer_bound<A: Heap>(
-    alloc: A,
-    store: &Store<A>,
-    role: &str,
-    bound: Bound<'_, A>,
-) -> Result<Reply<A>, AllocError>
-    ensures { IfOk result (λ reply. reply_of reply ≡ bound_reply store.now.catalog (rows_of store.now) role.now (Ok (bound_of bound.entry))) }
+fn not_supported<A: Heap>() -> Reply<A>
+    ensures { reply_of result ≡ reply.Refused codes.FeatureNotSupported None }
 {
-    match denial(&store.catalog, role, bound.table, bound.names.as_slice()) {
-        Some(column) => {
-            let column = Text::new(alloc, column.as_str())?;
-            let table = Text::new(alloc, bound.table.name())?;
-            Ok(Reply::Denied {
-                column: Some(column),
-                table,
-            })
-        }
-        None => answer_granted(alloc, store, role, bound),
+    Reply::Refused {
+        code: Refusal::FeatureNotSupported,
+        offset: None,
     }
 }
 
-// The reply to a query that is supported.
-fn answer_served<A: Heap>(
+// The rows of a query whose privileges are granted; what is not supported yet is refused.
+fn answer_granted<A: Heap>(
     alloc: A,
     store: &Store<A>,
     role: &str,
     query: &Query<A>,
+    names: &Names<'_, A>,
 ) -> Result<Reply<A>, AllocError>
-    ensures { IfOk result (λ reply. reply_of reply ≡ bound_reply store.now.catalog (rows_of store.now) role.now (resolved store.now.catalog (query_of query.now))) }
+    ensures { IfOk result (λ reply. reply_of reply ≡ served_reply store.now.catalog (rows_of store.now) role.now (query_of query.now) (names_of names.now)) }
 {
-    match bind(alloc, &store.catalog, query) {
-        Ok(bound) => answer_bound(alloc, store, role, bound),
-        Err(Failure::Fault(fault)) => Ok(Reply::Refused {
-            code: fault.code,
-            offset: Some(fault.offset),
-        }),
-        Err(Failure::OutOfMemory) => Err(AllocError),
+    if !is_served(query) {
+        return Ok(not_supported());
+    }
+    match bind(alloc, names)? {
+        Some(bound) => answer_bound(alloc, store, role, bound),
+        None => Ok(not_supported()),
     }
 }
 
-// The reply to a query; what is not supported yet is refused before its names.
+fn copy_name<A: Heap>(alloc: A, name: Option<&Text<A>>) -> Result<Option<Text<A>>, AllocError>
+    ensures { IfOk result (λ copy. copy ≡ option_map (λ n. n.now) name.entry) }
+{
+    match name {
+        Some(name) => Ok(Some(Text::new(alloc, name.as_str())?)),
+        None => Ok(None),
+    }
+}
+
+fn answer_denied<A: Heap>(
+    alloc: A,
+    privilege: RequiredPrivilege<'_, A>,
+) -> Result<Reply<A>, AllocError>
+    ensures { IfOk result (λ reply. reply_of reply ≡ denied_reply (privilege_of privilege.entry)) }
+{
+    let column = copy_name(alloc, privilege.column)?;
+    let table = Text::new(alloc, privilege.table.name())?;
+    Ok(Reply::Denied { column, table })
+}
+
+// The denial of a query whose names are found, or its rows.
+fn answer_named<A: Heap>(
+    alloc: A,
+    store: &Store<A>,
+    role: &str,
+    query: &Query<A>,
+    names: &Names<'_, A>,
+) -> Result<Reply<A>, AllocError>
+    ensures { IfOk result (λ reply. reply_of reply ≡ named_reply store.now.catalog (rows_of store.now) role.now (query_of query.now) (Ok (names_of names.now))) }
+{
+    let needed = needed(alloc, names)?;
+    match denied(&store.catalog, role, needed.as_slice()) {
+        Some(privilege) => answer_denied(alloc, privilege),
+        None => answer_granted(alloc, store, role, query, names),
+    }
+}
+
+// The reply to a query: the first fault of its names, the first privilege that is missing, or its rows.
 fn answer_query<A: Heap>(
     alloc: A,
     store: &Store<A>,
@@ -111,13 +138,13 @@ fn answer_query<A: Heap>(
 ) -> Result<Reply<A>, AllocError>
     ensures { IfOk result (λ reply. reply_of reply ≡ query_reply store.now.catalog (rows_of store.now) role.now (query_of query.now)) }
 {
-    if is_served(query) {
-        answer_served(alloc, store, role, query)
-    } else {
-        Ok(Reply::Refused {
-            code: Refusal::FeatureNotSupported,
-            offset: None,
-        })
+    match found_names(alloc, &store.catalog, query) {
+        Ok(names) => answer_named(alloc, store, role, query, &names),
+        Err(Failure::Fault(fault)) => Ok(Reply::Refused {
+            code: fault.code,
+            offset: Some(fault.offset),
+        }),
+        Err(Failure::OutOfMemory) => Err(AllocError),
     }
 }
 
