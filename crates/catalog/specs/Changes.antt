@@ -16,6 +16,7 @@ use Rattle.catalog.specs.RowSecurity.{checks_row_security, after_row_security}
 use Rattle.catalog.specs.GrantSelect.{checks_select, after_grant_select}
 use Rattle.catalog.specs.RevokeSelect.{after_revoke_select}
 use Rattle.catalog.specs.CreatePolicy.{equation_in, checks_create_policy, after_create_policy}
+use Rattle.catalog.specs.DropPolicy.{checks_drop_policy, after_drop_policy}
 
 -- ---- what is supported
 
@@ -34,7 +35,7 @@ is_supported cat (GrantSelect grant) = true
 is_supported cat (RevokeSelect grant) = true
 is_supported cat (CreatePolicy policy) = is_supported_policy cat policy
 is_supported cat (CreateIndex name table column) = false
-is_supported cat (DropPolicy name table) = false
+is_supported cat (DropPolicy name table) = true
 
 -- ---- statements
 
@@ -49,6 +50,7 @@ checks cat actor (SetRowSecurity table setting) = checks_row_security cat actor 
 checks cat actor (GrantSelect grant) = checks_select cat actor grant
 checks cat actor (RevokeSelect grant) = checks_select cat actor grant
 checks cat actor (CreatePolicy policy) = checks_create_policy cat actor policy
+checks cat actor (DropPolicy name table) = checks_drop_policy cat actor name table
 checks cat actor _ = []
 
 -- the catalogue after a statement that is not refused; one that is not supported does not come this far
@@ -62,6 +64,7 @@ after cat actor (SetRowSecurity table setting) = after_row_security cat table se
 after cat actor (GrantSelect grant) = after_grant_select cat grant
 after cat actor (RevokeSelect grant) = after_revoke_select cat grant
 after cat actor (CreatePolicy policy) = after_create_policy cat policy
+after cat actor (DropPolicy name table) = after_drop_policy cat name table
 after cat actor _ = cat
 
 -- the catalogue after a statement, or its refusal: that it is not supported comes first, then that the actor is no role

@@ -34,14 +34,15 @@ fn is_supported<A: Heap>(catalog: &Catalog<A>, statement: &Statement<A>) -> bool
         | Statement::SetOwner { .. }
         | Statement::SetRowSecurity { .. }
         | Statement::GrantSelect(_)
-        | Statement::RevokeSelect(_) => true,
+        | Statement::RevokeSelect(_)
+        | Statement::DropPolicy { .. } => true,
         Statement::CreatePolicy(policy) => is_supported_policy(catalog, policy),
-        Statement::CreateIndex { .. } | Statement::DropPolicy { .. } => false,
+        Statement::CreateIndex { .. } => false,
     }
 }
 
 impl<A: Heap> Catalog<A> {
-    // A statement that is supported, of an actor that is a role: none of the last variants.
+    // A statement that is supported, of an actor that is a role: not the last variant.
     fn apply_supported(&mut self, actor: &str, statement: &Statement<A>) -> Result<(), Refusal>
         ensures { IsChange self.old self.new (unless (first_refusal (checks self.old actor.now (statement_of statement.now))) (after self.old actor.now (statement_of statement.now))) result }
     {
@@ -69,7 +70,10 @@ impl<A: Heap> Catalog<A> {
             Statement::GrantSelect(grant) => self.grant_select(actor, grant),
             Statement::RevokeSelect(grant) => self.revoke_select(actor, grant),
             Statement::CreatePolicy(policy) => self.create_policy(actor, policy),
-            Statement::CreateIndex { .. } | Statement::DropPolicy { .. } => Ok(()),
+            Statement::DropPolicy { name, table } => {
+                self.drop_policy(actor, name.as_str(), table.as_str())
+            }
+            Statement::CreateIndex { .. } => Ok(()),
         }
     }
 

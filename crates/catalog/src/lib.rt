@@ -7,6 +7,7 @@ mod copies;
 mod create_policy;
 mod create_role;
 mod create_table;
+mod drop_policy;
 mod grant_role;
 mod grant_select;
 mod laws;
