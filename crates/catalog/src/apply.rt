@@ -27,22 +27,13 @@ fn is_supported<A: Heap>(catalog: &Catalog<A>, statement: &Statement<A>) -> bool
     ensures { result ≡ is_supported catalog.now (statement_of statement.now) }
 {
     match statement {
-        Statement::CreateRole { .. }
-        | Statement::GrantRole { .. }
-        | Statement::RevokeRole { .. }
-        | Statement::CreateTable { .. }
-        | Statement::SetOwner { .. }
-        | Statement::SetRowSecurity { .. }
-        | Statement::GrantSelect(_)
-        | Statement::RevokeSelect(_)
-        | Statement::DropPolicy { .. } => true,
         Statement::CreatePolicy(policy) => is_supported_policy(catalog, policy),
-        Statement::CreateIndex { .. } => false,
+        _ => true,
     }
 }
 
 impl<A: Heap> Catalog<A> {
-    // A statement that is supported, of an actor that is a role: not the last variant.
+    // A statement that is supported, of an actor that is a role.
     fn apply_supported(&mut self, actor: &str, statement: &Statement<A>) -> Result<(), Refusal>
         ensures { IsChange self.old self.new (unless (first_refusal (checks self.old actor.now (statement_of statement.now))) (after self.old actor.now (statement_of statement.now))) result }
     {
@@ -73,7 +64,11 @@ impl<A: Heap> Catalog<A> {
             Statement::DropPolicy { name, table } => {
                 self.drop_policy(actor, name.as_str(), table.as_str())
             }
-            Statement::CreateIndex { .. } => Ok(()),
+            Statement::CreateIndex {
+                name,
+                table,
+                column,
+            } => self.create_index(actor, name.as_str(), table.as_str(), column.as_str()),
         }
     }
 

@@ -4,6 +4,7 @@
 mod apply;
 mod catalog;
 mod copies;
+mod create_index;
 mod create_policy;
 mod create_role;
 mod create_table;

@@ -5,4 +5,5 @@ pub mod Memberships
 pub mod Reached
 pub mod Grants
 pub mod Policies
+pub mod Indexes
 pub mod View
