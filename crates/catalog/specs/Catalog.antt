@@ -6,6 +6,7 @@ use Rattle.value.specs.Columns.{Column}
 use Rattle.row_ast.specs.Ast.{Name, everyone}
 use Rattle.row_objects.specs.Objects.{Membership, Role, Table}
 use Rattle.row_objects.specs.Memberships.{belongs_by}
+use Rattle.row_objects.specs.Indexes.{any_index}
 
 -- roles, memberships and tables, each in order of creation
 pub record Catalog : Type 0 where
@@ -55,6 +56,13 @@ table_named name cat = find (λ t. bytes_eq name t.name) cat.tables
 -- the place of the table of that name, from 0
 abbrev pub table_place : Name → Catalog → Option ℕ
 table_place name cat = position_from (λ t. bytes_eq name t.name) 0 cat.tables
+
+abbrev pub is_table : Catalog → Name → Bool
+is_table cat name = is_some (table_named name cat)
+
+-- one of the tables has an index of that name
+abbrev pub is_index : Catalog → Name → Bool
+is_index cat name = any_index name cat.tables
 
 -- the actor is a superuser, or belongs to the owner
 abbrev pub owns : Catalog → Name → Table → Bool

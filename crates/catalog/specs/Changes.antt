@@ -1,5 +1,5 @@
 -- What schema statements change, and which are supported.
-use Rattle.std.specs.Prelude.{◌≡◌, ◌⊎◌, Bool, true, false, not, ◌&&◌, List, [], ◌∷◌, is_some, Result, Ok, Err}
+use Rattle.std.specs.Prelude.{◌≡◌, ◌⊎◌, Bool, true, not, ◌&&◌, List, ◌∷◌, is_some, Result, Ok, Err}
 use Rattle.value.specs.declared.refusal.Refusal.{Refusal}
 use Rattle.value.specs.declared.refusal.Refusal.TheVariants as r
 use Rattle.row_ast.specs.Ast as ast
@@ -16,6 +16,8 @@ use Rattle.catalog.specs.RowSecurity.{checks_row_security, after_row_security}
 use Rattle.catalog.specs.GrantSelect.{checks_select, after_grant_select}
 use Rattle.catalog.specs.RevokeSelect.{after_revoke_select}
 use Rattle.catalog.specs.CreatePolicy.{equation_in, checks_create_policy, after_create_policy}
+use Rattle.catalog.specs.DropPolicy.{checks_drop_policy, after_drop_policy}
+use Rattle.catalog.specs.CreateIndex.{checks_create_index, after_create_index}
 
 -- ---- what is supported
 
@@ -24,21 +26,12 @@ abbrev pub is_supported_policy : Catalog → ast.CreatePolicy → Bool
 is_supported_policy cat p = not p.restrictive && is_some (equation_in p.predicate) && if_found true (λ t. is_empty t.policies) (table_named p.table cat)
 
 abbrev pub is_supported : Catalog → Statement → Bool
-is_supported cat (CreateRole name superuser bypass_rls) = true
-is_supported cat (GrantRole group member) = true
-is_supported cat (RevokeRole group member) = true
-is_supported cat (CreateTable name columns) = true
-is_supported cat (SetOwner table owner) = true
-is_supported cat (SetRowSecurity table setting) = true
-is_supported cat (GrantSelect grant) = true
-is_supported cat (RevokeSelect grant) = true
 is_supported cat (CreatePolicy policy) = is_supported_policy cat policy
-is_supported cat (CreateIndex name table column) = false
-is_supported cat (DropPolicy name table) = false
+is_supported cat _ = true
 
 -- ---- statements
 
--- the checks of a statement that is supported, by an actor that is a role; no other statement comes this far
+-- the checks of a statement, by an actor that is a role
 abbrev pub checks : Catalog → Name → Statement → List Check
 checks cat actor (CreateRole name superuser bypass_rls) = checks_create_role cat actor name
 checks cat actor (GrantRole group member) = checks_grant_role cat actor group member
@@ -49,9 +42,10 @@ checks cat actor (SetRowSecurity table setting) = checks_row_security cat actor 
 checks cat actor (GrantSelect grant) = checks_select cat actor grant
 checks cat actor (RevokeSelect grant) = checks_select cat actor grant
 checks cat actor (CreatePolicy policy) = checks_create_policy cat actor policy
-checks cat actor _ = []
+checks cat actor (DropPolicy name table) = checks_drop_policy cat actor name table
+checks cat actor (CreateIndex name table column) = checks_create_index cat actor name table column
 
--- the catalogue after a statement that is not refused; one that is not supported does not come this far
+-- the catalogue after a statement that is not refused
 abbrev pub after : Catalog → Name → Statement → Catalog
 after cat actor (CreateRole name superuser bypass_rls) = after_create_role cat name superuser bypass_rls
 after cat actor (GrantRole group member) = after_grant_role cat group member
@@ -62,7 +56,8 @@ after cat actor (SetRowSecurity table setting) = after_row_security cat table se
 after cat actor (GrantSelect grant) = after_grant_select cat grant
 after cat actor (RevokeSelect grant) = after_revoke_select cat grant
 after cat actor (CreatePolicy policy) = after_create_policy cat policy
-after cat actor _ = cat
+after cat actor (DropPolicy name table) = after_drop_policy cat name table
+after cat actor (CreateIndex name table column) = after_create_index cat name table column
 
 -- the catalogue after a statement, or its refusal: that it is not supported comes first, then that the actor is no role
 abbrev pub changed : Catalog → Name → Statement → Result Catalog Refusal

@@ -1,5 +1,5 @@
 -- CREATE POLICY name ON table TO roles USING (column = operand).
-use Rattle.std.specs.Prelude.{Bool, true, not, List, [], ◌∷◌, ◌++◌, Option, Some, None, option_map}
+use Rattle.std.specs.Prelude.{Bool, true, not, List, [], ◌∷◌, Option, Some, None, option_map}
 use Rattle.std.specs.List.{list_all}
 use Rattle.value.specs.Columns.{Column, fits_type}
 use Rattle.value.specs.Datum.{text}
@@ -11,7 +11,7 @@ use Rattle.row_ast.specs.Ast as ast
 use Rattle.row_ast.specs.Ast.{Name, ColumnRef, Expr, CreatePolicy, column_in}
 use Rattle.row_objects.specs.Objects.{Operand, CurrentUser, Literal, Policy, Table}
 use Rattle.catalog.specs.Catalog.{Catalog, column_named, is_known, is_qualified, owns, place_of, table_named}
-use Rattle.catalog.specs.Checks.{Check, if_found, with_table}
+use Rattle.catalog.specs.Checks.{Check, if_found, with_last, with_table}
 
 -- ---- column = operand
 
@@ -65,11 +65,6 @@ checks_create_policy cat actor p = if_found ((true, r.UndefinedTable) ∷ []) (�
 abbrev pub new_policy : CreatePolicy → Option Equation → List Column → Option Policy
 new_policy p None columns = None
 new_policy p (Some e) columns = option_map (λ place. record { name = p.name; roles = p.roles; column = place; operand = e.1 }) (place_of columns e.0.name)
-
--- with one more at the end, if it is there
-abbrev pub with_last : {X : Type 0} → List X → Option X → List X
-with_last xs None = xs
-with_last xs (Some x) = xs ++ x ∷ []
 
 abbrev pub with_policy : CreatePolicy → Table → Table
 with_policy p t = record t { policies = with_last t.policies (new_policy p (equation_in p.predicate) t.columns) }

@@ -1,12 +1,12 @@
 -- CREATE TABLE name (columns).
-use Rattle.std.specs.Prelude.{ℕ, Bool, false, ◌||◌, nat_lt, List, [], ◌∷◌, ◌++◌, length, is_some}
+use Rattle.std.specs.Prelude.{ℕ, Bool, false, ◌||◌, nat_lt, List, [], ◌∷◌, ◌++◌, length}
 use Rattle.std.specs.Str.{bytes_eq}
 use Rattle.std.specs.List.{list_any}
 use Rattle.value.specs.Columns.{Column}
 use Rattle.value.specs.declared.refusal.Refusal.TheVariants as r
 use Rattle.row_ast.specs.Ast.{Name}
 use Rattle.row_objects.specs.Objects.{Table}
-use Rattle.catalog.specs.Catalog.{Catalog, table_named}
+use Rattle.catalog.specs.Catalog.{Catalog, is_index, is_table}
 use Rattle.catalog.specs.Checks.{Check, is_full}
 
 -- the most tables of a catalogue, and the most columns of a table
@@ -15,9 +15,6 @@ most_tables = 64
 
 abbrev pub most_columns : ℕ
 most_columns = 64
-
-abbrev pub is_table : Catalog → Name → Bool
-is_table cat name = is_some (table_named name cat)
 
 abbrev pub has_name : Name → List Column → Bool
 has_name name columns = list_any (λ column. bytes_eq name column.name) columns
@@ -29,12 +26,13 @@ has_name_twice (column ∷ columns) = has_name column.name columns || has_name_t
 abbrev pub checks_create_table : Catalog → Name → List Column → List Check
 checks_create_table cat name columns =
     (is_table cat name, r.DuplicateTable)
+    ∷ (is_index cat name, r.DuplicateTable)
     ∷ (has_name_twice columns, r.DuplicateColumn)
     ∷ (is_full most_tables cat.tables || nat_lt most_columns (length columns), r.ProgramLimitExceeded) ∷ []
 
 -- a new table, which its creator owns
 abbrev pub new_table : Name → Name → List Column → Table
-new_table actor name columns = record { name = name; columns = columns; owner = actor; row_security = false; forced = false; policies = []; grants = [] }
+new_table actor name columns = record { name = name; columns = columns; owner = actor; row_security = false; forced = false; policies = []; grants = []; indexes = [] }
 
 abbrev pub after_create_table : Catalog → Name → Name → List Column → Catalog
 after_create_table cat actor name columns = record cat { tables = cat.tables ++ new_table actor name columns ∷ [] }

@@ -11,6 +11,8 @@ pub mod GrantSelect
 pub mod RevokeSelect
 pub mod CreatePolicy
 pub mod Equations
+pub mod DropPolicy
+pub mod CreateIndex
 pub mod Changes
 pub mod Granted
 pub mod Run

@@ -27,21 +27,13 @@ fn is_supported<A: Heap>(catalog: &Catalog<A>, statement: &Statement<A>) -> bool
     ensures { result ≡ is_supported catalog.now (statement_of statement.now) }
 {
     match statement {
-        Statement::CreateRole { .. }
-        | Statement::GrantRole { .. }
-        | Statement::RevokeRole { .. }
-        | Statement::CreateTable { .. }
-        | Statement::SetOwner { .. }
-        | Statement::SetRowSecurity { .. }
-        | Statement::GrantSelect(_)
-        | Statement::RevokeSelect(_) => true,
         Statement::CreatePolicy(policy) => is_supported_policy(catalog, policy),
-        Statement::CreateIndex { .. } | Statement::DropPolicy { .. } => false,
+        _ => true,
     }
 }
 
 impl<A: Heap> Catalog<A> {
-    // A statement that is supported, of an actor that is a role: none of the last variants.
+    // A statement that is supported, of an actor that is a role.
     fn apply_supported(&mut self, actor: &str, statement: &Statement<A>) -> Result<(), Refusal>
         ensures { IsChange self.old self.new (unless (first_refusal (checks self.old actor.now (statement_of statement.now))) (after self.old actor.now (statement_of statement.now))) result }
     {
@@ -69,7 +61,14 @@ impl<A: Heap> Catalog<A> {
             Statement::GrantSelect(grant) => self.grant_select(actor, grant),
             Statement::RevokeSelect(grant) => self.revoke_select(actor, grant),
             Statement::CreatePolicy(policy) => self.create_policy(actor, policy),
-            Statement::CreateIndex { .. } | Statement::DropPolicy { .. } => Ok(()),
+            Statement::DropPolicy { name, table } => {
+                self.drop_policy(actor, name.as_str(), table.as_str())
+            }
+            Statement::CreateIndex {
+                name,
+                table,
+                column,
+            } => self.create_index(actor, name.as_str(), table.as_str(), column.as_str()),
         }
     }
 

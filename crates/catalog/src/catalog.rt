@@ -3,10 +3,10 @@
 ghost use Rattle.std.specs.Prelude.{◌≡◌, ◌<◌, length, IfOk, IfSome, map, option_map};
 ghost use Rattle.std.specs.List.{list_all};
 ghost use Rattle.row_objects.specs.View.{table_of};
-ghost use Rattle.catalog.specs.Catalog.{at_first, belongs, bypasses_rls, is_known, is_role, is_superuser, owns, table_named, table_place};
+ghost use Rattle.catalog.specs.Catalog.{at_first, belongs, bypasses_rls, is_index, is_known, is_role, is_superuser, is_table, owns, table_named, table_place};
 
 use memory::Heap;
-use row_objects::{ByName, Membership, Role, Table, TableDef, belongs_by};
+use row_objects::{ByName, Membership, Role, Table, TableDef, any_index, belongs_by};
 use std::alloc::AllocError;
 use std::marker::Model;
 use text::Text;
@@ -127,6 +127,20 @@ impl<A: Heap> Catalog<A> {
             Some((place, name, parts)) => Some((place, Table::new(name, parts))),
             None => None,
         }
+    }
+
+    /// Whether there is a table of that name.
+    pub(crate) fn is_table(&self, name: &str) -> bool
+        ensures { result ≡ is_table self.now name.now }
+    {
+        self.table(name).is_some()
+    }
+
+    /// Whether one of the tables has an index of that name.
+    pub(crate) fn is_index(&self, name: &str) -> bool
+        ensures { result ≡ is_index self.now name.now }
+    {
+        any_index(&self.tables, name)
     }
 
     /// Whether a role is a superuser, or belongs to the owner of a table.

@@ -3,8 +3,9 @@
 ghost use Rattle.std.specs.Prelude.{◌≡◌, IfOk, List, OnErr, OnOk, false, map, ℕ};
 ghost use Rattle.value.specs.Columns.{column_of};
 ghost use Rattle.row_objects.specs.View.{table_entry};
+ghost use Rattle.catalog.specs.Catalog.{is_table};
 ghost use Rattle.catalog.specs.Checks.{first_refusal, unless};
-ghost use Rattle.catalog.specs.CreateTable.{after_create_table, checks_create_table, has_name, has_name_twice, is_table, new_table};
+ghost use Rattle.catalog.specs.CreateTable.{after_create_table, checks_create_table, has_name, has_name_twice, new_table};
 ghost use Rattle.catalog.specs.Changes.{IsChange};
 
 use crate::catalog::Catalog;
@@ -49,7 +50,9 @@ fn check_create_table<A: Heap>(
 ) -> Option<Refusal>
     ensures { result ≡ first_refusal (checks_create_table catalog.now name.now (map (λ c. column_of c) columns.now)) }
 {
-    if catalog.table(name).is_some() {
+    if catalog.is_table(name) {
+        Some(Refusal::DuplicateTable)
+    } else if catalog.is_index(name) {
         Some(Refusal::DuplicateTable)
     } else if has_name_twice(columns) {
         Some(Refusal::DuplicateColumn)
@@ -76,6 +79,7 @@ fn new_table<A: Heap>(
         forced: false,
         policies: Items::new(alloc),
         grants: Items::new(alloc),
+        indexes: Items::new(alloc),
     })
 }
 

@@ -4,9 +4,11 @@
 mod apply;
 mod catalog;
 mod copies;
+mod create_index;
 mod create_policy;
 mod create_role;
 mod create_table;
+mod drop_policy;
 mod grant_role;
 mod grant_select;
 mod laws;

@@ -4,4 +4,6 @@ pub mod Objects
 pub mod Memberships
 pub mod Reached
 pub mod Grants
+pub mod Policies
+pub mod Indexes
 pub mod View

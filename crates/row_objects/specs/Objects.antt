@@ -36,6 +36,11 @@ pub record Policy : Type 0 where
   pub column : ℕ
   pub operand : Operand
 
+-- an index on the column at a place
+pub record Index : Type 0 where
+  pub name : Name
+  pub column : ℕ
+
 pub record Table : Type 0 where
   pub name : Name
   pub columns : List Column
@@ -46,3 +51,4 @@ pub record Table : Type 0 where
   pub forced : Bool
   pub policies : List Policy
   pub grants : List Grant
+  pub indexes : List Index

@@ -9,9 +9,10 @@ use Rattle.row_objects.specs.declared.objects.Grant as declared_grant
 use Rattle.row_objects.specs.declared.objects.Operand as declared_operand
 use Rattle.row_objects.specs.declared.objects.Operand.TheVariants as operand
 use Rattle.row_objects.specs.declared.objects.Policy as declared_policy
+use Rattle.row_objects.specs.declared.objects.Index as declared_index
 use Rattle.row_objects.specs.declared.objects.TableDef.{TableDef}
 use Rattle.row_objects.specs.declared.objects.Table as declared_table
-use Rattle.row_objects.specs.Objects.{Role, Membership, Grant, Operand, CurrentUser, Literal, Policy, Table}
+use Rattle.row_objects.specs.Objects.{Role, Membership, Grant, Operand, CurrentUser, Literal, Policy, Index, Table}
 
 -- a role by its name
 abbrev pub role_of : Name × declared.Role → Role
@@ -30,6 +31,9 @@ operand_of (operand.Literal value) = Literal (datum value)
 abbrev pub policy_of : {A : Type 0} → declared_policy.Policy A → Policy
 policy_of p = record { name = p.name; roles = p.roles; column = p.column; operand = operand_of p.operand }
 
+abbrev pub index_of : {A : Type 0} → declared_index.Index A → Index
+index_of i = record { name = i.name; column = i.column }
+
 -- a table by its name
 abbrev pub table_entry : {A : Type 0} → Name × TableDef A → Table
 table_entry t = record {
@@ -40,6 +44,7 @@ table_entry t = record {
   forced = t.1.forced;
   policies = map policy_of t.1.policies;
   grants = map grant_of t.1.grants;
+  indexes = map index_of t.1.indexes;
 }
 
 -- a table that is lent

@@ -71,6 +71,14 @@ impl<V, A: Heap> ByName<V, A> {
 }
 
 impl<V, A: Heap> ByName<V, A> {
+    /// The thing at a place.
+    pub fn at(&self, place: usize) -> &V
+        requires { place < length self.now }
+        ensures { slice_get (map (λ e. e.1) self.now) place ≡ Some result.now }
+    {
+        &self.entries[place]
+    }
+
     /// The thing at a place, to write.
     pub fn at_mut(&mut self, place: usize) -> &mut V
         requires { place < length self.old }

@@ -3,12 +3,16 @@
 
 mod by_name;
 mod grants;
+mod indexes;
 mod memberships;
 mod objects;
+mod policies;
 
 pub use by_name::ByName;
 pub use grants::{add_grants, remove_grants};
+pub use indexes::{any_index, is_indexed};
 pub use memberships::{
     MOST_ROLES, add_membership, belongs_by, law_belongs_by_paths, law_no_loop, remove_membership,
 };
-pub use objects::{Grant, Membership, Operand, Policy, Role, Table, TableDef};
+pub use objects::{Grant, Index, Membership, Operand, Policy, Role, Table, TableDef};
+pub use policies::{has_policy, remove_policy};

@@ -2,7 +2,7 @@
 
 ghost use Rattle.std.specs.Prelude.{◌≡◌, map};
 ghost use Rattle.value.specs.Columns.{column_of};
-ghost use Rattle.row_objects.specs.View.{grant_of, policy_of, table_entry, table_of};
+ghost use Rattle.row_objects.specs.View.{grant_of, index_of, policy_of, table_entry, table_of};
 
 use memory::Heap;
 use text::{Items, Text};
@@ -57,6 +57,15 @@ pub struct Policy<A: Heap> {
     pub operand: Operand<A>,
 }
 
+/// An index on a column (PostgreSQL: CREATE INDEX).
+#[derive(Drop)]
+pub struct Index<A: Heap> {
+    /// Its name.
+    pub name: Text<A>,
+    /// The place of its column in the table, from 0.
+    pub column: usize,
+}
+
 /// A table, whose name is its key.
 #[derive(Drop)]
 pub struct TableDef<A: Heap> {
@@ -72,6 +81,8 @@ pub struct TableDef<A: Heap> {
     pub policies: Items<Policy<A>, A>,
     /// The grants, none twice.
     pub grants: Items<Grant<A>, A>,
+    /// The indexes, in order of creation.
+    pub indexes: Items<Index<A>, A>,
 }
 
 /// A table that a catalogue lends.
@@ -136,5 +147,12 @@ impl<'c, A: Heap> Table<'c, A> {
         ensures { map (λ g. grant_of g) result.now ≡ (table_of self.entry).grants }
     {
         self.parts.grants.as_slice()
+    }
+
+    /// The indexes, in order of creation.
+    pub fn indexes(self) -> &'c [Index<A>]
+        ensures { map (λ i. index_of i) result.now ≡ (table_of self.entry).indexes }
+    {
+        self.parts.indexes.as_slice()
     }
 }

@@ -2,7 +2,8 @@ use Rattle.std.proofs.Common.{List, refl, ap, map, Result, Ok, Err, OnErr}
 use Rattle.row_ast.specs.View.{create_policy_of}
 use Rattle.row_objects.specs.Objects.{Policy, Table}
 use Rattle.row_objects.specs.View.{policy_of, table_entry}
-use Rattle.catalog.specs.CreatePolicy.{with_last, with_policy}
+use Rattle.catalog.specs.Checks.{with_last}
+use Rattle.catalog.specs.CreatePolicy.{with_policy}
 use Rattle.catalog.proofs.Named.{one_made}
 use Rattle.catalog.proofs.Places.{written_at, unchanged_at}
 use Rattle.catalog.proofs.create_policy.add_policy_in.Goals as goal

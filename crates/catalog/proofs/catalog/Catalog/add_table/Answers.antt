@@ -3,8 +3,7 @@ use Rattle.std.proofs.lemmas.Result.{on_ok_weaker, on_err_weaker}
 use Rattle.std.specs.Str.{bytes_eq}
 use Rattle.row_objects.specs.Objects.{Membership, Role, Table}
 use Rattle.row_objects.specs.View.{membership_of, role_of, table_entry}
-use Rattle.catalog.specs.Catalog.{Catalog}
-use Rattle.catalog.specs.CreateTable.{is_table}
+use Rattle.catalog.specs.Catalog.{Catalog, is_table}
 use Rattle.catalog.proofs.Named.{none_there, one_more}
 use Rattle.catalog.proofs.catalog.Catalog.add_table.Goals as goal
 

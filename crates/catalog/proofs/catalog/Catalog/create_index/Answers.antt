@@ -1,0 +1,9 @@
+use Rattle.catalog.specs.Checks.{first_refusal}
+use Rattle.catalog.specs.CreateIndex.{checks_create_index, with_index}
+use Rattle.catalog.proofs.Places.{due}
+use Rattle.catalog.proofs.catalog.Catalog.create_index.Goals as goal
+
+pub returns-in-Ok-add_index_at : goal.returns-in-Ok-add_index_at
+returns-in-Ok-add_index_at g c =
+    due c.args.self.now c.args.table.now (with_index c.args.name.now c.args.column.now) c.in-Ok.place (first_refusal (checks_create_index c.args.self.now c.args.actor.now c.args.name.now c.args.table.now c.args.column.now)) c.add_index_at.new.self
+    c.in-Ok.ensures.checked.0 c.in-Ok.ensures.checked.1 c.in-Ok-add_index_at.ensures.done

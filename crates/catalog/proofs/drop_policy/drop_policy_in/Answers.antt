@@ -1,0 +1,11 @@
+use Rattle.std.proofs.Common.{List, ap}
+use Rattle.row_objects.specs.Objects.{Policy, Table}
+use Rattle.row_objects.specs.View.{table_entry}
+use Rattle.catalog.specs.DropPolicy.{without_policy_named}
+use Rattle.catalog.proofs.Places.{written_at}
+use Rattle.catalog.proofs.drop_policy.drop_policy_in.Goals as goal
+
+pub returns : goal.returns
+returns g c =
+    written_at table_entry (without_policy_named c.args.name.now) c.args.tables.now c.args.place c.at_mut-table.result.now _ c.at_mut-table.ensures.value
+    (λ n. ap (λ (ps : List Policy). let t : Table = record (table_entry (n, c.at_mut-table.result.now)) { policies = ps } in t) c.remove_policy.ensures)

@@ -1,0 +1,125 @@
+//! `CREATE INDEX name ON table (column)` (PostgreSQL: CREATE INDEX).
+
+ghost use Rattle.std.specs.Prelude.{◌≡◌, ◌<◌, IfOk, OnErr, OnOk, length, map, option_map};
+ghost use Rattle.value.specs.Columns.{column_of};
+ghost use Rattle.row_objects.specs.View.{index_of, table_entry, table_of};
+ghost use Rattle.catalog.specs.Catalog.{table_place};
+ghost use Rattle.catalog.specs.Checks.{changed_at, first_refusal, unless, Checked};
+ghost use Rattle.catalog.specs.CreateIndex as spec;
+ghost use Rattle.catalog.specs.CreateIndex.{after_create_index, checks_create_index, checks_new_index, with_index};
+ghost use Rattle.catalog.specs.Changes.{IsChange};
+
+use crate::catalog::Catalog;
+use crate::names::place;
+use memory::Heap;
+use row_objects::{ByName, Index, Table, TableDef, is_indexed};
+use std::alloc::AllocError;
+use text::Text;
+use value::{Column, Refusal};
+
+fn check_new_index<A: Heap>(
+    catalog: &Catalog<A>,
+    name: &str,
+    table: Table<'_, A>,
+    column: usize,
+) -> Option<Refusal>
+    ensures { result ≡ first_refusal (checks_new_index catalog.now name.now (table_of table.entry) column) }
+{
+    if catalog.is_table(name) {
+        Some(Refusal::DuplicateTable)
+    } else if catalog.is_index(name) {
+        Some(Refusal::DuplicateTable)
+    } else if is_indexed(table.indexes(), column) {
+        Some(Refusal::DuplicateObject)
+    } else {
+        None
+    }
+}
+
+fn check_create_index<A: Heap>(
+    catalog: &Catalog<A>,
+    actor: &str,
+    name: &str,
+    table: &str,
+    column: &str,
+) -> Result<usize, Refusal>
+    ensures checked { Checked result (first_refusal (checks_create_index catalog.now actor.now name.now table.now column.now)) (table_place table.now catalog.now) }
+    ensures within { IfOk result (λ place. place < length catalog.now.tables) }
+{
+    let Some((found, table)) = catalog.find_table(table) else {
+        return Err(Refusal::UndefinedTable);
+    };
+    if !catalog.owns(actor, table) {
+        return Err(Refusal::InsufficientPrivilege);
+    }
+    let Some(column) = place(table.columns(), column) else {
+        return Err(Refusal::UndefinedColumn);
+    };
+    match check_new_index(catalog, name, table, column) {
+        Some(why) => Err(why),
+        None => Ok(found),
+    }
+}
+
+// The index, if its column is among the columns.
+fn new_index<A: Heap>(
+    alloc: A,
+    name: &str,
+    column: &str,
+    columns: &[Column<A>],
+) -> Result<Option<Index<A>>, AllocError>
+    ensures { IfOk result (λ made. option_map (λ i. index_of i) made ≡ spec.new_index name.now column.now (map (λ c. column_of c) columns.now)) }
+{
+    let Some(column) = place(columns, column) else {
+        return Ok(None);
+    };
+    let name = Text::new(alloc, name)?;
+    Ok(Some(Index { name, column }))
+}
+
+fn add_index_in<A: Heap>(
+    alloc: A,
+    tables: &mut ByName<TableDef<A>, A>,
+    place: usize,
+    name: &str,
+    column: &str,
+) -> Result<(), AllocError>
+    requires { place < length tables.old }
+    ensures done { OnOk result (map (λ t. table_entry t) tables.new ≡ changed_at place (with_index name.now column.now) (map (λ t. table_entry t) tables.old)) }
+    ensures unchanged { OnErr result (map (λ t. table_entry t) tables.new ≡ map (λ t. table_entry t) tables.old) }
+{
+    let table = tables.at_mut(place);
+    if let Some(made) = new_index(alloc, name, column, table.columns.as_slice())? {
+        table.indexes.push(made)?;
+    }
+    Ok(())
+}
+
+impl<A: Heap> Catalog<A> {
+    fn add_index_at(&mut self, place: usize, name: &str, column: &str) -> Result<(), AllocError>
+        requires { place < length self.old.tables }
+        ensures done { OnOk result (self.new ≡ record self.old { tables = changed_at place (with_index name.now column.now) self.old.tables }) }
+        ensures unchanged { OnErr result (self.new ≡ self.old) }
+    {
+        add_index_in(self.alloc, &mut self.tables, place, name, column)
+    }
+
+    /// Makes an index, if no check refuses it.
+    pub(crate) fn create_index(
+        &mut self,
+        actor: &str,
+        name: &str,
+        table: &str,
+        column: &str,
+    ) -> Result<(), Refusal>
+        ensures { IsChange self.old self.new (unless (first_refusal (checks_create_index self.old actor.now name.now table.now column.now)) (after_create_index self.old name.now table.now column.now)) result }
+    {
+        match check_create_index(self, actor, name, table, column) {
+            Err(why) => Err(why),
+            Ok(place) => match self.add_index_at(place, name, column) {
+                Ok(()) => Ok(()),
+                Err(_) => Err(Refusal::OutOfMemory),
+            },
+        }
+    }
+}

@@ -1,0 +1,69 @@
+//! `DROP POLICY name ON table` (PostgreSQL: DROP POLICY).
+
+ghost use Rattle.std.specs.Prelude.{◌≡◌, ◌<◌, IfOk, length, map};
+ghost use Rattle.row_objects.specs.View.{table_entry};
+ghost use Rattle.catalog.specs.Catalog.{table_place};
+ghost use Rattle.catalog.specs.Checks.{changed_at, first_refusal, unless, Checked};
+ghost use Rattle.catalog.specs.DropPolicy.{after_drop_policy, checks_drop_policy, without_policy_named};
+ghost use Rattle.catalog.specs.Changes.{IsChange};
+
+use crate::catalog::Catalog;
+use memory::Heap;
+use row_objects::{ByName, TableDef, has_policy, remove_policy};
+use value::Refusal;
+
+fn check_drop_policy<A: Heap>(
+    catalog: &Catalog<A>,
+    actor: &str,
+    name: &str,
+    table: &str,
+) -> Result<usize, Refusal>
+    ensures checked { Checked result (first_refusal (checks_drop_policy catalog.now actor.now name.now table.now)) (table_place table.now catalog.now) }
+    ensures within { IfOk result (λ place. place < length catalog.now.tables) }
+{
+    let Some((place, table)) = catalog.find_table(table) else {
+        return Err(Refusal::UndefinedTable);
+    };
+    if !catalog.owns(actor, table) {
+        Err(Refusal::InsufficientPrivilege)
+    } else if !has_policy(table.policies(), name) {
+        Err(Refusal::UndefinedObject)
+    } else {
+        Ok(place)
+    }
+}
+
+fn drop_policy_in<A: Heap>(alloc: A, tables: &mut ByName<TableDef<A>, A>, place: usize, name: &str)
+    requires { place < length tables.old }
+    ensures { map (λ t. table_entry t) tables.new ≡ changed_at place (without_policy_named name.now) (map (λ t. table_entry t) tables.old) }
+{
+    let table = tables.at_mut(place);
+    remove_policy(alloc, &mut table.policies, name);
+}
+
+impl<A: Heap> Catalog<A> {
+    fn drop_policy_at(&mut self, place: usize, name: &str)
+        requires { place < length self.old.tables }
+        ensures { self.new ≡ record self.old { tables = changed_at place (without_policy_named name.now) self.old.tables } }
+    {
+        drop_policy_in(self.alloc, &mut self.tables, place, name);
+    }
+
+    /// Takes a policy from a table, if no check refuses it. It takes no memory.
+    pub(crate) fn drop_policy(
+        &mut self,
+        actor: &str,
+        name: &str,
+        table: &str,
+    ) -> Result<(), Refusal>
+        ensures { IsChange self.old self.new (unless (first_refusal (checks_drop_policy self.old actor.now name.now table.now)) (after_drop_policy self.old name.now table.now)) result }
+    {
+        match check_drop_policy(self, actor, name, table) {
+            Err(why) => Err(why),
+            Ok(place) => {
+                self.drop_policy_at(place, name);
+                Ok(())
+            }
+        }
+    }
+}

@@ -1,0 +1,17 @@
+-- The indexes of tables.
+use Rattle.std.specs.Prelude.{ℕ, ◌==◌, Bool, List}
+use Rattle.std.specs.Str.{bytes_eq}
+use Rattle.std.specs.List.{list_any}
+use Rattle.row_ast.specs.Ast.{Name}
+use Rattle.row_objects.specs.Objects.{Index, Table}
+
+abbrev pub has_index : Name → List Index → Bool
+has_index name indexes = list_any (λ i. bytes_eq name i.name) indexes
+
+-- one of the tables has an index of that name
+abbrev pub any_index : Name → List Table → Bool
+any_index name tables = list_any (λ t. has_index name t.indexes) tables
+
+-- the column at a place has an index
+abbrev pub is_indexed : ℕ → List Index → Bool
+is_indexed column indexes = list_any (λ i. i.column == column) indexes
