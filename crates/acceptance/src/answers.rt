@@ -6,20 +6,20 @@ use std::alloc::{AllocError, Global};
 use std::process::Abort;
 use std::test::Fail;
 
-// A step of a row.
-enum Step {
-    // Root applies a schema text.
+/// A step of a row.
+pub enum Step {
+    /// Root applies a schema text.
     Apply(&'static str),
-    // The rows of a text are added to a table.
+    /// The rows of a text are added to a table.
     Load(&'static str, &'static str),
-    // A role asks a query, and is answered a text with a status.
+    /// A role asks a query, and is answered a text with a status.
     Ask(&'static str, &'static str, &'static str, u8),
 }
 
 use Step::{Apply, Ask, Load};
 
-// A name, the schema of the store, and the steps on it.
-type Row = (&'static str, &'static str, &'static [Step]);
+/// A name, the schema of the store, and the steps on it.
+pub type Row = (&'static str, &'static str, &'static [Step]);
 
 /// A role asks a query, and is answered a text with a status.
 pub fn answered(
@@ -49,7 +49,8 @@ fn take(rt: &(impl Abort + AllocGlobal), name: &str, store: &mut Store<Global>, 
     }
 }
 
-fn walk(rt: &(impl Abort + AllocGlobal), row: &Row) {
+/// The steps of a row on a store of its schema.
+pub fn walk(rt: &(impl Abort + AllocGlobal), row: &Row) {
     let (name, schema, steps) = row;
     let mut store = made(rt, store_of(rt.alloc(), schema));
     for step in *steps {
@@ -274,55 +275,92 @@ fn worked_rows_are_answered(rt: HostRuntime) {
     }
 }
 
-// What the grammar has and the engine does not support yet is refused before names and grants.
-static NOT_SERVED: [&str; 17] = [
-    "SELECT * FROM deal",
-    "SELECT * FROM nosuch",
-    "SELECT 1 FROM deal",
-    "SELECT id AS n FROM deal",
-    "SELECT -id FROM deal",
-    "SELECT id + 1, nosuch FROM deal",
-    "SELECT id, count(*) FROM deal",
-    "SELECT id FROM deal d",
-    "SELECT id FROM deal AS deal",
-    "SELECT nosuch FROM deal, deal",
-    "SELECT id FROM deal CROSS JOIN nosuch",
-    "SELECT id FROM deal JOIN deal ON id = id",
-    "SELECT id FROM deal WHERE id = 1",
-    "SELECT id FROM deal GROUP BY id",
-    "SELECT id FROM deal HAVING TRUE",
-    "SELECT id FROM deal ORDER BY id",
-    "SELECT id FROM deal LIMIT 1",
+// What the grammar has and the engine does not support yet, with the denial that comes first where nothing is granted.
+static NOT_SERVED: [(&str, &str); 14] = [
+    ("SELECT 1 FROM deal", "denied 42501 table deal\n"),
+    (
+        "SELECT id AS n FROM deal",
+        "denied 42501 column id of table deal\n",
+    ),
+    (
+        "SELECT -id FROM deal",
+        "denied 42501 column id of table deal\n",
+    ),
+    (
+        "SELECT owner, id + 1 FROM deal",
+        "denied 42501 column owner of table deal\n",
+    ),
+    (
+        "SELECT count(*), id FROM deal",
+        "denied 42501 column id of table deal\n",
+    ),
+    ("SELECT count(*) FROM deal", "denied 42501 table deal\n"),
+    (
+        "SELECT * FROM deal CROSS JOIN deal e",
+        "denied 42501 column id of table deal\n",
+    ),
+    (
+        "SELECT 1 FROM deal JOIN deal e ON e.owner = deal.owner",
+        "denied 42501 column owner of table deal\n",
+    ),
+    (
+        "SELECT d.id FROM deal, deal AS d",
+        "denied 42501 column id of table deal\n",
+    ),
+    (
+        "SELECT id FROM deal WHERE id = 1",
+        "denied 42501 column id of table deal\n",
+    ),
+    (
+        "SELECT id FROM deal GROUP BY id",
+        "denied 42501 column id of table deal\n",
+    ),
+    (
+        "SELECT id FROM deal HAVING TRUE",
+        "denied 42501 column id of table deal\n",
+    ),
+    (
+        "SELECT id FROM deal ORDER BY id",
+        "denied 42501 column id of table deal\n",
+    ),
+    (
+        "SELECT id FROM deal LIMIT 1",
+        "denied 42501 column id of table deal\n",
+    ),
 ];
 
-fn not_supported() -> &'static [&'static str] {
+fn not_supported() -> &'static [(&'static str, &'static str)] {
     &NOT_SERVED
 }
 
-fn served_to_nobody(rt: &(impl Abort + AllocGlobal), store: &Store<Global>, text: &str) {
-    for role in ["alice", "boss", "lone", "root"] {
+fn served_to_nobody(
+    rt: &(impl Abort + AllocGlobal),
+    store: &Store<Global>,
+    text: &str,
+    denial: &str,
+) {
+    for (role, reply, status) in [
+        ("alice", "refused 0A000\n", 3u8),
+        ("boss", "refused 0A000\n", 3),
+        ("root", "refused 0A000\n", 3),
+        ("lone", denial, 4),
+        ("zed", "refused 42704\n", 6),
+    ] {
         answered(
             rt,
             "not_supported_yet",
             store,
             (role, text),
-            ("refused 0A000\n", 3),
+            (reply, status),
         );
     }
-    answered(
-        rt,
-        "not_supported_yet",
-        store,
-        ("zed", text),
-        ("refused 42704\n", 6),
-    );
 }
 
 #[test]
-fn not_supported_yet_comes_before_names_and_grants(rt: HostRuntime) {
+fn not_supported_yet_comes_after_names_and_grants(rt: HostRuntime) {
     let store = made(&rt, deals(rt.alloc()));
-    for text in not_supported() {
-        served_to_nobody(&rt, &store, text);
+    for (text, denial) in not_supported() {
+        served_to_nobody(&rt, &store, text, denial);
     }
 }
 
@@ -361,7 +399,7 @@ fn limits_of_texts_are_answered(rt: HostRuntime) -> Result<(), Fail> {
             &rt,
             "limits_of_texts",
             &store,
-            ("lone", text.as_str()),
+            ("alice", text.as_str()),
             (want, 3),
         );
     }

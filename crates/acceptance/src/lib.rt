@@ -12,6 +12,8 @@ mod memory_refused;
 #[cfg(test)]
 mod opening;
 #[cfg(test)]
+mod sales;
+#[cfg(test)]
 mod statements;
 #[cfg(test)]
 mod stores;

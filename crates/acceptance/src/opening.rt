@@ -50,7 +50,7 @@ static SCHEMAS: [(&str, &str); 5] = [
         "schema statement 1 refused 42P01\n",
     ),
     (
-        "CREATE ROLE a; CREATE INDEX i ON t (c);",
+        "CREATE ROLE a; CREATE POLICY p ON t USING (TRUE);",
         "schema statement 2 refused 0A000\n",
     ),
 ];

@@ -16,7 +16,185 @@ type Row = (&'static str, &'static str, StoreFault);
 // A name, what root applies to the store of the deals before each row, and the rows.
 type Group = (&'static str, &'static str, &'static [Row]);
 
-static REFUSED: [Group; 4] = [
+static REFUSED: [Group; 7] = [
+    (
+        "refused_memberships",
+        "CREATE ROLE top; GRANT boss TO alice; GRANT top TO boss;",
+        &[
+            (
+                "boss",
+                "GRANT alice TO lone;",
+                Statement(Refusal::InsufficientPrivilege),
+            ),
+            (
+                "root",
+                "GRANT nosuch TO alice;",
+                Statement(Refusal::UndefinedObject),
+            ),
+            (
+                "root",
+                "GRANT alice TO nosuch;",
+                Statement(Refusal::UndefinedObject),
+            ),
+            (
+                "root",
+                "GRANT alice TO alice;",
+                Statement(Refusal::InvalidGrantOperation),
+            ),
+            (
+                "root",
+                "GRANT alice TO boss;",
+                Statement(Refusal::InvalidGrantOperation),
+            ),
+            (
+                "root",
+                "GRANT alice TO top;",
+                Statement(Refusal::InvalidGrantOperation),
+            ),
+            (
+                "boss",
+                "REVOKE boss FROM alice;",
+                Statement(Refusal::InsufficientPrivilege),
+            ),
+            (
+                "root",
+                "REVOKE nosuch FROM alice;",
+                Statement(Refusal::UndefinedObject),
+            ),
+            (
+                "root",
+                "REVOKE boss FROM nosuch;",
+                Statement(Refusal::UndefinedObject),
+            ),
+            (
+                "boss",
+                "CREATE ROLE more SUPERUSER BYPASSRLS;",
+                Statement(Refusal::InsufficientPrivilege),
+            ),
+            (
+                "root",
+                "CREATE ROLE top SUPERUSER;",
+                Statement(Refusal::DuplicateObject),
+            ),
+        ],
+    ),
+    (
+        "refused_settings_and_grants",
+        "",
+        &[
+            (
+                "root",
+                "ALTER TABLE nosuch FORCE ROW LEVEL SECURITY;",
+                Statement(Refusal::UndefinedTable),
+            ),
+            (
+                "alice",
+                "ALTER TABLE deal NO FORCE ROW LEVEL SECURITY;",
+                Statement(Refusal::InsufficientPrivilege),
+            ),
+            (
+                "lone",
+                "ALTER TABLE deal DISABLE ROW LEVEL SECURITY;",
+                Statement(Refusal::InsufficientPrivilege),
+            ),
+            (
+                "root",
+                "GRANT SELECT (id) ON nosuch TO nosuch;",
+                Statement(Refusal::UndefinedTable),
+            ),
+            (
+                "alice",
+                "GRANT SELECT (nosuch) ON deal TO nosuch;",
+                Statement(Refusal::InsufficientPrivilege),
+            ),
+            (
+                "boss",
+                "GRANT SELECT (id, nosuch) ON deal TO nosuch;",
+                Statement(Refusal::UndefinedColumn),
+            ),
+            (
+                "boss",
+                "GRANT SELECT (id) ON deal TO lone, nosuch;",
+                Statement(Refusal::UndefinedObject),
+            ),
+            (
+                "root",
+                "REVOKE SELECT ON nosuch FROM nosuch;",
+                Statement(Refusal::UndefinedTable),
+            ),
+            (
+                "alice",
+                "REVOKE SELECT ON deal FROM nosuch;",
+                Statement(Refusal::InsufficientPrivilege),
+            ),
+            (
+                "boss",
+                "REVOKE SELECT (nosuch) ON deal FROM nosuch;",
+                Statement(Refusal::UndefinedColumn),
+            ),
+            (
+                "boss",
+                "REVOKE SELECT ON deal FROM alice, nosuch;",
+                Statement(Refusal::UndefinedObject),
+            ),
+            (
+                "root",
+                "DROP POLICY own ON nosuch;",
+                Statement(Refusal::UndefinedTable),
+            ),
+            (
+                "alice",
+                "DROP POLICY own ON deal;",
+                Statement(Refusal::InsufficientPrivilege),
+            ),
+            (
+                "boss",
+                "DROP POLICY nosuch ON deal;",
+                Statement(Refusal::UndefinedObject),
+            ),
+        ],
+    ),
+    (
+        "refused_indexes",
+        "CREATE INDEX by_id ON deal (id);",
+        &[
+            (
+                "root",
+                "CREATE INDEX i ON nosuch (id);",
+                Statement(Refusal::UndefinedTable),
+            ),
+            (
+                "alice",
+                "CREATE INDEX i ON deal (nosuch);",
+                Statement(Refusal::InsufficientPrivilege),
+            ),
+            (
+                "boss",
+                "CREATE INDEX deal ON deal (nosuch);",
+                Statement(Refusal::UndefinedColumn),
+            ),
+            (
+                "boss",
+                "CREATE INDEX deal ON deal (owner);",
+                Statement(Refusal::DuplicateTable),
+            ),
+            (
+                "boss",
+                "CREATE INDEX by_id ON deal (id);",
+                Statement(Refusal::DuplicateTable),
+            ),
+            (
+                "boss",
+                "CREATE INDEX i ON deal (id);",
+                Statement(Refusal::DuplicateObject),
+            ),
+            (
+                "root",
+                "CREATE TABLE by_id (a bigint);",
+                Statement(Refusal::DuplicateTable),
+            ),
+        ],
+    ),
     (
         "refused_by_root",
         "",
@@ -220,21 +398,7 @@ static REFUSED: [Group; 4] = [
 ];
 
 // What is not supported yet is refused before all else: names that nothing has, and an actor that may not.
-static NOT_SERVED: [&str; 23] = [
-    "CREATE ROLE alice SUPERUSER;",
-    "CREATE ROLE new BYPASSRLS;",
-    "GRANT alice TO boss;",
-    "GRANT nosuch TO nosuch;",
-    "REVOKE alice FROM boss;",
-    "CREATE INDEX i ON nosuch (id);",
-    "ALTER TABLE nosuch DISABLE ROW LEVEL SECURITY;",
-    "ALTER TABLE deal FORCE ROW LEVEL SECURITY;",
-    "ALTER TABLE deal NO FORCE ROW LEVEL SECURITY;",
-    "GRANT SELECT (id) ON nosuch TO nosuch;",
-    "GRANT SELECT (id, owner) ON deal TO lone;",
-    "REVOKE SELECT ON nosuch FROM nosuch;",
-    "REVOKE SELECT (id) ON deal FROM PUBLIC;",
-    "DROP POLICY own ON deal;",
+static NOT_SERVED: [&str; 9] = [
     "CREATE POLICY p ON nosuch USING (id > 1);",
     "CREATE POLICY p ON nosuch AS RESTRICTIVE USING (id = 1);",
     "CREATE POLICY p ON nosuch TO nosuch USING (1 = id);",
@@ -318,7 +482,7 @@ fn statements_not_supported_yet_are_refused_before_all_else(rt: HostRuntime) {
 // A name, the texts that actors apply in turn, and the number of tables after them.
 type Accepted = (&'static str, &'static [(&'static str, &'static str)], usize);
 
-static ACCEPTED: [Accepted; 3] = [
+static ACCEPTED: [Accepted; 5] = [
     (
         "served_with_all_words",
         &[
@@ -348,6 +512,29 @@ static ACCEPTED: [Accepted; 3] = [
             ),
         ],
         2,
+    ),
+    (
+        "sets_are_sets",
+        &[
+            (
+                "root",
+                "GRANT boss TO alice; GRANT boss TO alice; REVOKE boss FROM lone; REVOKE boss FROM alice; GRANT alice TO boss;",
+            ),
+            (
+                "boss",
+                "GRANT SELECT (id) ON deal TO PUBLIC, PUBLIC; REVOKE SELECT (id, owner) ON deal FROM lone; REVOKE SELECT ON deal FROM PUBLIC;",
+            ),
+        ],
+        1,
+    ),
+    (
+        "owners_index_and_drop",
+        &[(
+            "boss",
+            "CREATE INDEX i ON deal (id); CREATE INDEX j ON deal (owner); DROP POLICY own ON deal;
+        CREATE POLICY own ON deal USING (id = 1); ALTER TABLE deal NO FORCE ROW LEVEL SECURITY;",
+        )],
+        1,
     ),
     ("empty_schema_is_accepted", &[("root", " \n")], 1),
 ];

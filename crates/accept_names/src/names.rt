@@ -1,0 +1,238 @@
+//! Queries over three tables, with the first fault of their names, or what they need to read.
+
+use access::RequiredPrivilege;
+use catalog::Catalog;
+use memory::{Failure, Heap, boxed};
+use resolve::{NameFault, first_name_fault, found_names, needed};
+use row_ast::{Query, Statement};
+use std::alloc::{AllocError, Global};
+use std::process::Abort;
+use std::test::Fail;
+use syntax::{parse_query, parse_schema};
+use value::Refusal;
+
+const SCHEMA: &str = "CREATE TABLE deal (id bigint, owner text, amount bigint);
+CREATE TABLE region (id bigint, name text);
+CREATE TABLE note (deal bigint, body text);";
+
+// A query, and what it needs to read: columns, and tables of which any part will do.
+static NEEDED: [(&str, &str); 13] = [
+    ("SELECT id, owner FROM deal", "deal.id deal.owner "),
+    ("SELECT * FROM deal", "deal.id deal.owner deal.amount "),
+    ("SELECT count(*) FROM deal", "deal "),
+    ("SELECT deal.id FROM deal, region", "deal.id region "),
+    ("SELECT d.id FROM region, deal AS d", "deal.id region "),
+    ("SELECT d.id FROM region r, deal d", "deal.id region "),
+    (
+        "SELECT * FROM region, note",
+        "region.id region.name note.deal note.body ",
+    ),
+    (
+        "SELECT id + amount FROM deal WHERE owner = CURRENT_USER",
+        "deal.id deal.amount deal.owner ",
+    ),
+    (
+        "SELECT name, count(*) FROM deal d JOIN region r ON d.id = r.id WHERE amount BETWEEN 1 AND d.id GROUP BY name HAVING sum(amount) > 3",
+        "region.name deal.id region.id deal.amount deal.id region.name deal.amount ",
+    ),
+    (
+        "SELECT CASE WHEN amount IS NULL THEN owner WHEN deal.id IN (1, 2) THEN name ELSE body END FROM deal, region, note ORDER BY nosuch",
+        "deal.amount deal.owner deal.id region.name note.body ",
+    ),
+    ("SELECT a.id, b.id FROM deal a, deal b", "deal.id deal.id "),
+    (
+        "SELECT a.id FROM deal a CROSS JOIN deal b, note",
+        "deal.id deal note ",
+    ),
+    (
+        "SELECT -CAST(min(amount) AS text) FROM deal WHERE NOT (id = 1 OR id = 2 AND owner = 'x')",
+        "deal.amount deal.id deal.id deal.owner ",
+    ),
+];
+
+// A query, and the first fault of its names.
+static FAULTS: [(&str, Refusal, u32); 21] = [
+    ("SELECT id FROM nosuch", Refusal::UndefinedTable, 15),
+    ("SELECT nosuch FROM deal", Refusal::UndefinedColumn, 7),
+    ("SELECT id FROM deal, region", Refusal::AmbiguousColumn, 7),
+    ("SELECT x.id FROM deal d", Refusal::UndefinedTable, 7),
+    ("SELECT deal.id FROM deal d", Refusal::UndefinedTable, 7),
+    ("SELECT d.nosuch FROM deal d", Refusal::UndefinedColumn, 7),
+    (
+        "SELECT d.id FROM deal d, region d",
+        Refusal::DuplicateAlias,
+        25,
+    ),
+    (
+        "SELECT deal.id FROM deal, region AS deal",
+        Refusal::DuplicateAlias,
+        26,
+    ),
+    ("SELECT id FROM deal, deal", Refusal::DuplicateAlias, 21),
+    (
+        "SELECT nosuch FROM deal d, region d, nosuch",
+        Refusal::DuplicateAlias,
+        27,
+    ),
+    (
+        "SELECT nosuch FROM deal d, nosuch d",
+        Refusal::UndefinedTable,
+        27,
+    ),
+    (
+        "SELECT owner FROM deal d JOIN region r ON d.id = n.deal JOIN note n ON TRUE",
+        Refusal::UndefinedTable,
+        49,
+    ),
+    (
+        "SELECT owner FROM note n, deal d JOIN region r ON d.id = n.deal",
+        Refusal::UndefinedTable,
+        57,
+    ),
+    (
+        "SELECT nosuch FROM deal d JOIN region r ON d.id = x.id",
+        Refusal::UndefinedColumn,
+        7,
+    ),
+    (
+        "SELECT owner FROM deal d JOIN region r ON d.id = id",
+        Refusal::AmbiguousColumn,
+        49,
+    ),
+    (
+        "SELECT owner FROM deal WHERE nosuch = 1 GROUP BY other HAVING third = 1",
+        Refusal::UndefinedColumn,
+        29,
+    ),
+    (
+        "SELECT owner FROM deal GROUP BY other HAVING third = 1",
+        Refusal::UndefinedColumn,
+        32,
+    ),
+    (
+        "SELECT owner FROM deal GROUP BY owner HAVING third = 1",
+        Refusal::UndefinedColumn,
+        45,
+    ),
+    (
+        "SELECT count(nosuch) FROM deal",
+        Refusal::UndefinedColumn,
+        13,
+    ),
+    (
+        "SELECT CASE WHEN TRUE THEN id ELSE x.id END FROM deal",
+        Refusal::UndefinedTable,
+        35,
+    ),
+    (
+        "SELECT id BETWEEN amount AND nosuch FROM deal",
+        Refusal::UndefinedColumn,
+        29,
+    ),
+];
+
+fn apply_all<A: Heap>(
+    catalog: &mut Catalog<A>,
+    statements: &[Statement<A>],
+) -> Result<(), Refusal> {
+    for statement in statements {
+        catalog.apply("root", statement)?;
+    }
+    Ok(())
+}
+
+fn made<T: Drop, E: Drop>(rt: &impl Abort, made: Result<T, E>) -> T {
+    match made {
+        Ok(made) => made,
+        Err(_) => panic!(rt; "not made"),
+    }
+}
+
+fn catalog(rt: &(impl Abort + AllocGlobal)) -> Result<Box<Catalog<Global>>, AllocError> {
+    let mut catalog = boxed(rt.alloc(), Catalog::new(rt.alloc())?)?;
+    let statements = made(rt, parse_schema(rt.alloc(), SCHEMA));
+    assert_eq!(rt; apply_all(&mut catalog, statements.as_slice()), Ok(()));
+    Ok(catalog)
+}
+
+fn query(rt: &(impl Abort + AllocGlobal), text: &str) -> Result<Box<Query<Global>>, AllocError> {
+    boxed(rt.alloc(), made(rt, parse_query(rt.alloc(), text)))
+}
+
+fn shown(alloc: Global, required: &[RequiredPrivilege<'_, Global>]) -> Result<String, AllocError> {
+    let mut shown = String::new(alloc);
+    for privilege in required {
+        shown.push_str(privilege.table.name())?;
+        if let Some(column) = privilege.column {
+            shown.push_str(".")?;
+            shown.push_str(column.as_str())?;
+        }
+        shown.push_str(" ")?;
+    }
+    Ok(shown)
+}
+
+fn needs(
+    rt: &(impl Abort + AllocGlobal),
+    catalog: &Catalog<Global>,
+    row: &(&str, &str),
+) -> Result<(), AllocError> {
+    let (text, want) = row;
+    let query = query(rt, text)?;
+    match found_names(rt.alloc(), catalog, &query) {
+        Ok(names) => {
+            let required = needed(rt.alloc(), &names)?;
+            let got = shown(rt.alloc(), required.as_slice())?;
+            assert_eq!(rt; got.as_str(), *want, "{text}");
+        }
+        Err(Failure::Fault(fault)) => panic!(rt; "{text}: {fault:?}"),
+        Err(Failure::OutOfMemory) => panic!(rt; "{text}"),
+    }
+    assert_eq!(rt;
+        first_name_fault(rt.alloc(), catalog, &query)?,
+        None,
+        "{text}"
+    );
+    Ok(())
+}
+
+fn fails(
+    rt: &(impl Abort + AllocGlobal),
+    catalog: &Catalog<Global>,
+    row: &(&str, Refusal, u32),
+) -> Result<(), AllocError> {
+    let (text, code, offset) = row;
+    let query = query(rt, text)?;
+    let want = NameFault {
+        code: *code,
+        offset: *offset,
+    };
+    match found_names(rt.alloc(), catalog, &query) {
+        Err(Failure::Fault(fault)) => assert_eq!(rt; fault, want, "{text}"),
+        _ => panic!(rt; "{text}"),
+    }
+    assert_eq!(rt;
+        first_name_fault(rt.alloc(), catalog, &query)?,
+        Some(want),
+        "{text}"
+    );
+    Ok(())
+}
+
+#[test]
+fn needs_are_in_written_order(rt: HostRuntime) -> Result<(), Fail> {
+    let catalog = catalog(&rt)?;
+    for row in &NEEDED {
+        needs(&rt, &catalog, row)?;
+    }
+    Ok(())
+}
+
+#[test]
+fn first_fault_of_names(rt: HostRuntime) -> Result<(), Fail> {
+    let catalog = catalog(&rt)?;
+    for row in &FAULTS {
+        fails(&rt, &catalog, row)?;
+    }
+    Ok(())
+}
