@@ -8,15 +8,16 @@ use Rattle.row_objects.specs.Memberships.{belongs_by}
 use Rattle.row_objects.specs.Indexes.{any_index}
 pub use Rattle.row_objects.specs.ColumnNames.{column_named, place_of, is_qualified}
 
--- roles, memberships and tables, each in order of creation
+-- roles, memberships and tables, each in order of creation, and how many statements were accepted
 pub record Catalog : Type 0 where
   pub roles : List Role
   pub memberships : List Membership
   pub tables : List Table
+  pub change_number : ℕ
 
 -- a catalogue at first: the superuser root alone
 abbrev pub at_first : Catalog
-at_first = record { roles = record { name = codes "root"; superuser = true; bypass_rls = false } ∷ []; memberships = []; tables = [] }
+at_first = record { roles = record { name = codes "root"; superuser = true; bypass_rls = false } ∷ []; memberships = []; tables = []; change_number = 0 }
 
 -- ---- roles
 
