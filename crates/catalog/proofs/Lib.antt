@@ -3,6 +3,7 @@ pub mod Roles
 pub mod Places
 pub mod Grants
 pub mod Revoked
+pub mod Counts
 pub mod Known
 pub mod MoreRoles
 pub mod NoLoop

@@ -1,5 +1,5 @@
 -- No statements make a loop.
-use Rattle.std.proofs.Common.{◌≡◌, zero, suc, arith, Bool, true, false, not, ◌&&◌, cond, List, [], ◌∷◌, ◌++◌, filter, Contains, Option, Some, None, refl}
+use Rattle.std.proofs.Common.{◌≡◌, zero, suc, nat_le, arith, Bool, true, false, not, ◌&&◌, cond, List, [], ◌∷◌, ◌++◌, filter, Contains, Option, Some, None, refl}
 use Rattle.std.specs.List.{list_any}
 use Rattle.value.specs.declared.refusal.Refusal.{Refusal}
 use Rattle.value.specs.declared.refusal.Refusal.TheVariants as r
@@ -10,7 +10,7 @@ use Rattle.row_objects.proofs.Loops.{none_after, none_among, none_at_first}
 use Rattle.catalog.specs.Catalog.{Catalog, at_first, belongs, is_role, is_superuser}
 use Rattle.catalog.specs.Checks.{Check, first_refusal, unless}
 use Rattle.catalog.specs.GrantRole.{checks_grant_role}
-use Rattle.catalog.specs.Changes.{after, changed, checks, is_supported}
+use Rattle.catalog.specs.Changes.{after, changed, checks, counted, is_supported, most_changes}
 use Rattle.catalog.specs.Run.{or_same, run}
 
 some_is_not : (why : Refusal) → ◌≡◌ {A = Option Refusal} (Some why) None → ⊥
@@ -59,15 +59,16 @@ module _ (cat : Catalog) (none : HasNoLoop cat.memberships) where
   after_one actor (CreatePolicy policy) e = none
   after_one actor (DropPolicy name table) e = none
 
-  by_refusal : (actor : Name) (s : Statement) (o : Option Refusal) → (o ≡ None → HasNoLoop (after cat actor s).memberships) → HasNoLoop (or_same cat (unless o (after cat actor s))).memberships
+  by_refusal : (actor : Name) (s : Statement) (o : Option Refusal) → (o ≡ None → HasNoLoop (after cat actor s).memberships) → HasNoLoop (or_same cat (unless o (counted cat (after cat actor s)))).memberships
   by_refusal actor s (Some why) h = none
   by_refusal actor s None h = h refl
 
   step : (actor : Name) (s : Statement) → HasNoLoop (or_same cat (changed cat actor s)).memberships
   step actor s = by_refusal actor s _ (λ e.
-      let one = passed (not (is_supported cat s)) r.FeatureNotSupported ((not (is_role cat actor), r.UndefinedObject) ∷ checks cat actor s) e in
-      let two = passed (not (is_role cat actor)) r.UndefinedObject (checks cat actor s) one.1 in
-      after_one actor s two.1)
+      let one = passed (nat_le most_changes cat.change_number) r.ProgramLimitExceeded ((not (is_supported cat s), r.FeatureNotSupported) ∷ (not (is_role cat actor), r.UndefinedObject) ∷ checks cat actor s) e in
+      let two = passed (not (is_supported cat s)) r.FeatureNotSupported ((not (is_role cat actor), r.UndefinedObject) ∷ checks cat actor s) one.1 in
+      let three = passed (not (is_role cat actor)) r.UndefinedObject (checks cat actor s) two.1 in
+      after_one actor s three.1)
 
 no_loop_after : (statements : List (Name × Statement)) (cat : Catalog) → HasNoLoop cat.memberships → HasNoLoop (run statements cat).memberships
 no_loop_after [] cat none = none

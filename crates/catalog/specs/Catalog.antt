@@ -2,21 +2,22 @@
 use Rattle.std.specs.Prelude.{ℕ, Bool, true, false, ◌||◌, codes, List, [], ◌∷◌, Option, Some, None, is_some}
 use Rattle.std.specs.Str.{bytes_eq}
 use Rattle.std.specs.List.{find, position_from}
-use Rattle.value.specs.Columns.{Column}
 use Rattle.row_ast.specs.Ast.{Name, everyone}
 use Rattle.row_objects.specs.Objects.{Membership, Role, Table}
 use Rattle.row_objects.specs.Memberships.{belongs_by}
 use Rattle.row_objects.specs.Indexes.{any_index}
+pub use Rattle.row_objects.specs.ColumnNames.{column_named, place_of, is_qualified}
 
--- roles, memberships and tables, each in order of creation
+-- roles, memberships and tables, each in order of creation, and how many statements were accepted
 pub record Catalog : Type 0 where
   pub roles : List Role
   pub memberships : List Membership
   pub tables : List Table
+  pub change_number : ℕ
 
 -- a catalogue at first: the superuser root alone
 abbrev pub at_first : Catalog
-at_first = record { roles = record { name = codes "root"; superuser = true; bypass_rls = false } ∷ []; memberships = []; tables = [] }
+at_first = record { roles = record { name = codes "root"; superuser = true; bypass_rls = false } ∷ []; memberships = []; tables = []; change_number = 0 }
 
 -- ---- roles
 
@@ -67,17 +68,3 @@ is_index cat name = any_index name cat.tables
 -- the actor is a superuser, or belongs to the owner
 abbrev pub owns : Catalog → Name → Table → Bool
 owns cat actor t = is_superuser cat actor || belongs cat actor t.owner
-
--- ---- columns
-
-abbrev pub column_named : Name → List Column → Option Column
-column_named name columns = find (λ column. bytes_eq name column.name) columns
-
--- the place of the column of that name, from 0
-abbrev pub place_of : List Column → Name → Option ℕ
-place_of columns name = position_from (λ column. bytes_eq name column.name) 0 columns
-
--- the name before the dot, if there is one, is the table's
-abbrev pub is_qualified : Name → Option Name → Bool
-is_qualified table None = true
-is_qualified table (Some name) = bytes_eq name table

@@ -1,5 +1,5 @@
 -- What schema statements change, and which are supported.
-use Rattle.std.specs.Prelude.{◌≡◌, ◌⊎◌, Bool, true, not, ◌&&◌, List, ◌∷◌, is_some, Result, Ok, Err}
+use Rattle.std.specs.Prelude.{◌≡◌, ◌⊎◌, ℕ, ◌+◌, nat_le, Bool, true, not, ◌&&◌, List, ◌∷◌, is_some, Result, Ok, Err}
 use Rattle.value.specs.declared.refusal.Refusal.{Refusal}
 use Rattle.value.specs.declared.refusal.Refusal.TheVariants as r
 use Rattle.row_ast.specs.Ast as ast
@@ -59,12 +59,22 @@ after cat actor (CreatePolicy policy) = after_create_policy cat policy
 after cat actor (DropPolicy name table) = after_drop_policy cat name table
 after cat actor (CreateIndex name table column) = after_create_index cat name table column
 
--- the catalogue after a statement, or its refusal: that it is not supported comes first, then that the actor is no role
+-- the most statements that are accepted
+abbrev pub most_changes : ℕ
+most_changes = 18446744073709551615
+
+-- one more accepted statement than before
+abbrev pub counted : Catalog → Catalog → Catalog
+counted before cat = record cat { change_number = before.change_number + 1 }
+
+-- the catalogue after a statement, or its refusal: that as many were accepted as may be comes first, then that it is not
+-- supported, then that the actor is no role
 abbrev pub changed : Catalog → Name → Statement → Result Catalog Refusal
 changed cat actor statement = unless (first_refusal (
-    (not (is_supported cat statement), r.FeatureNotSupported)
+    (nat_le most_changes cat.change_number, r.ProgramLimitExceeded)
+    ∷ (not (is_supported cat statement), r.FeatureNotSupported)
     ∷ (not (is_role cat actor), r.UndefinedObject)
-    ∷ checks cat actor statement)) (after cat actor statement)
+    ∷ checks cat actor statement)) (counted cat (after cat actor statement))
 
 -- what a call made of the old is what is due, or memory ran out and nothing changed
 abbrev pub IsChange : {X : Type 0} → X → X → Result X Refusal → Result (Unit {0}) Refusal → Type 0

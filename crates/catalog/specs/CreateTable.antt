@@ -1,11 +1,10 @@
 -- CREATE TABLE name (columns).
-use Rattle.std.specs.Prelude.{ℕ, Bool, false, ◌||◌, nat_lt, List, [], ◌∷◌, ◌++◌, length}
-use Rattle.std.specs.Str.{bytes_eq}
-use Rattle.std.specs.List.{list_any}
+use Rattle.std.specs.Prelude.{ℕ, false, ◌||◌, nat_lt, List, [], ◌∷◌, ◌++◌, length}
 use Rattle.value.specs.Columns.{Column}
 use Rattle.value.specs.declared.refusal.Refusal.TheVariants as r
 use Rattle.row_ast.specs.Ast.{Name}
 use Rattle.row_objects.specs.Objects.{Table}
+use Rattle.row_objects.specs.ColumnNames.{has_name_twice}
 use Rattle.catalog.specs.Catalog.{Catalog, is_index, is_table}
 use Rattle.catalog.specs.Checks.{Check, is_full}
 
@@ -15,13 +14,6 @@ most_tables = 64
 
 abbrev pub most_columns : ℕ
 most_columns = 64
-
-abbrev pub has_name : Name → List Column → Bool
-has_name name columns = list_any (λ column. bytes_eq name column.name) columns
-
-abbrev pub has_name_twice : List Column → Bool
-has_name_twice [] = false
-has_name_twice (column ∷ columns) = has_name column.name columns || has_name_twice columns
 
 abbrev pub checks_create_table : Catalog → Name → List Column → List Check
 checks_create_table cat name columns =

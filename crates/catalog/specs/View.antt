@@ -5,4 +5,4 @@ use Rattle.catalog.specs.Catalog.{Catalog}
 use Rattle.catalog.specs.declared.catalog.Catalog.TheInside.{Inside}
 
 abbrev pub catalog_of : {A : Type 0} → Inside A → Catalog
-catalog_of c = record { roles = map role_of c.roles; memberships = map membership_of c.memberships.items; tables = map table_entry c.tables }
+catalog_of c = record { roles = map role_of c.roles; memberships = map membership_of c.memberships.items; tables = map table_entry c.tables; change_number = c.change_number }

@@ -72,17 +72,28 @@ impl<A: Heap> Catalog<A> {
         }
     }
 
-    /// Applies a statement of an actor. A refused statement changes nothing. That a statement is not supported yet comes
-    /// before all else (0A000), then that the actor is no role (42704).
+    /// Applies a statement of an actor, and counts it. A refused statement changes nothing. That 2^64 - 1 statements were
+    /// accepted comes before all else (54000), then that the statement is not supported yet (0A000), then that the actor is no
+    /// role (42704).
     pub fn apply(&mut self, actor: &str, statement: &Statement<A>) -> Result<(), Refusal>
         ensures { IsChange self.old self.new (changed self.old actor.now (statement_of statement.now)) result }
     {
+        let before = self.change_number();
+        if before >= u64::MAX {
+            return Err(Refusal::ProgramLimitExceeded);
+        }
         if !is_supported(self, statement) {
             return Err(Refusal::FeatureNotSupported);
         }
         if !self.is_role(actor) {
             return Err(Refusal::UndefinedObject);
         }
-        self.apply_supported(actor, statement)
+        match self.apply_supported(actor, statement) {
+            Ok(()) => {
+                self.set_change_number(before + 1);
+                Ok(())
+            }
+            Err(why) => Err(why),
+        }
     }
 }

@@ -11,13 +11,14 @@ use std::alloc::AllocError;
 use std::marker::Model;
 use text::Text;
 
-/// Roles, memberships and tables, each in order of creation.
+/// Roles, memberships and tables, each in order of creation, and how many statements were accepted.
 #[derive(Drop)]
 pub struct Catalog<A: Heap> {
     pub(crate) alloc: A,
     pub(crate) roles: ByName<Role, A>,
     pub(crate) memberships: Vec<Membership<A>, A>,
     pub(crate) tables: ByName<TableDef<A>, A>,
+    change_number: u64,
 }
 
 impl<A: Heap> Model for Catalog<A> {
@@ -56,6 +57,7 @@ impl<A: Heap> Catalog<A> {
             roles,
             memberships: Vec::new(alloc),
             tables: ByName::new(alloc),
+            change_number: 0,
         })
     }
 
@@ -71,6 +73,19 @@ impl<A: Heap> Catalog<A> {
         ensures { result ≡ length self.now.tables }
     {
         self.tables.len()
+    }
+
+    /// How many statements were accepted.
+    pub fn change_number(&self) -> u64
+        ensures { result ≡ self.now.change_number }
+    {
+        self.change_number
+    }
+
+    pub(crate) fn set_change_number(&mut self, number: u64)
+        ensures { self.new ≡ record self.old { change_number = number } }
+    {
+        self.change_number = number;
     }
 
     /// Whether there is a role of that name.

@@ -10,9 +10,8 @@ ghost use Rattle.catalog.specs.CreateIndex.{after_create_index, checks_create_in
 ghost use Rattle.catalog.specs.Changes.{IsChange};
 
 use crate::catalog::Catalog;
-use crate::names::place;
 use memory::Heap;
-use row_objects::{ByName, Index, Table, TableDef, is_indexed};
+use row_objects::{ByName, Index, Table, TableDef, is_indexed, place};
 use std::alloc::AllocError;
 use text::Text;
 use value::{Column, Refusal};

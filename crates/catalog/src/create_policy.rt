@@ -13,11 +13,11 @@ ghost use Rattle.catalog.specs.Equations.{equation_of, operand_ref_of};
 ghost use Rattle.catalog.specs.Changes.{IsChange};
 
 use crate::catalog::Catalog;
-use crate::copies::copy_names;
-use crate::names::{column_named, is_qualified, place};
 use memory::Heap;
 use row_ast::{ColumnRef, CreatePolicy, Expr, column_in};
-use row_objects::{ByName, Operand, Policy, Table, TableDef};
+use row_objects::{
+    ByName, Operand, Policy, Table, TableDef, column_named, copy_names, is_qualified, place,
+};
 use std::alloc::AllocError;
 use text::Text;
 use value::{ColType, Column, Comparison, Refusal, Value, fits_type};

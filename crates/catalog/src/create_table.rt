@@ -5,12 +5,12 @@ ghost use Rattle.value.specs.Columns.{column_of};
 ghost use Rattle.row_objects.specs.View.{table_entry};
 ghost use Rattle.catalog.specs.Catalog.{is_table};
 ghost use Rattle.catalog.specs.Checks.{first_refusal, unless};
-ghost use Rattle.catalog.specs.CreateTable.{after_create_table, checks_create_table, has_name, has_name_twice, new_table};
+ghost use Rattle.catalog.specs.CreateTable.{after_create_table, checks_create_table, new_table};
 ghost use Rattle.catalog.specs.Changes.{IsChange};
 
 use crate::catalog::Catalog;
 use memory::Heap;
-use row_objects::TableDef;
+use row_objects::{TableDef, has_name_twice};
 use std::alloc::AllocError;
 use text::{Items, Text};
 use value::{Column, Refusal, copy_columns};
@@ -20,28 +20,6 @@ pub const MOST_TABLES: usize = 64;
 
 /// The most columns of a table.
 pub const MOST_COLUMNS: usize = 64;
-
-fn has_name<A: Heap>(columns: &[Column<A>], name: &str) -> bool
-    ensures { result ≡ has_name name.now (map (λ c. column_of c) columns.now) }
-{
-    for column in columns {
-        if name == column.name.as_str() {
-            return true;
-        }
-    }
-    false
-}
-
-fn has_name_twice<A: Heap>(columns: &[Column<A>]) -> bool
-    ensures { result ≡ has_name_twice (map (λ c. column_of c) columns.now) }
-{
-    for (i, column) in columns.iter().enumerate() {
-        if has_name(&columns[i + 1..], column.name.as_str()) {
-            return true;
-        }
-    }
-    false
-}
 
 fn check_create_table<A: Heap>(
     catalog: &Catalog<A>,

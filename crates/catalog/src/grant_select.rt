@@ -1,43 +1,19 @@
 //! `GRANT SELECT [(columns)] ON table TO roles` (PostgreSQL: GRANT).
 
-ghost use Rattle.std.specs.Prelude.{◌≡◌, ◌<◌, IfOk, OnErr, OnOk, is_some, length, map};
-ghost use Rattle.std.specs.List.{list_all};
-ghost use Rattle.value.specs.Columns.{column_of};
+ghost use Rattle.std.specs.Prelude.{◌≡◌, ◌<◌, IfOk, OnErr, OnOk, length, map};
 ghost use Rattle.row_ast.specs.View.{grant_of};
 ghost use Rattle.row_objects.specs.View.{table_entry};
-ghost use Rattle.catalog.specs.Catalog.{column_named, table_place};
+ghost use Rattle.catalog.specs.Catalog.{table_place};
 ghost use Rattle.catalog.specs.Checks.{changed_at, first_refusal, unless, Checked};
-ghost use Rattle.catalog.specs.GrantSelect.{after_grant_select, are_columns, checks_select, with_grants_to};
+ghost use Rattle.catalog.specs.GrantSelect.{after_grant_select, checks_select, with_grants_to};
 ghost use Rattle.catalog.specs.Changes.{IsChange};
 
 use crate::catalog::Catalog;
-use crate::names::column_named;
 use memory::Heap;
 use row_ast::Grant;
-use row_objects::{ByName, TableDef, add_grants};
+use row_objects::{ByName, TableDef, add_grants, are_columns};
 use std::alloc::AllocError;
-use text::{Items, Text};
-use value::{Column, Refusal};
-
-fn have_names<A: Heap>(columns: &[Column<A>], names: &[Text<A>]) -> bool
-    ensures { result ≡ list_all (λ name. is_some (column_named name (map (λ c. column_of c) columns.now))) names.now }
-{
-    for name in names {
-        let Some(_) = column_named(columns, name.as_str()) else {
-            return false;
-        };
-    }
-    true
-}
-
-fn are_columns<A: Heap>(columns: &[Column<A>], names: &Option<Items<Text<A>, A>>) -> bool
-    ensures { result ≡ are_columns (map (λ c. column_of c) columns.now) names.now }
-{
-    match names {
-        None => true,
-        Some(names) => have_names(columns, names.as_slice()),
-    }
-}
+use value::Refusal;
 
 /// The place of the table, or the first refusal of a GRANT SELECT or a REVOKE SELECT.
 pub(crate) fn check_select<A: Heap>(

@@ -3,7 +3,6 @@
 
 mod apply;
 mod catalog;
-mod copies;
 mod create_index;
 mod create_policy;
 mod create_role;
@@ -12,7 +11,6 @@ mod drop_policy;
 mod grant_role;
 mod grant_select;
 mod laws;
-mod names;
 mod revoke_role;
 mod revoke_select;
 mod row_security;
@@ -21,5 +19,4 @@ mod set_owner;
 pub use catalog::Catalog;
 pub use create_table::{MOST_COLUMNS, MOST_TABLES};
 pub use laws::{law_granted_again, law_no_loop, law_revoked};
-pub use names::{is_qualified, place};
-pub use row_objects::MOST_ROLES;
+pub use row_objects::{MOST_ROLES, is_qualified, place};

@@ -1,6 +1,7 @@
 pub mod Named
 pub mod Lends
 pub mod Objects
+pub mod ColumnNames
 pub mod Memberships
 pub mod Reached
 pub mod Grants

@@ -2,17 +2,21 @@
 #![tactic(auto)]
 
 mod by_name;
+mod copies;
 mod grants;
 mod indexes;
 mod memberships;
+mod names;
 mod objects;
 mod policies;
 
 pub use by_name::ByName;
+pub use copies::copy_names;
 pub use grants::{add_grants, remove_grants};
 pub use indexes::{any_index, is_indexed};
 pub use memberships::{
     MOST_ROLES, add_membership, belongs_by, law_belongs_by_paths, law_no_loop, remove_membership,
 };
+pub use names::{are_columns, column_named, has_name_twice, is_qualified, place};
 pub use objects::{Grant, Index, Membership, Operand, Policy, Role, Table, TableDef};
 pub use policies::{has_policy, remove_policy};

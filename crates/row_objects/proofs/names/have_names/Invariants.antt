@@ -1,8 +1,8 @@
 use Rattle.std.proofs.Common.{◌≡◌, drop, map, is_some}
 use Rattle.std.specs.List.{list_all}
 use Rattle.value.specs.Columns.{column_of}
-use Rattle.catalog.specs.Catalog.{column_named}
-use Rattle.catalog.proofs.grant_select.have_names.Given as goal
+use Rattle.row_objects.specs.ColumnNames.{column_named}
+use Rattle.row_objects.proofs.names.have_names.Given as goal
 
 abbrev pub invariant-loop-name : goal.invariant-loop-name
 invariant-loop-name g l =

@@ -1,4 +1,4 @@
-//! Copies of parts of a statement, which a catalogue keeps.
+//! Copies of what a catalogue keeps.
 
 ghost use Rattle.std.specs.Prelude.{◌≡◌, ◌++◌, IfOk, OnOk};
 
@@ -20,10 +20,7 @@ fn push_names<A: Heap>(
 }
 
 /// A copy of names.
-pub(crate) fn copy_names<A: Heap>(
-    alloc: A,
-    names: &[Text<A>],
-) -> Result<Items<Text<A>, A>, AllocError>
+pub fn copy_names<A: Heap>(alloc: A, names: &[Text<A>]) -> Result<Items<Text<A>, A>, AllocError>
     ensures { IfOk result (λ copy. copy ≡ names.now) }
 {
     let mut copy = Items::new(alloc);
