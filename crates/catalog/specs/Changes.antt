@@ -5,6 +5,7 @@ use Rattle.value.specs.declared.refusal.Refusal.TheVariants as r
 use Rattle.row_ast.specs.Ast as ast
 use Rattle.row_ast.specs.Ast.{Name, is_empty}
 use Rattle.row_ast.specs.Statements.{Statement, CreateRole, GrantRole, RevokeRole, CreateTable, SetOwner, SetRowSecurity, CreateIndex, GrantSelect, RevokeSelect, CreatePolicy, DropPolicy}
+use Rattle.row_objects.specs.Equations.{equation_in}
 use Rattle.catalog.specs.Catalog.{Catalog, is_role, table_named}
 use Rattle.catalog.specs.Checks.{Check, first_refusal, if_found, unless}
 use Rattle.catalog.specs.CreateRole.{checks_create_role, after_create_role}
@@ -15,7 +16,7 @@ use Rattle.catalog.specs.SetOwner.{checks_set_owner, after_set_owner}
 use Rattle.catalog.specs.RowSecurity.{checks_row_security, after_row_security}
 use Rattle.catalog.specs.GrantSelect.{checks_select, after_grant_select}
 use Rattle.catalog.specs.RevokeSelect.{after_revoke_select}
-use Rattle.catalog.specs.CreatePolicy.{equation_in, checks_create_policy, after_create_policy}
+use Rattle.catalog.specs.CreatePolicy.{checks_create_policy, after_create_policy}
 use Rattle.catalog.specs.DropPolicy.{checks_drop_policy, after_drop_policy}
 use Rattle.catalog.specs.CreateIndex.{checks_create_index, after_create_index}
 

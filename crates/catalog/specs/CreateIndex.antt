@@ -1,10 +1,9 @@
 -- CREATE INDEX name ON table (column).
-use Rattle.std.specs.Prelude.{ℕ, true, not, List, [], ◌∷◌, Option, option_map}
-use Rattle.value.specs.Columns.{Column}
+use Rattle.std.specs.Prelude.{ℕ, true, not, List, [], ◌∷◌}
 use Rattle.value.specs.declared.refusal.Refusal.TheVariants as r
 use Rattle.row_ast.specs.Ast.{Name}
-use Rattle.row_objects.specs.Objects.{Index, Table}
-use Rattle.row_objects.specs.Indexes.{is_indexed}
+use Rattle.row_objects.specs.Objects.{Table}
+use Rattle.row_objects.specs.Indexes.{is_indexed, new_index}
 use Rattle.catalog.specs.Catalog.{Catalog, is_index, is_table, owns, place_of, table_named}
 use Rattle.catalog.specs.Checks.{Check, if_found, with_last, with_table}
 
@@ -19,10 +18,6 @@ abbrev pub checks_create_index : Catalog → Name → Name → Name → Name →
 checks_create_index cat actor name table column = if_found ((true, r.UndefinedTable) ∷ []) (λ t.
     (not (owns cat actor t), r.InsufficientPrivilege)
     ∷ if_found ((true, r.UndefinedColumn) ∷ []) (checks_new_index cat name t) (place_of t.columns column)) (table_named table cat)
-
--- the index, if its column is among the columns, as it is where no check refused it
-abbrev pub new_index : Name → Name → List Column → Option Index
-new_index name column columns = option_map (λ place. record { name = name; column = place }) (place_of columns column)
 
 abbrev pub with_index : Name → Name → Table → Table
 with_index name column t = record t { indexes = with_last t.indexes (new_index name column t.columns) }

@@ -10,7 +10,6 @@ pub mod RowSecurity
 pub mod GrantSelect
 pub mod RevokeSelect
 pub mod CreatePolicy
-pub mod Equations
 pub mod DropPolicy
 pub mod CreateIndex
 pub mod Changes

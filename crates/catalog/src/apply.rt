@@ -6,9 +6,9 @@ ghost use Rattle.catalog.specs.Checks.{first_refusal, unless};
 ghost use Rattle.catalog.specs.Changes.{after, changed, checks, is_supported, is_supported_policy, IsChange};
 
 use crate::catalog::Catalog;
-use crate::create_policy::equation_in;
 use memory::Heap;
 use row_ast::{CreatePolicy, Statement};
+use row_objects::equation_in;
 use value::Refusal;
 
 fn is_supported_policy<A: Heap>(catalog: &Catalog<A>, policy: &CreatePolicy<A>) -> bool

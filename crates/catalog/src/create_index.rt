@@ -1,20 +1,17 @@
 //! `CREATE INDEX name ON table (column)` (PostgreSQL: CREATE INDEX).
 
-ghost use Rattle.std.specs.Prelude.{◌≡◌, ◌<◌, IfOk, OnErr, OnOk, length, map, option_map};
-ghost use Rattle.value.specs.Columns.{column_of};
-ghost use Rattle.row_objects.specs.View.{index_of, table_entry, table_of};
+ghost use Rattle.std.specs.Prelude.{◌≡◌, ◌<◌, IfOk, OnErr, OnOk, length, map};
+ghost use Rattle.row_objects.specs.View.{table_entry, table_of};
 ghost use Rattle.catalog.specs.Catalog.{table_place};
 ghost use Rattle.catalog.specs.Checks.{changed_at, first_refusal, unless, Checked};
-ghost use Rattle.catalog.specs.CreateIndex as spec;
 ghost use Rattle.catalog.specs.CreateIndex.{after_create_index, checks_create_index, checks_new_index, with_index};
 ghost use Rattle.catalog.specs.Changes.{IsChange};
 
 use crate::catalog::Catalog;
 use memory::Heap;
-use row_objects::{ByName, Index, Table, TableDef, is_indexed, place};
+use row_objects::{ByName, Table, TableDef, is_indexed, new_index, place};
 use std::alloc::AllocError;
-use text::Text;
-use value::{Column, Refusal};
+use value::Refusal;
 
 fn check_new_index<A: Heap>(
     catalog: &Catalog<A>,
@@ -58,22 +55,6 @@ fn check_create_index<A: Heap>(
         Some(why) => Err(why),
         None => Ok(found),
     }
-}
-
-// The index, if its column is among the columns.
-fn new_index<A: Heap>(
-    alloc: A,
-    name: &str,
-    column: &str,
-    columns: &[Column<A>],
-) -> Result<Option<Index<A>>, AllocError>
-    ensures { IfOk result (λ made. option_map (λ i. index_of i) made ≡ spec.new_index name.now column.now (map (λ c. column_of c) columns.now)) }
-{
-    let Some(column) = place(columns, column) else {
-        return Ok(None);
-    };
-    let name = Text::new(alloc, name)?;
-    Ok(Some(Index { name, column }))
 }
 
 fn add_index_in<A: Heap>(

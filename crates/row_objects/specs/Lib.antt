@@ -8,3 +8,5 @@ pub mod Grants
 pub mod Policies
 pub mod Indexes
 pub mod View
+pub mod Equations
+pub mod EquationView

@@ -1,12 +1,18 @@
 //! The indexes of tables.
 
-ghost use Rattle.std.specs.Prelude.{◌≡◌, map};
+ghost use Rattle.std.specs.Prelude.{◌≡◌, IfOk, map, option_map};
+ghost use Rattle.value.specs.Columns.{column_of};
+ghost use Rattle.row_objects.specs.Indexes as spec;
 ghost use Rattle.row_objects.specs.Indexes.{any_index, has_index, is_indexed};
 ghost use Rattle.row_objects.specs.View.{index_of, table_entry};
 
 use crate::by_name::ByName;
+use crate::names::place;
 use crate::objects::{Index, TableDef};
 use memory::Heap;
+use std::alloc::AllocError;
+use text::Text;
+use value::Column;
 
 fn has_index<A: Heap>(indexes: &[Index<A>], name: &str) -> bool
     ensures { result ≡ has_index name.now (map (λ i. index_of i) indexes.now) }
@@ -41,4 +47,20 @@ pub fn is_indexed<A: Heap>(indexes: &[Index<A>], column: usize) -> bool
         }
     }
     false
+}
+
+/// The index, if its column is among the columns.
+pub fn new_index<A: Heap>(
+    alloc: A,
+    name: &str,
+    column: &str,
+    columns: &[Column<A>],
+) -> Result<Option<Index<A>>, AllocError>
+    ensures { IfOk result (λ made. option_map (λ i. index_of i) made ≡ spec.new_index name.now column.now (map (λ c. column_of c) columns.now)) }
+{
+    let Some(column) = place(columns, column) else {
+        return Ok(None);
+    };
+    let name = Text::new(alloc, name)?;
+    Ok(Some(Index { name, column }))
 }

@@ -3,6 +3,7 @@
 
 mod by_name;
 mod copies;
+mod equations;
 mod grants;
 mod indexes;
 mod memberships;
@@ -11,9 +12,9 @@ mod objects;
 mod policies;
 
 pub use by_name::ByName;
-pub use copies::copy_names;
+pub use equations::{Equation, OperandRef, equation_in, new_policy, operand_fits};
 pub use grants::{add_grants, remove_grants};
-pub use indexes::{any_index, is_indexed};
+pub use indexes::{any_index, is_indexed, new_index};
 pub use memberships::{
     MOST_ROLES, add_membership, belongs_by, law_belongs_by_paths, law_no_loop, remove_membership,
 };

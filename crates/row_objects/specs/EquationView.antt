@@ -2,10 +2,10 @@
 use Rattle.value.specs.Datum.{datum}
 use Rattle.row_ast.specs.View.{column_ref_of}
 use Rattle.row_objects.specs.Objects.{Operand, CurrentUser, Literal}
-use Rattle.catalog.specs.declared.create_policy.OperandRef.{OperandRef}
-use Rattle.catalog.specs.declared.create_policy.OperandRef.TheVariants as operand
-use Rattle.catalog.specs.declared.create_policy.Equation as declared
-use Rattle.catalog.specs.CreatePolicy.{Equation}
+use Rattle.row_objects.specs.declared.equations.OperandRef.{OperandRef}
+use Rattle.row_objects.specs.declared.equations.OperandRef.TheVariants as operand
+use Rattle.row_objects.specs.declared.equations.Equation as declared
+use Rattle.row_objects.specs.Equations.{Equation}
 
 abbrev pub operand_ref_of : {A : Type 0} → OperandRef A → Operand
 operand_ref_of operand.CurrentUser = CurrentUser
