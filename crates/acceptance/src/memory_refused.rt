@@ -1,6 +1,7 @@
 //! Each request for memory refused in turn.
 
 use crate::opening::open_or_out_of_memory;
+use crate::sales;
 use crate::stores::{DEALS, SCHEMA, StoreFault, deals, load, made, served, store_of};
 use memory::{Failure, Heap};
 use metered::Metered;
@@ -62,10 +63,17 @@ fn is_memory(failure: Failure<StoreFault>) -> bool {
     )
 }
 
+// The schemas of stores: of the deals, and with every statement that takes memory.
+static SCHEMAS: [&str; 2] = [SCHEMA, sales::INDEXED];
+
+fn schemas() -> &'static [&'static str] {
+    &SCHEMAS
+}
+
 // A store where the nth request is refused: out of memory, or there are fewer requests and it is made.
-fn made_without(rt: &(impl Abort + AllocGlobal), nth: u64) -> bool {
+fn made_without(rt: &(impl Abort + AllocGlobal), schema: &str, nth: u64) -> bool {
     let heap = Metered::refusing(rt.alloc(), nth);
-    match deals(&heap) {
+    match store_of(&heap, schema) {
         Ok(_) => {
             assert!(rt; heap.requests(nth) < nth, "at {nth}");
             true
@@ -77,10 +85,10 @@ fn made_without(rt: &(impl Abort + AllocGlobal), nth: u64) -> bool {
     }
 }
 
-fn store_or_refusal_of_memory(rt: &(impl Abort + AllocGlobal)) {
+fn store_or_refusal_of_memory(rt: &(impl Abort + AllocGlobal), schema: &str) {
     let mut refused = 0u64;
     for nth in 1..1000u64 {
-        if made_without(rt, nth) {
+        if made_without(rt, schema, nth) {
             break;
         }
         refused = nth;
@@ -112,7 +120,9 @@ fn refused_load_adds_nothing(rt: &(impl Abort + AllocGlobal)) {
 #[test]
 fn refused_memory_of_stores_and_answers_is_reported(rt: HostRuntime) {
     reply_or_refusal_of_memory(&rt);
-    store_or_refusal_of_memory(&rt);
+    for schema in schemas() {
+        store_or_refusal_of_memory(&rt, schema);
+    }
     refused_load_adds_nothing(&rt);
     open_or_out_of_memory(&rt);
 }

@@ -3,8 +3,8 @@
 use crate::answers::Step::{Apply, Ask, Load};
 use crate::answers::{Row, walk};
 
-/// The schema of examples/sales.
-pub const SCHEMA: &str = "CREATE ROLE boss; CREATE ROLE audit BYPASSRLS; CREATE ROLE sales;
+// The schema of examples/sales.
+const SCHEMA: &str = "CREATE ROLE boss; CREATE ROLE audit BYPASSRLS; CREATE ROLE sales;
 CREATE ROLE alice; CREATE ROLE bob; CREATE ROLE guest; CREATE ROLE lone;
 GRANT sales TO alice; GRANT sales TO bob;
 CREATE TABLE deal (id bigint, owner text, region bigint, amount bigint, parts bigint);
@@ -13,12 +13,19 @@ CREATE POLICY own ON deal FOR SELECT TO sales USING (owner = CURRENT_USER);
 GRANT SELECT ON deal TO sales; GRANT SELECT ON deal TO audit; GRANT SELECT (id) ON deal TO guest;
 CREATE TABLE region (id bigint, name text); GRANT SELECT ON region TO PUBLIC;";
 
+/// A schema with each statement that takes or gives back memory.
+pub const INDEXED: &str = "CREATE ROLE audit BYPASSRLS; CREATE ROLE sales; CREATE ROLE alice;
+GRANT sales TO alice; CREATE TABLE deal (id bigint, owner text); ALTER TABLE deal OWNER TO audit;
+ALTER TABLE deal FORCE ROW LEVEL SECURITY; GRANT SELECT (id, owner) ON deal TO sales, PUBLIC;
+CREATE INDEX i ON deal (id); CREATE POLICY own ON deal TO sales USING (owner = 'x'); DROP POLICY own ON deal;
+REVOKE SELECT (id) ON deal FROM sales; REVOKE sales FROM alice;";
+
 const DEALS: &str =
     "id,owner,region,amount,parts\n1,alice,1,100,4\n2,alice,2,50,0\n3,bob,1,70,7\n4,bob,2,\\N,0\n5,alice,\\N,100,5\n";
 
 const REGIONS: &str = "id,name\n1,north\n2,south\n\\N,none\n";
 
-static WORKED: [Row; 12] = [
+static WORKED: [Row; 18] = [
     (
         "members_see_their_own_deals",
         SCHEMA,
@@ -218,6 +225,87 @@ static WORKED: [Row; 12] = [
                 4,
             ),
             Ask("a", "SELECT x FROM t", "x\n1\n", 0),
+        ],
+    ),
+    (
+        "bypassrls_is_no_grant_and_not_inherited",
+        stores::SCHEMA,
+        &[
+            Load("deal", stores::DEALS),
+            Apply("CREATE ROLE audit BYPASSRLS; GRANT audit TO alice;"),
+            Ask(
+                "audit",
+                "SELECT id FROM deal",
+                "denied 42501 column id of table deal\n",
+                4,
+            ),
+            Ask("alice", "SELECT id FROM deal", "id\n1\n2\n", 0),
+            Apply("GRANT SELECT ON deal TO audit;"),
+            Ask("audit", "SELECT id FROM deal", "id\n1\n2\n3\n", 0),
+            Ask("alice", "SELECT id FROM deal", "id\n1\n2\n", 0),
+        ],
+    ),
+    (
+        "superuser_is_not_inherited",
+        stores::SCHEMA,
+        &[
+            Load("deal", stores::DEALS),
+            Apply("CREATE ROLE chief SUPERUSER; GRANT chief TO lone;"),
+            Ask("chief", "SELECT id FROM deal", "id\n1\n2\n3\n", 0),
+            Ask(
+                "lone",
+                "SELECT id FROM deal",
+                "denied 42501 column id of table deal\n",
+                4,
+            ),
+        ],
+    ),
+    (
+        "grants_lead_through_three_memberships",
+        stores::SCHEMA,
+        &[
+            Load("deal", stores::DEALS),
+            Apply("CREATE ROLE a; CREATE ROLE b; GRANT alice TO a; GRANT a TO b; GRANT b TO lone;"),
+            Ask("lone", "SELECT id FROM deal", "id\n", 0),
+        ],
+    ),
+    (
+        "members_of_the_owner_see_all_rows",
+        stores::SCHEMA,
+        &[
+            Load("deal", stores::DEALS),
+            Apply("CREATE ROLE a; GRANT boss TO a; GRANT a TO lone;"),
+            Ask("lone", "SELECT id FROM deal", "id\n1\n2\n3\n", 0),
+        ],
+    ),
+    (
+        "a_grant_to_the_group_after_the_membership",
+        stores::SCHEMA,
+        &[
+            Load("deal", stores::DEALS),
+            Apply("CREATE ROLE a; GRANT a TO lone; GRANT SELECT ON deal TO a;"),
+            Ask("lone", "SELECT id FROM deal", "id\n", 0),
+        ],
+    ),
+    (
+        "a_group_has_no_right_of_its_member",
+        stores::SCHEMA,
+        &[
+            Load("deal", stores::DEALS),
+            Apply("GRANT lone TO alice;"),
+            Ask(
+                "lone",
+                "SELECT id FROM deal",
+                "denied 42501 column id of table deal\n",
+                4,
+            ),
+            Apply("REVOKE lone FROM alice; GRANT alice TO lone; REVOKE alice FROM lone;"),
+            Ask(
+                "lone",
+                "SELECT id FROM deal",
+                "denied 42501 column id of table deal\n",
+                4,
+            ),
         ],
     ),
 ];
