@@ -2,6 +2,7 @@
 
 use crate::answers::Step::{Apply, Ask, Load};
 use crate::answers::{Row, walk};
+use crate::stores;
 
 // The schema of examples/sales.
 const SCHEMA: &str = "CREATE ROLE boss; CREATE ROLE audit BYPASSRLS; CREATE ROLE sales;
