@@ -1,2 +1,4 @@
 pub mod Columns
 pub mod Weights
+pub mod Bound
+pub mod View

@@ -5,7 +5,7 @@ use Rattle.row_ast.specs.Ast as ast
 use Rattle.catalog.specs.Catalog.{is_qualified, place_of}
 use Rattle.resolve.specs.declared.fault.NameFault.{NameFault}
 use Rattle.resolve.specs.declared.lookup.Reach.{Reach}
-use Rattle.resolve.specs.declared.lookup.ColumnId.{ColumnId}
+use Rattle.expr.specs.declared.bound.ColumnId.{ColumnId}
 use Rattle.resolve.specs.declared.lookup.Search.{Search}
 use Rattle.resolve.specs.declared.lookup.Search.TheVariants as search
 use Rattle.resolve.specs.Entries.{Entry, fault}

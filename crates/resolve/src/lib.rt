@@ -12,6 +12,6 @@ mod served;
 pub use binding::{Bound, bind};
 pub use fault::NameFault;
 pub use from::{Entry, entries};
-pub use lookup::{ColumnId, Reach, find_column};
+pub use lookup::{Reach, everywhere, find_column, on_reach};
 pub use reading::{Names, first_name_fault, found_names, needed};
 pub use served::is_served;

@@ -8,6 +8,7 @@ ghost use Rattle.resolve.specs.Lookup as spec;
 use crate::fault::NameFault;
 use crate::from::Entry;
 use catalog::{is_qualified, place};
+use expr::ColumnId;
 use memory::Heap;
 use row_ast::ColumnRef;
 use value::Refusal;
@@ -19,15 +20,6 @@ pub struct Reach {
     pub from: usize,
     /// One more than the last.
     pub to: usize,
-}
-
-/// A column: the number of its entry, and its place in the entry's table, from 0.
-#[derive(Clone, Copy, Debug, PartialEq, Eq)]
-pub struct ColumnId {
-    /// The number of its entry.
-    pub entry: usize,
-    /// Its place in the entry's table.
-    pub column: usize,
 }
 
 // What a name stands for among some entries.
@@ -43,8 +35,8 @@ enum Search {
     Several,
 }
 
-// The reach of items, WHERE, GROUP BY and HAVING: every entry.
-pub(crate) fn everywhere<A: Heap>(entries: &[Entry<'_, A>]) -> Reach
+/// The reach of items, WHERE, GROUP BY and HAVING: every entry.
+pub fn everywhere<A: Heap>(entries: &[Entry<'_, A>]) -> Reach
     ensures { result ≡ spec.everywhere (map (λ e. entry_of e) entries.now) }
 {
     Reach {
@@ -53,8 +45,8 @@ pub(crate) fn everywhere<A: Heap>(entries: &[Entry<'_, A>]) -> Reach
     }
 }
 
-// The reach of the ON of an entry: from the first entry of its comma item to the entry itself.
-pub(crate) fn on_reach<A: Heap>(number: usize, entry: &Entry<'_, A>) -> Reach
+/// The reach of the ON of an entry: from the first entry of its comma item to the entry itself.
+pub fn on_reach<A: Heap>(number: usize, entry: &Entry<'_, A>) -> Reach
     requires { number + 1 < 18446744073709551616 }
     ensures { result ≡ spec.on_reach number (entry_of entry.now) }
 {

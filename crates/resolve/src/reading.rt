@@ -13,10 +13,11 @@ ghost use Rattle.resolve.specs.NeededView.{names_of};
 
 use crate::fault::NameFault;
 use crate::from::{Entry, entries};
-use crate::lookup::{ColumnId, find_column};
+use crate::lookup::find_column;
 use crate::naming::{Mention, mentions};
 use access::RequiredPrivilege;
 use catalog::Catalog;
+use expr::ColumnId;
 use memory::{Failure, Heap};
 use row_ast::Query;
 use std::alloc::AllocError;

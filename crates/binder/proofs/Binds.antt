@@ -1,0 +1,66 @@
+-- How binding continues, and how it ends.
+use Rattle.std.proofs.Common.{◌≡◌, ℕ, ◌+◌, ◌<◌, ◌≤◌, List, [], ◌∷◌, ◌++◌, length, map, get_or, drop, Some, None, Result, Ok, Err, Vec, Box, refl, sym, ap, ◌∙◌}
+use Rattle.memory.specs.Gives.{Gives}
+use Rattle.memory.specs.declared.failure.Failure.{Failure}
+use Rattle.memory.specs.declared.failure.Failure.TheVariants as failure
+use Rattle.row_ast.specs.View.{expr_of, exprs, arms}
+use Rattle.row_ast.specs.declared.expr.Expr.{Expr}
+use Rattle.row_ast.specs.declared.expr.Arm.{Arm}
+use Rattle.expr.specs.Bound as bound
+use Rattle.expr.specs.Bound.{BoundExpr, BoundExprs, BoundArms, bound_exprs_of}
+use Rattle.expr.specs.View.{bound_expr_of, bound_arm_pair}
+use Rattle.expr.specs.declared.bound.BoundExpr as code
+use Rattle.expr.specs.declared.bound.BoundExpr.{Case, And, Or}
+use Rattle.expr.specs.declared.bound.BoundArm as code_arm
+use Rattle.expr.proofs.Trees.{bound_exprs_hidden, bound_arms_hidden}
+use Rattle.expr.proofs.Walks.{exprs_step, exprs_over, arms_step, arms_over}
+use Rattle.resolve.specs.declared.fault.NameFault.{NameFault}
+use Rattle.resolve.specs.declared.lookup.Reach.{Reach}
+use Rattle.resolve.specs.Entries.{and_then, Entry}
+use Rattle.binder.specs.BoundExprs as spec
+use Rattle.binder.specs.BoundExprs.{bound_expr, bound_members, bound_arms, pair}
+
+module _ (entries : List Entry) (reach : Reach) {A : Type 0} where
+  module _ (es : List (Expr A)) (k : ℕ) where
+    pub members_over : (known : List BoundExpr) (whole : Result (List BoundExpr) NameFault) → bound_members entries reach known (exprs (drop k es)) ≡ whole → length es ≤ k → whole ≡ Ok known
+    members_over known whole so_far l = sym so_far ∙ ap (bound_members entries reach known) (exprs_over es k l)
+
+    module _ (e : Expr A) (more : k < length es) (is : e ≡ get_or es k e) (known : List BoundExpr) (whole : Result (List BoundExpr) NameFault) (so_far : bound_members entries reach known (exprs (drop k es)) ≡ whole) where
+      pub members_opened : and_then (bound_expr entries reach (expr_of e)) (λ x. bound_members entries reach (known ++ x ∷ []) (exprs (drop (k + 1) es))) ≡ whole
+      members_opened = ap (bound_members entries reach known) (sym (exprs_step es k e more is)) ∙ so_far
+
+      pub members_next : (x : BoundExpr) (new : List BoundExpr) → bound_expr entries reach (expr_of e) ≡ Ok x → new ≡ known ++ x ∷ [] → bound_members entries reach new (exprs (drop (k + 1) es)) ≡ whole
+      members_next x new h n = rw n (ap (λ r. and_then r (λ x. bound_members entries reach (known ++ x ∷ []) (exprs (drop (k + 1) es)))) (sym h) ∙ members_opened)
+
+  module _ (as_ : List (Arm A)) (k : ℕ) where
+    pub arms_bound_over : (known : List (BoundExpr × BoundExpr)) (whole : Result (List (BoundExpr × BoundExpr)) NameFault) → bound_arms entries reach known (arms (drop k as_)) ≡ whole → length as_ ≤ k → whole ≡ Ok known
+    arms_bound_over known whole so_far l = sym so_far ∙ ap (bound_arms entries reach known) (arms_over as_ k l)
+
+    module _ (a : Arm A) (more : k < length as_) (is : a ≡ get_or as_ k a) (known : List (BoundExpr × BoundExpr)) (whole : Result (List (BoundExpr × BoundExpr)) NameFault) (so_far : bound_arms entries reach known (arms (drop k as_)) ≡ whole) where
+      pub arms_opened : and_then (pair (bound_expr entries reach (expr_of a.when)) (bound_expr entries reach (expr_of a.result))) (λ p. bound_arms entries reach (known ++ p ∷ []) (arms (drop (k + 1) as_))) ≡ whole
+      arms_opened = ap (bound_arms entries reach known) (sym (arms_step as_ k a more is)) ∙ so_far
+
+      pub arms_next : (p : BoundExpr × BoundExpr) (new : List (BoundExpr × BoundExpr)) → pair (bound_expr entries reach (expr_of a.when)) (bound_expr entries reach (expr_of a.result)) ≡ Ok p → new ≡ known ++ p ∷ []
+          → bound_arms entries reach new (arms (drop (k + 1) as_)) ≡ whole
+      arms_next p new h n = rw n (ap (λ r. and_then r (λ p. bound_arms entries reach (known ++ p ∷ []) (arms (drop (k + 1) as_)))) (sym h) ∙ arms_opened)
+
+-- ---- nodes with members that are made of their parts
+
+module _ {A : Type 0} (offset : ℕ) (v : Vec (code.BoundExpr A) A) (stated : Result (List BoundExpr) NameFault) (members_are : stated ≡ Ok (map bound_expr_of v.items)) (b : code.BoundExpr A) where
+  pub and_made : b ≡ And offset v → spec.conjunction offset stated ≡ Ok (bound_expr_of b)
+  and_made is = rw (members_are, is) (ap (λ (xs : BoundExprs). let r : Result BoundExpr NameFault = Ok (bound.And offset xs) in r) (sym (bound_exprs_hidden v)))
+
+  pub or_made : b ≡ Or offset v → spec.disjunction offset stated ≡ Ok (bound_expr_of b)
+  or_made is = rw (members_are, is) (ap (λ (xs : BoundExprs). let r : Result BoundExpr NameFault = Ok (bound.Or offset xs) in r) (sym (bound_exprs_hidden v)))
+
+module _ {A : Type 0} (offset : ℕ) (v : Vec (code_arm.BoundArm A) A) (stated : Result (List (BoundExpr × BoundExpr)) NameFault) (arms_are : stated ≡ Ok (map bound_arm_pair v.items)) where
+  pub none_made : (b : code.BoundExpr A) → b ≡ Case offset v None → spec.choice offset stated (Ok bound.Nothing) ≡ Ok (bound_expr_of b)
+  none_made b is = rw (arms_are, is) (ap (λ (xs : BoundArms). let r : Result BoundExpr NameFault = Ok (bound.Case offset xs bound.Nothing) in r) (sym (bound_arms_hidden v)))
+
+  pub some_made : (last : Result BoundExpr NameFault) (p : Box (code.BoundExpr A) A) → last ≡ Ok (bound_expr_of p.value) → (b : code.BoundExpr A) → b ≡ Case offset v (Some p) → spec.choice offset stated (spec.as_otherwise last) ≡ Ok (bound_expr_of b)
+  some_made last p l b is =
+      rw (arms_are, l, is) (ap (λ (xs : BoundArms). let r : Result BoundExpr NameFault = Ok (bound.Case offset xs (bound.Value (bound_expr_of p.value))) in r) (sym (bound_arms_hidden v)))
+
+  pub otherwise_failed : {X Z : Type 0} (w : X → BoundExpr) (z : Z → BoundExpr) (e : Failure NameFault) (last : Result BoundExpr NameFault) → Gives w (Err e) last → Gives z (Err e) (spec.choice offset stated (spec.as_otherwise last))
+  otherwise_failed w z (failure.Fault fault) last h = rw (arms_are, h) refl
+  otherwise_failed w z failure.OutOfMemory last h = tt

@@ -1,0 +1,15 @@
+use Rattle.std.proofs.Common.{Box}
+use Rattle.expr.specs.View.{bound_expr_of}
+use Rattle.expr.specs.declared.bound.BoundExpr.{BoundExpr}
+use Rattle.binder.proofs.Binds.{some_made, otherwise_failed}
+use Rattle.binder.proofs.expressions.with_otherwise.Goals as goal
+
+pub returns-in_ok-boxed-in-Ok-otherwise : goal.returns-in_ok-boxed-in-Ok-otherwise
+returns-in_ok-boxed-in-Ok-otherwise g c =
+    λ stated last h i. some_made c.args.offset c.in-Ok.arms stated (rw c.in-Ok.is at h) last c.in-Ok-otherwise.value (rw c.in-Ok-otherwise.is at i) c.in_ok-boxed-in-Ok-otherwise.field-0.value c.in_ok-boxed-in-Ok-otherwise.ensures
+
+pub returns-in-Err-otherwise : goal.returns-in-Err-otherwise
+returns-in-Err-otherwise g c =
+    λ stated last h i.
+    otherwise_failed c.args.offset c.in-Ok.arms stated (rw c.in-Ok.is at h) (λ (b : Box (BoundExpr g.row.A.Denot) g.row.A.Denot). bound_expr_of b.value) (λ (b : Box (BoundExpr g.row.A.Denot) g.row.A.Denot). bound_expr_of b.value) c.in-Err-otherwise.failure last
+    (rw c.in-Err-otherwise.is at i)

@@ -1,0 +1,3 @@
+pub mod BoundExprs
+pub mod BoundQueries
+pub mod View
