@@ -1,5 +1,5 @@
 -- What schema statements change, and which are supported.
-use Rattle.std.specs.Prelude.{◌≡◌, ◌⊎◌, ℕ, ◌+◌, nat_le, Bool, true, not, ◌&&◌, List, ◌∷◌, is_some, Result, Ok, Err}
+use Rattle.std.specs.Prelude.{◌≡◌, ◌⊎◌, ℕ, ◌+◌, nat_le, Bool, true, false, not, ◌&&◌, List, ◌∷◌, is_some, Result, Ok, Err}
 use Rattle.value.specs.declared.refusal.Refusal.{Refusal}
 use Rattle.value.specs.declared.refusal.Refusal.TheVariants as r
 use Rattle.row_ast.specs.Ast as ast
@@ -81,3 +81,16 @@ changed cat actor statement = unless (first_refusal (
 abbrev pub IsChange : {X : Type 0} → X → X → Result X Refusal → Result (Unit {0}) Refusal → Type 0
 IsChange old new due (Ok u) = due ≡ Ok new
 IsChange old new due (Err why) = (new ≡ old) × ((why ≡ r.OutOfMemory) ⊎ (due ≡ Err why))
+
+-- what a call made of the old is what is due
+abbrev pub IsExactChange : {X : Type 0} → X → X → Result X Refusal → Result (Unit {0}) Refusal → Type 0
+IsExactChange old new due (Ok u) = due ≡ Ok new
+IsExactChange old new due (Err why) = (new ≡ old) × (due ≡ Err why)
+
+-- a statement that only takes out or sets, so that memory cannot run out
+abbrev pub takes_no_memory : Statement → Bool
+takes_no_memory (RevokeRole group member) = true
+takes_no_memory (SetRowSecurity table setting) = true
+takes_no_memory (RevokeSelect grant) = true
+takes_no_memory (DropPolicy name table) = true
+takes_no_memory _ = false

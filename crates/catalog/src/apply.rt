@@ -1,9 +1,9 @@
 //! Statements of an actor.
 
-ghost use Rattle.std.specs.Prelude.{◌≡◌, map};
+ghost use Rattle.std.specs.Prelude.{◌≡◌, map, true};
 ghost use Rattle.row_ast.specs.View.{create_policy_of, statement_of};
 ghost use Rattle.catalog.specs.Checks.{first_refusal, unless};
-ghost use Rattle.catalog.specs.Changes.{after, changed, checks, is_supported, is_supported_policy, IsChange};
+ghost use Rattle.catalog.specs.Changes.{after, changed, checks, is_supported, is_supported_policy, takes_no_memory, IsChange, IsExactChange};
 
 use crate::catalog::Catalog;
 use memory::Heap;
@@ -35,7 +35,8 @@ fn is_supported<A: Heap>(catalog: &Catalog<A>, statement: &Statement<A>) -> bool
 impl<A: Heap> Catalog<A> {
     // A statement that is supported, of an actor that is a role.
     fn apply_supported(&mut self, actor: &str, statement: &Statement<A>) -> Result<(), Refusal>
-        ensures { IsChange self.old self.new (unless (first_refusal (checks self.old actor.now (statement_of statement.now))) (after self.old actor.now (statement_of statement.now))) result }
+        ensures change { IsChange self.old self.new (unless (first_refusal (checks self.old actor.now (statement_of statement.now))) (after self.old actor.now (statement_of statement.now))) result }
+        ensures exact { takes_no_memory (statement_of statement.now) ≡ true → IsExactChange self.old self.new (unless (first_refusal (checks self.old actor.now (statement_of statement.now))) (after self.old actor.now (statement_of statement.now))) result }
     {
         match statement {
             Statement::CreateRole {
@@ -74,9 +75,10 @@ impl<A: Heap> Catalog<A> {
 
     /// Applies a statement of an actor, and counts it. A refused statement changes nothing. That 2^64 - 1 statements were
     /// accepted comes before all else (54000), then that the statement is not supported yet (0A000), then that the actor is no
-    /// role (42704).
+    /// role (42704). REVOKE, the settings of row security and DROP POLICY take no memory.
     pub fn apply(&mut self, actor: &str, statement: &Statement<A>) -> Result<(), Refusal>
-        ensures { IsChange self.old self.new (changed self.old actor.now (statement_of statement.now)) result }
+        ensures change { IsChange self.old self.new (changed self.old actor.now (statement_of statement.now)) result }
+        ensures exact { takes_no_memory (statement_of statement.now) ≡ true → IsExactChange self.old self.new (changed self.old actor.now (statement_of statement.now)) result }
     {
         let before = self.change_number();
         if before >= u64::MAX {

@@ -5,7 +5,7 @@ ghost use Rattle.row_objects.specs.View.{table_entry};
 ghost use Rattle.catalog.specs.Catalog.{table_place};
 ghost use Rattle.catalog.specs.Checks.{changed_at, first_refusal, unless, Checked};
 ghost use Rattle.catalog.specs.DropPolicy.{after_drop_policy, checks_drop_policy, without_policy_named};
-ghost use Rattle.catalog.specs.Changes.{IsChange};
+ghost use Rattle.catalog.specs.Changes.{IsExactChange};
 
 use crate::catalog::Catalog;
 use memory::Heap;
@@ -56,7 +56,7 @@ impl<A: Heap> Catalog<A> {
         name: &str,
         table: &str,
     ) -> Result<(), Refusal>
-        ensures { IsChange self.old self.new (unless (first_refusal (checks_drop_policy self.old actor.now name.now table.now)) (after_drop_policy self.old name.now table.now)) result }
+        ensures { IsExactChange self.old self.new (unless (first_refusal (checks_drop_policy self.old actor.now name.now table.now)) (after_drop_policy self.old name.now table.now)) result }
     {
         match check_drop_policy(self, actor, name, table) {
             Err(why) => Err(why),

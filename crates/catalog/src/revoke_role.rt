@@ -3,7 +3,7 @@
 ghost use Rattle.std.specs.Prelude.{◌≡◌};
 ghost use Rattle.catalog.specs.Checks.{first_refusal, unless};
 ghost use Rattle.catalog.specs.RevokeRole.{after_revoke_role, checks_revoke_role};
-ghost use Rattle.catalog.specs.Changes.{IsChange};
+ghost use Rattle.catalog.specs.Changes.{IsExactChange};
 
 use crate::catalog::Catalog;
 use memory::Heap;
@@ -41,7 +41,7 @@ impl<A: Heap> Catalog<A> {
         group: &str,
         member: &str,
     ) -> Result<(), Refusal>
-        ensures { IsChange self.old self.new (unless (first_refusal (checks_revoke_role self.old actor.now group.now member.now)) (after_revoke_role self.old group.now member.now)) result }
+        ensures { IsExactChange self.old self.new (unless (first_refusal (checks_revoke_role self.old actor.now group.now member.now)) (after_revoke_role self.old group.now member.now)) result }
     {
         if let Some(why) = check_revoke_role(self, actor, group, member) {
             return Err(why);

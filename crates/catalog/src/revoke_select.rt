@@ -6,7 +6,7 @@ ghost use Rattle.row_objects.specs.View.{table_entry};
 ghost use Rattle.catalog.specs.Checks.{changed_at, first_refusal, unless};
 ghost use Rattle.catalog.specs.GrantSelect.{checks_select};
 ghost use Rattle.catalog.specs.RevokeSelect.{after_revoke_select, without_grants_to};
-ghost use Rattle.catalog.specs.Changes.{IsChange};
+ghost use Rattle.catalog.specs.Changes.{IsExactChange};
 
 use crate::catalog::Catalog;
 use crate::grant_select::check_select;
@@ -39,7 +39,7 @@ impl<A: Heap> Catalog<A> {
     /// Revokes SELECT on a table and on each of its columns, or on columns alone, from roles, if no check refuses it. It takes
     /// no memory.
     pub(crate) fn revoke_select(&mut self, actor: &str, grant: &Grant<A>) -> Result<(), Refusal>
-        ensures { IsChange self.old self.new (unless (first_refusal (checks_select self.old actor.now (grant_of grant.now))) (after_revoke_select self.old (grant_of grant.now))) result }
+        ensures { IsExactChange self.old self.new (unless (first_refusal (checks_select self.old actor.now (grant_of grant.now))) (after_revoke_select self.old (grant_of grant.now))) result }
     {
         match check_select(self, actor, grant) {
             Err(why) => Err(why),

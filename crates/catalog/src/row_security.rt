@@ -5,7 +5,7 @@ ghost use Rattle.row_objects.specs.View.{table_entry};
 ghost use Rattle.catalog.specs.Catalog.{table_place};
 ghost use Rattle.catalog.specs.Checks.{changed_at, first_refusal, unless, Checked};
 ghost use Rattle.catalog.specs.RowSecurity.{after_row_security, checks_row_security, with_row_security};
-ghost use Rattle.catalog.specs.Changes.{IsChange};
+ghost use Rattle.catalog.specs.Changes.{IsExactChange};
 
 use crate::catalog::Catalog;
 use memory::Heap;
@@ -64,7 +64,7 @@ impl<A: Heap> Catalog<A> {
         table: &str,
         setting: RowSecurity,
     ) -> Result<(), Refusal>
-        ensures { IsChange self.old self.new (unless (first_refusal (checks_row_security self.old actor.now table.now)) (after_row_security self.old table.now setting)) result }
+        ensures { IsExactChange self.old self.new (unless (first_refusal (checks_row_security self.old actor.now table.now)) (after_row_security self.old table.now setting)) result }
     {
         match check_row_security(self, actor, table) {
             Err(why) => Err(why),

@@ -1,12 +1,12 @@
 //! A catalogue with its tables.
 
-ghost use Rattle.std.specs.Prelude.{◌≡◌, List, IfOk, IfSome, IsErrOf, OnErr, OnOk, ◌<◌, None, length, map, option_map, slice_get};
+ghost use Rattle.std.specs.Prelude.{◌≡◌, List, IfOk, IfSome, IsErrOf, OnErr, OnOk, ◌<◌, None, length, map, option_map, slice_get, true};
 ghost use Rattle.std.specs.List.{position_from};
 ghost use Rattle.tables.specs.Loading.{Fields, reported};
 ghost use Rattle.value.specs.Columns.{column_of};
 ghost use Rattle.row_ast.specs.Statements.{CreateTable};
 ghost use Rattle.row_ast.specs.View.{statement_of};
-ghost use Rattle.catalog.specs.Changes.{IsChange};
+ghost use Rattle.catalog.specs.Changes.{takes_no_memory, IsChange, IsExactChange};
 ghost use Rattle.engine.specs.Database.{at_start, changed_database, columns_in, contents_named, empty_table, is_named};
 ghost use Rattle.engine.specs.Loads.{IsLoad, IsLoadFrom, LoadStops, store_failure};
 ghost use Rattle.engine.specs.View.{stored_of};
@@ -151,9 +151,10 @@ impl<A: Heap> Store<A> {
     }
 
     /// Applies a schema statement of an actor; a new table has no rows. A refused statement changes nothing. What is not
-    /// supported yet is refused before all else (0A000).
+    /// supported yet is refused before all else (0A000). REVOKE, the settings of row security and DROP POLICY take no memory.
     pub fn change(&mut self, actor: &str, statement: &Statement<A>) -> Result<(), Refusal>
-        ensures { IsChange self.old self.new (changed_database self.old actor.now (statement_of statement.now)) result }
+        ensures change { IsChange self.old self.new (changed_database self.old actor.now (statement_of statement.now)) result }
+        ensures exact { takes_no_memory (statement_of statement.now) ≡ true → IsExactChange self.old self.new (changed_database self.old actor.now (statement_of statement.now)) result }
     {
         match statement {
             Statement::CreateTable { name, columns } => {

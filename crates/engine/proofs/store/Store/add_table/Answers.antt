@@ -10,7 +10,7 @@ pub returns-in-Err : goal.returns-in-Err
 returns-in-Err g c =
     let kept = c.truncate.ensures.items ∙ (rw c.push.ensures.items (taken_back _ _ _ _ (c.len-before.ensures ∙ c.self.inside.tables.ok.0))) in
     let cat = ap (λ d. d.catalog) c.self.view_is in
-    let refused = subst (λ cat. (c.in-Err.code ≡ OutOfMemory) ⊎ (changed cat c.args.actor.now (statement_of c.args.statement.now) ≡ Err c.in-Err.code)) cat c.in-Err.ensures.1 in (
-      rw (← c.self.view_is) (same_database _ _ _ _ c.in-Err.ensures.0 (ap (λ ts. map (λ t. stored_of t) ts) kept)),
+    let refused = subst (λ cat. (c.in-Err.code ≡ OutOfMemory) ⊎ (changed cat c.args.actor.now (statement_of c.args.statement.now) ≡ Err c.in-Err.code)) cat c.in-Err.ensures.change.1 in (
+      rw (← c.self.view_is) (same_database _ _ _ _ c.in-Err.ensures.change.0 (ap (λ ts. map (λ t. stored_of t) ts) kept)),
       still_refused c.args.self.now (statement_of c.args.statement.now) _ _ refused,
     )
