@@ -148,14 +148,19 @@ fn made<T: Drop, E: Drop>(rt: &impl Abort, made: Result<T, E>) -> T {
     }
 }
 
-fn catalog(rt: &(impl Abort + AllocGlobal)) -> Result<Box<Catalog<Global>>, AllocError> {
+/// The tables.
+pub fn catalog(rt: &(impl Abort + AllocGlobal)) -> Result<Box<Catalog<Global>>, AllocError> {
     let mut catalog = boxed(rt.alloc(), Catalog::new(rt.alloc())?)?;
     let statements = made(rt, parse_schema(rt.alloc(), SCHEMA));
     assert_eq!(rt; apply_all(&mut catalog, statements.as_slice()), Ok(()));
     Ok(catalog)
 }
 
-fn query(rt: &(impl Abort + AllocGlobal), text: &str) -> Result<Box<Query<Global>>, AllocError> {
+/// The query of a text.
+pub fn query(
+    rt: &(impl Abort + AllocGlobal),
+    text: &str,
+) -> Result<Box<Query<Global>>, AllocError> {
     boxed(rt.alloc(), made(rt, parse_query(rt.alloc(), text)))
 }
 

@@ -1,10 +1,10 @@
-//! Worked rows of the store of examples/sales: roles, memberships, column grants, and the first denial.
+//! Worked rows of the store of crates/rowplan/data/sales: roles, memberships, column grants, and the first denial.
 
 use crate::answers::Step::{Apply, Ask, Load};
 use crate::answers::{Row, walk};
 use crate::stores;
 
-// The schema of examples/sales.
+// The text of schema.sql there.
 const SCHEMA: &str = "CREATE ROLE boss; CREATE ROLE audit BYPASSRLS; CREATE ROLE sales;
 CREATE ROLE alice; CREATE ROLE bob; CREATE ROLE guest; CREATE ROLE lone;
 GRANT sales TO alice; GRANT sales TO bob;

@@ -1,8 +1,0 @@
-CREATE ROLE boss;
-CREATE ROLE alice;
-CREATE ROLE lone;
-CREATE TABLE deal (id bigint, owner text);
-ALTER TABLE deal OWNER TO boss;
-ALTER TABLE deal ENABLE ROW LEVEL SECURITY;
-CREATE POLICY own ON deal USING (owner = CURRENT_USER);
-GRANT SELECT ON deal TO alice;
