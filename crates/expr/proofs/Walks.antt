@@ -1,98 +1,99 @@
 -- How a walk over the members of an expression continues.
 use Rattle.std.proofs.Common.{◌≡◌, ℕ, suc, ◌+◌, ◌<◌, ◌≤◌, List, [], ◌++◌, append_assoc, append-nil, length, get_or, drop, drop-cons, Option, Some, None, Vec, Box, refl, sym, ap, ◌∙◌, arith}
 use Rattle.std.proofs.Math.ListN.{drop_of_length-le}
-use Rattle.row_ast.specs.Ast as ast
-use Rattle.row_ast.specs.View.{expr_of, exprs, arms}
-use Rattle.row_ast.specs.declared.expr.Expr.{Expr, And, Or, Case}
-use Rattle.row_ast.specs.declared.expr.Arm.{Arm}
-use Rattle.row_ast.proofs.Trees.{exprs_hidden, arms_hidden}
+use Rattle.expr.specs.declared.bound.ColumnId.{ColumnId}
+use Rattle.expr.specs.Bound as bound
+use Rattle.expr.specs.View.{bound_expr_of, bound_exprs, bound_arms}
+use Rattle.expr.specs.declared.bound.BoundExpr.{BoundExpr, And, Or, Case}
+use Rattle.expr.specs.declared.bound.BoundArm.{BoundArm}
+use Rattle.expr.proofs.Trees.{bound_exprs_hidden, bound_arms_hidden}
 use Rattle.expr.specs.Columns.{columns, all_columns, arms_columns}
 use Rattle.expr.specs.Weights.{weight, all_weight, arms_weight}
 
 -- ---- what a node with members is
 
-module _ {A : Type 0} (e : Expr A) (offset : ℕ) where
-  module _ (v : Vec (Expr A) A) (es : List (Expr A)) (d : es ≡ v.items) where
-    pub and_is : e ≡ And offset v → expr_of e ≡ ast.And offset (exprs es)
-    and_is is = ap expr_of is ∙ ap (ast.And offset) (exprs_hidden v) ∙ ap (λ xs. ast.And offset (exprs xs)) (sym d)
+module _ {A : Type 0} (e : BoundExpr A) (offset : ℕ) where
+  module _ (v : Vec (BoundExpr A) A) (es : List (BoundExpr A)) (d : es ≡ v.items) where
+    pub and_is : e ≡ And offset v → bound_expr_of e ≡ bound.And offset (bound_exprs es)
+    and_is is = ap bound_expr_of is ∙ ap (bound.And offset) (bound_exprs_hidden v) ∙ ap (λ xs. bound.And offset (bound_exprs xs)) (sym d)
 
-    pub or_is : e ≡ Or offset v → expr_of e ≡ ast.Or offset (exprs es)
-    or_is is = ap expr_of is ∙ ap (ast.Or offset) (exprs_hidden v) ∙ ap (λ xs. ast.Or offset (exprs xs)) (sym d)
+    pub or_is : e ≡ Or offset v → bound_expr_of e ≡ bound.Or offset (bound_exprs es)
+    or_is is = ap bound_expr_of is ∙ ap (bound.Or offset) (bound_exprs_hidden v) ∙ ap (λ xs. bound.Or offset (bound_exprs xs)) (sym d)
 
-  module _ (v : Vec (Arm A) A) (as_ : List (Arm A)) (d : as_ ≡ v.items) (o : Option (Box (Expr A) A)) (is : e ≡ Case offset v o) where
-    pub case_none : o ≡ None → expr_of e ≡ ast.Case offset (arms as_) ast.Nothing
-    case_none n = ap expr_of is ∙ ap (λ p. expr_of (Case offset v p)) n ∙ ap (λ x. ast.Case offset x ast.Nothing) (arms_hidden v) ∙ ap (λ xs. ast.Case offset (arms xs) ast.Nothing) (sym d)
+  module _ (v : Vec (BoundArm A) A) (as_ : List (BoundArm A)) (d : as_ ≡ v.items) (o : Option (Box (BoundExpr A) A)) (is : e ≡ Case offset v o) where
+    pub case_none : o ≡ None → bound_expr_of e ≡ bound.Case offset (bound_arms as_) bound.Nothing
+    case_none n = ap bound_expr_of is ∙ ap (λ p. bound_expr_of (Case offset v p)) n ∙ ap (λ x. bound.Case offset x bound.Nothing) (bound_arms_hidden v) ∙ ap (λ xs. bound.Case offset (bound_arms xs) bound.Nothing) (sym d)
 
-    pub case_some : (b : Box (Expr A) A) → o ≡ Some b → expr_of e ≡ ast.Case offset (arms as_) (ast.Value (expr_of b.value))
-    case_some b n = ap expr_of is ∙ ap (λ p. expr_of (Case offset v p)) n ∙ ap (λ x. ast.Case offset x (ast.Value (expr_of b.value))) (arms_hidden v) ∙ ap (λ xs. ast.Case offset (arms xs) (ast.Value (expr_of b.value))) (sym d)
+    pub case_some : (b : Box (BoundExpr A) A) → o ≡ Some b → bound_expr_of e ≡ bound.Case offset (bound_arms as_) (bound.Value (bound_expr_of b.value))
+    case_some b n = ap bound_expr_of is ∙ ap (λ p. bound_expr_of (Case offset v p)) n ∙ ap (λ x. bound.Case offset x (bound.Value (bound_expr_of b.value))) (bound_arms_hidden v) ∙ ap (λ xs. bound.Case offset (bound_arms xs) (bound.Value (bound_expr_of b.value))) (sym d)
 
-    pub case_lighter : arms_weight (arms as_) < weight (expr_of e)
+    pub case_lighter : arms_weight (bound_arms as_) < weight (bound_expr_of e)
     case_lighter = go o refl
       where
-        go : (p : Option (Box (Expr A) A)) → o ≡ p → arms_weight (arms as_) < weight (expr_of e)
+        go : (p : Option (Box (BoundExpr A) A)) → o ≡ p → arms_weight (bound_arms as_) < weight (bound_expr_of e)
         go None q = let w = ap weight (case_none q) in omega arith
         go (Some b) q = let w = ap weight (case_some b q) in omega arith
 
 -- ---- the next member
 
-module _ {A : Type 0} (es : List (Expr A)) (k : ℕ) where
-  pub exprs_over : length es ≤ k → exprs (drop k es) ≡ ast.no_expr
-  exprs_over l = let e : drop k es ≡ [] = drop_of_length-le es l in ap exprs e
+module _ {A : Type 0} (es : List (BoundExpr A)) (k : ℕ) where
+  pub exprs_over : length es ≤ k → bound_exprs (drop k es) ≡ bound.no_expr
+  exprs_over l = let e : drop k es ≡ [] = drop_of_length-le es l in ap bound_exprs e
 
-  module _ (e : Expr A) (more : k < length es) (is : e ≡ get_or es k e) where
-    pub exprs_step : exprs (drop k es) ≡ ast.one_expr (expr_of e) (exprs (drop (k + 1) es))
+  module _ (e : BoundExpr A) (more : k < length es) (is : e ≡ get_or es k e) where
+    pub exprs_step : bound_exprs (drop k es) ≡ bound.one_expr (bound_expr_of e) (bound_exprs (drop (k + 1) es))
     exprs_step = let n : k + 1 ≡ suc k = omega arith in rw (n, drop-cons es k e more, ← is) refl
 
-    pub exprs_lighter : all_weight (exprs (drop k es)) ≤ all_weight (exprs es) → weight (expr_of e) < all_weight (exprs es)
+    pub exprs_lighter : all_weight (bound_exprs (drop k es)) ≤ all_weight (bound_exprs es) → weight (bound_expr_of e) < all_weight (bound_exprs es)
     exprs_lighter h = let s = ap all_weight exprs_step in omega arith
 
-    pub exprs_still : all_weight (exprs (drop k es)) ≤ all_weight (exprs es) → all_weight (exprs (drop (k + 1) es)) ≤ all_weight (exprs es)
+    pub exprs_still : all_weight (bound_exprs (drop k es)) ≤ all_weight (bound_exprs es) → all_weight (bound_exprs (drop (k + 1) es)) ≤ all_weight (bound_exprs es)
     exprs_still h = let s = ap all_weight exprs_step in omega arith
 
-module _ {A : Type 0} (as_ : List (Arm A)) (k : ℕ) where
-  pub arms_over : length as_ ≤ k → arms (drop k as_) ≡ ast.no_arm
-  arms_over l = let e : drop k as_ ≡ [] = drop_of_length-le as_ l in ap arms e
+module _ {A : Type 0} (as_ : List (BoundArm A)) (k : ℕ) where
+  pub arms_over : length as_ ≤ k → bound_arms (drop k as_) ≡ bound.no_arm
+  arms_over l = let e : drop k as_ ≡ [] = drop_of_length-le as_ l in ap bound_arms e
 
-  module _ (a : Arm A) (more : k < length as_) (is : a ≡ get_or as_ k a) where
-    pub arms_step : arms (drop k as_) ≡ ast.one_arm (expr_of a.when) (expr_of a.result) (arms (drop (k + 1) as_))
+  module _ (a : BoundArm A) (more : k < length as_) (is : a ≡ get_or as_ k a) where
+    pub arms_step : bound_arms (drop k as_) ≡ bound.one_arm (bound_expr_of a.when) (bound_expr_of a.result) (bound_arms (drop (k + 1) as_))
     arms_step = let n : k + 1 ≡ suc k = omega arith in rw (n, drop-cons as_ k a more, ← is) refl
 
-    pub when_lighter : arms_weight (arms (drop k as_)) ≤ arms_weight (arms as_) → weight (expr_of a.when) < arms_weight (arms as_)
+    pub when_lighter : arms_weight (bound_arms (drop k as_)) ≤ arms_weight (bound_arms as_) → weight (bound_expr_of a.when) < arms_weight (bound_arms as_)
     when_lighter h = let s = ap arms_weight arms_step in omega arith
 
-    pub result_lighter : arms_weight (arms (drop k as_)) ≤ arms_weight (arms as_) → weight (expr_of a.result) < arms_weight (arms as_)
+    pub result_lighter : arms_weight (bound_arms (drop k as_)) ≤ arms_weight (bound_arms as_) → weight (bound_expr_of a.result) < arms_weight (bound_arms as_)
     result_lighter h = let s = ap arms_weight arms_step in omega arith
 
-    pub arms_still : arms_weight (arms (drop k as_)) ≤ arms_weight (arms as_) → arms_weight (arms (drop (k + 1) as_)) ≤ arms_weight (arms as_)
+    pub arms_still : arms_weight (bound_arms (drop k as_)) ≤ arms_weight (bound_arms as_) → arms_weight (bound_arms (drop (k + 1) as_)) ≤ arms_weight (bound_arms as_)
     arms_still h = let s = ap arms_weight arms_step in omega arith
 
 -- ---- columns, after those that are known
 
-module _ {A : Type 0} (known whole : List ast.ColumnRef) where
-  pub columns_step : (es : List (Expr A)) (k : ℕ) (e : Expr A) → k < length es → e ≡ get_or es k e → (new : List ast.ColumnRef)
-      → known ++ all_columns (exprs (drop k es)) ≡ whole → new ≡ known ++ columns (expr_of e) → new ++ all_columns (exprs (drop (k + 1) es)) ≡ whole
+module _ {A : Type 0} (known whole : List ColumnId) where
+  pub columns_step : (es : List (BoundExpr A)) (k : ℕ) (e : BoundExpr A) → k < length es → e ≡ get_or es k e → (new : List ColumnId)
+      → known ++ all_columns (bound_exprs (drop k es)) ≡ whole → new ≡ known ++ columns (bound_expr_of e) → new ++ all_columns (bound_exprs (drop (k + 1) es)) ≡ whole
   columns_step es k e more is new so_far n =
-      rw n (append_assoc known (columns (expr_of e)) (all_columns (exprs (drop (k + 1) es))) ∙ ap (λ es. known ++ all_columns es) (sym (exprs_step es k e more is)) ∙ so_far)
+      rw n (append_assoc known (columns (bound_expr_of e)) (all_columns (bound_exprs (drop (k + 1) es))) ∙ ap (λ es. known ++ all_columns es) (sym (exprs_step es k e more is)) ∙ so_far)
 
-  pub columns_over : (es : List (Expr A)) (k : ℕ) → known ++ all_columns (exprs (drop k es)) ≡ whole → length es ≤ k → known ≡ whole
+  pub columns_over : (es : List (BoundExpr A)) (k : ℕ) → known ++ all_columns (bound_exprs (drop k es)) ≡ whole → length es ≤ k → known ≡ whole
   columns_over es k so_far l = sym (append-nil known) ∙ ap (λ es. known ++ all_columns es) (sym (exprs_over es k l)) ∙ so_far
 
-  pub arm_columns_step : (as_ : List (Arm A)) (k : ℕ) (a : Arm A) → k < length as_ → a ≡ get_or as_ k a → (mid new : List ast.ColumnRef)
-      → known ++ arms_columns (arms (drop k as_)) ≡ whole → mid ≡ known ++ columns (expr_of a.when) → new ≡ mid ++ columns (expr_of a.result) → new ++ arms_columns (arms (drop (k + 1) as_)) ≡ whole
+  pub arm_columns_step : (as_ : List (BoundArm A)) (k : ℕ) (a : BoundArm A) → k < length as_ → a ≡ get_or as_ k a → (mid new : List ColumnId)
+      → known ++ arms_columns (bound_arms (drop k as_)) ≡ whole → mid ≡ known ++ columns (bound_expr_of a.when) → new ≡ mid ++ columns (bound_expr_of a.result) → new ++ arms_columns (bound_arms (drop (k + 1) as_)) ≡ whole
   arm_columns_step as_ k a more is mid new so_far m n =
       rw (n, m)
-      (append_assoc (known ++ columns (expr_of a.when)) (columns (expr_of a.result)) (arms_columns (arms (drop (k + 1) as_)))
-      ∙ append_assoc known (columns (expr_of a.when)) (columns (expr_of a.result) ++ arms_columns (arms (drop (k + 1) as_)))
+      (append_assoc (known ++ columns (bound_expr_of a.when)) (columns (bound_expr_of a.result)) (arms_columns (bound_arms (drop (k + 1) as_)))
+      ∙ append_assoc known (columns (bound_expr_of a.when)) (columns (bound_expr_of a.result) ++ arms_columns (bound_arms (drop (k + 1) as_)))
       ∙ ap (λ as_. known ++ arms_columns as_) (sym (arms_step as_ k a more is)) ∙ so_far)
 
-  pub arm_columns_over : (as_ : List (Arm A)) (k : ℕ) → known ++ arms_columns (arms (drop k as_)) ≡ whole → length as_ ≤ k → known ≡ whole
+  pub arm_columns_over : (as_ : List (BoundArm A)) (k : ℕ) → known ++ arms_columns (bound_arms (drop k as_)) ≡ whole → length as_ ≤ k → known ≡ whole
   arm_columns_over as_ k so_far l = sym (append-nil known) ∙ ap (λ as_. known ++ arms_columns as_) (sym (arms_over as_ k l)) ∙ so_far
 
 -- ---- the columns of a CASE, after those that are known
 
-pub case_columns_none : (e : ast.Expr) (offset : ℕ) (as_ : ast.Arms) (known new : List ast.ColumnRef) → e ≡ ast.Case offset as_ ast.Nothing → new ≡ known ++ arms_columns as_ → new ≡ known ++ columns e
+pub case_columns_none : (e : bound.BoundExpr) (offset : ℕ) (as_ : bound.BoundArms) (known new : List ColumnId) → e ≡ bound.Case offset as_ bound.Nothing → new ≡ known ++ arms_columns as_ → new ≡ known ++ columns e
 case_columns_none e offset as_ known new is n = rw is (n ∙ ap (λ l. known ++ l) (sym (append-nil (arms_columns as_))))
 
-pub case_columns_some : (e o : ast.Expr) (offset : ℕ) (as_ : ast.Arms) (known mid new : List ast.ColumnRef) → e ≡ ast.Case offset as_ (ast.Value o) → mid ≡ known ++ arms_columns as_ → new ≡ mid ++ columns o
+pub case_columns_some : (e o : bound.BoundExpr) (offset : ℕ) (as_ : bound.BoundArms) (known mid new : List ColumnId) → e ≡ bound.Case offset as_ (bound.Value o) → mid ≡ known ++ arms_columns as_ → new ≡ mid ++ columns o
     → new ≡ known ++ columns e
 case_columns_some e o offset as_ known mid new is m n = rw (is, n, m) (append_assoc known (arms_columns as_) (columns o))

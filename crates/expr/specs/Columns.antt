@@ -1,10 +1,11 @@
 -- The columns that an expression names, in written order.
 use Rattle.std.specs.Prelude.{List, [], ◌∷◌, ◌++◌}
-use Rattle.row_ast.specs.Ast.{ColumnRef, Expr, Column, Literal, CurrentUser, Negate, Arithmetic, Comparison, Between, In, IsNull, Not, And, Or, Cast, Case, CountStar, Call, Exprs, no_expr, one_expr, Arms, no_arm, one_arm, Otherwise, Nothing, Value}
+use Rattle.expr.specs.declared.bound.ColumnId.{ColumnId}
+use Rattle.expr.specs.Bound.{BoundExpr, Column, Literal, CurrentUser, Negate, Arithmetic, Comparison, Between, In, IsNull, Not, And, Or, Cast, Case, CountStar, Call, BoundExprs, no_expr, one_expr, BoundArms, no_arm, one_arm, BoundOtherwise, Nothing, Value}
 
 abbrev mutual
-  pub columns : Expr → List ColumnRef
-  columns (Column c) = c ∷ []
+  pub columns : BoundExpr → List ColumnId
+  columns (Column id) = id ∷ []
   columns (Literal d) = []
   columns CurrentUser = []
   columns (Negate offset e) = columns e
@@ -21,14 +22,14 @@ abbrev mutual
   columns (CountStar offset) = []
   columns (Call f offset e) = columns e
 
-  pub all_columns : Exprs → List ColumnRef
+  pub all_columns : BoundExprs → List ColumnId
   all_columns no_expr = []
   all_columns (one_expr e es) = columns e ++ all_columns es
 
-  pub arms_columns : Arms → List ColumnRef
+  pub arms_columns : BoundArms → List ColumnId
   arms_columns no_arm = []
   arms_columns (one_arm when result as_) = columns when ++ (columns result ++ arms_columns as_)
 
-  pub otherwise_columns : Otherwise → List ColumnRef
+  pub otherwise_columns : BoundOtherwise → List ColumnId
   otherwise_columns Nothing = []
   otherwise_columns (Value e) = columns e

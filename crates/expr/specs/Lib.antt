@@ -1,4 +1,5 @@
-pub mod Columns
-pub mod Weights
 pub mod Bound
 pub mod View
+pub mod Weights
+pub mod Columns
+pub mod Movable

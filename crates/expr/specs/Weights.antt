@@ -1,9 +1,9 @@
 -- How large an expression is: each part of it is lighter.
 use Rattle.std.specs.Prelude.{ℕ, suc, ◌+◌}
-use Rattle.row_ast.specs.Ast.{Expr, Column, Literal, CurrentUser, Negate, Arithmetic, Comparison, Between, In, IsNull, Not, And, Or, Cast, Case, CountStar, Call, Exprs, no_expr, one_expr, Arms, no_arm, one_arm, Otherwise, Nothing, Value}
+use Rattle.expr.specs.Bound.{BoundExpr, Column, Literal, CurrentUser, Negate, Arithmetic, Comparison, Between, In, IsNull, Not, And, Or, Cast, Case, CountStar, Call, BoundExprs, no_expr, one_expr, BoundArms, no_arm, one_arm, BoundOtherwise, Nothing, Value}
 
 abbrev mutual
-  pub weight : Expr → ℕ
+  pub weight : BoundExpr → ℕ
   weight (Column c) = 0
   weight (Literal d) = 0
   weight CurrentUser = 0
@@ -21,14 +21,14 @@ abbrev mutual
   weight (CountStar offset) = 0
   weight (Call f offset e) = suc (weight e)
 
-  pub all_weight : Exprs → ℕ
+  pub all_weight : BoundExprs → ℕ
   all_weight no_expr = 0
   all_weight (one_expr e es) = suc (weight e + all_weight es)
 
-  pub arms_weight : Arms → ℕ
+  pub arms_weight : BoundArms → ℕ
   arms_weight no_arm = 0
   arms_weight (one_arm when result as_) = suc (weight when + (weight result + arms_weight as_))
 
-  pub otherwise_weight : Otherwise → ℕ
+  pub otherwise_weight : BoundOtherwise → ℕ
   otherwise_weight Nothing = 0
   otherwise_weight (Value e) = weight e

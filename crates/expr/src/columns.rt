@@ -1,39 +1,38 @@
 //! The columns that an expression names.
 
-ghost use Rattle.std.specs.Prelude.{◌≡◌, ◌++◌, OnOk, map};
-ghost use Rattle.row_ast.specs.View.{column_ref_of, expr_of, exprs};
-ghost use Rattle.row_ast.specs.View.{arms as arms_of};
+ghost use Rattle.std.specs.Prelude.{◌≡◌, ◌++◌, OnOk};
+ghost use Rattle.expr.specs.View.{bound_arms, bound_expr_of, bound_exprs};
 ghost use Rattle.expr.specs.Columns.{columns, all_columns, arms_columns};
 
+use crate::bound::{BoundArm, BoundExpr, ColumnId};
 use memory::Heap;
-use row_ast::{Arm, ColumnRef, Expr};
 use std::alloc::AllocError;
 use text::Items;
 
 /// Adds the columns that an expression names, in written order.
 #[cycle(columns)]
-pub fn push_columns<'q, A: Heap>(
-    known: &mut Items<&'q ColumnRef<A>, A>,
-    expression: &'q Expr<A>,
+pub fn push_columns<A: Heap>(
+    known: &mut Items<ColumnId, A>,
+    expression: &BoundExpr<A>,
 ) -> Result<(), AllocError>
-    ensures { OnOk result (map (λ c. column_ref_of c.now) known.new ≡ map (λ c. column_ref_of c.now) known.old ++ columns (expr_of expression.now)) }
+    ensures { OnOk result (known.new ≡ known.old ++ columns (bound_expr_of expression.now)) }
 {
     match expression {
-        Expr::Column(column) => {
-            known.push(column)?;
+        BoundExpr::Column(id) => {
+            known.push(*id)?;
             Ok(())
         }
-        Expr::Literal(_) | Expr::CurrentUser | Expr::CountStar { .. } => Ok(()),
-        Expr::Negate { operand, .. } => push_columns(known, operand),
-        Expr::Arithmetic { left, right, .. } => {
+        BoundExpr::Literal(_) | BoundExpr::CurrentUser | BoundExpr::CountStar { .. } => Ok(()),
+        BoundExpr::Negate { operand, .. } => push_columns(known, operand),
+        BoundExpr::Arithmetic { left, right, .. } => {
             push_columns(known, left)?;
             push_columns(known, right)
         }
-        Expr::Comparison { left, right, .. } => {
+        BoundExpr::Comparison { left, right, .. } => {
             push_columns(known, left)?;
             push_columns(known, right)
         }
-        Expr::Between {
+        BoundExpr::Between {
             operand,
             low,
             high,
@@ -43,13 +42,13 @@ pub fn push_columns<'q, A: Heap>(
             push_columns(known, low)?;
             push_columns(known, high)
         }
-        Expr::In { operand, .. } => push_columns(known, operand),
-        Expr::IsNull { operand, .. } => push_columns(known, operand),
-        Expr::Not { operand, .. } => push_columns(known, operand),
-        Expr::And { members, .. } => push_all_columns(known, members),
-        Expr::Or { members, .. } => push_all_columns(known, members),
-        Expr::Cast { operand, .. } => push_columns(known, operand),
-        Expr::Case {
+        BoundExpr::In { operand, .. } => push_columns(known, operand),
+        BoundExpr::IsNull { operand, .. } => push_columns(known, operand),
+        BoundExpr::Not { operand, .. } => push_columns(known, operand),
+        BoundExpr::And { members, .. } => push_all_columns(known, members),
+        BoundExpr::Or { members, .. } => push_all_columns(known, members),
+        BoundExpr::Cast { operand, .. } => push_columns(known, operand),
+        BoundExpr::Case {
             arms,
             otherwise,
             ..
@@ -63,17 +62,17 @@ pub fn push_columns<'q, A: Heap>(
                 None => Ok(()),
             }
         }
-        Expr::Call { argument, .. } => push_columns(known, argument),
+        BoundExpr::Call { argument, .. } => push_columns(known, argument),
     }
 }
 
 // Adds those of some expressions.
 #[cycle(columns)]
-fn push_all_columns<'q, A: Heap>(
-    known: &mut Items<&'q ColumnRef<A>, A>,
-    members: &'q [Expr<A>],
+fn push_all_columns<A: Heap>(
+    known: &mut Items<ColumnId, A>,
+    members: &[BoundExpr<A>],
 ) -> Result<(), AllocError>
-    ensures { OnOk result (map (λ c. column_ref_of c.now) known.new ≡ map (λ c. column_ref_of c.now) known.old ++ all_columns (exprs members.now)) }
+    ensures { OnOk result (known.new ≡ known.old ++ all_columns (bound_exprs members.now)) }
 {
     for member in members {
         push_columns(known, member)?;
@@ -83,11 +82,11 @@ fn push_all_columns<'q, A: Heap>(
 
 // Adds those of the arms of a CASE.
 #[cycle(columns)]
-fn push_arms_columns<'q, A: Heap>(
-    known: &mut Items<&'q ColumnRef<A>, A>,
-    arms: &'q [Arm<A>],
+fn push_arms_columns<A: Heap>(
+    known: &mut Items<ColumnId, A>,
+    arms: &[BoundArm<A>],
 ) -> Result<(), AllocError>
-    ensures { OnOk result (map (λ c. column_ref_of c.now) known.new ≡ map (λ c. column_ref_of c.now) known.old ++ arms_columns (arms_of arms.now)) }
+    ensures { OnOk result (known.new ≡ known.old ++ arms_columns (bound_arms arms.now)) }
 {
     for arm in arms {
         push_columns(known, &arm.when)?;

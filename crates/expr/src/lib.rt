@@ -1,4 +1,4 @@
-//! Expressions: the columns that they name, and those whose columns are found.
+//! Expressions whose columns are found, and the columns that they name.
 #![tactic(auto)]
 
 mod bound;

@@ -13,12 +13,12 @@ use Rattle.expr.specs.declared.bound.BoundExpr as code
 use Rattle.expr.specs.declared.bound.BoundExpr.{Case, And, Or}
 use Rattle.expr.specs.declared.bound.BoundArm as code_arm
 use Rattle.expr.proofs.Trees.{bound_exprs_hidden, bound_arms_hidden}
-use Rattle.expr.proofs.Walks.{exprs_step, exprs_over, arms_step, arms_over}
-use Rattle.resolve.specs.declared.fault.NameFault.{NameFault}
-use Rattle.resolve.specs.declared.lookup.Reach.{Reach}
-use Rattle.resolve.specs.Entries.{and_then, Entry}
-use Rattle.binder.specs.BoundExprs as spec
-use Rattle.binder.specs.BoundExprs.{bound_expr, bound_members, bound_arms, pair}
+use Rattle.scope.proofs.Walks.{exprs_step, exprs_over, arms_step, arms_over}
+use Rattle.scope.specs.declared.fault.NameFault.{NameFault}
+use Rattle.scope.specs.declared.lookup.Reach.{Reach}
+use Rattle.scope.specs.Entry.{and_then, Entry}
+use Rattle.scope.specs.BoundExprs as spec
+use Rattle.scope.specs.BoundExprs.{bound_expr, bound_members, bound_arms, pair}
 
 module _ (entries : List Entry) (reach : Reach) {A : Type 0} where
   module _ (es : List (Expr A)) (k : ℕ) where

@@ -3,10 +3,10 @@ use Rattle.std.specs.Prelude.{ℕ, List, [], ◌∷◌, ◌++◌, Result, Ok}
 use Rattle.row_ast.specs.Ast as ast
 use Rattle.expr.specs.Bound as bound
 use Rattle.expr.specs.Bound.{BoundExpr, BoundOtherwise, bound_exprs_of, bound_arms_of}
-use Rattle.resolve.specs.declared.fault.NameFault.{NameFault}
-use Rattle.resolve.specs.declared.lookup.Reach.{Reach}
-use Rattle.resolve.specs.Entries.{and_then, Entry}
-use Rattle.resolve.specs.Lookup.{find_column}
+use Rattle.scope.specs.declared.fault.NameFault.{NameFault}
+use Rattle.scope.specs.declared.lookup.Reach.{Reach}
+use Rattle.scope.specs.Entry.{and_then, Entry}
+use Rattle.scope.specs.Lookup.{find_column}
 
 abbrev pub conjunction : ℕ → Result (List BoundExpr) NameFault → Result BoundExpr NameFault
 conjunction offset r = and_then r (λ es. Ok (bound.And offset (bound_exprs_of es)))

@@ -2,15 +2,15 @@
 
 ghost use Rattle.std.specs.Prelude.{◌≡◌, ◌+◌, ◌<◌, map};
 ghost use Rattle.row_ast.specs.View.{column_ref_of};
-ghost use Rattle.resolve.specs.EntryView.{entry_of};
-ghost use Rattle.resolve.specs.Lookup as spec;
+ghost use Rattle.scope.specs.View.{entry_of};
+ghost use Rattle.scope.specs.Lookup as spec;
 
+use crate::entry::Entry;
 use crate::fault::NameFault;
-use crate::from::Entry;
-use catalog::{is_qualified, place};
 use expr::ColumnId;
 use memory::Heap;
 use row_ast::ColumnRef;
+use row_objects::{is_qualified, place};
 use value::Refusal;
 
 /// The entries from one number up to another, without that.
@@ -73,7 +73,7 @@ fn column_in_entry<A: Heap>(
     if !is_within(reach, number) {
         return Search::NoEntry;
     }
-    if !is_qualified(entry.alias.as_str(), &column.table) {
+    if !is_qualified(entry.alias, &column.table) {
         return Search::NoEntry;
     }
     match place(entry.table.columns(), column.name.as_str()) {

@@ -1,16 +1,16 @@
 use Rattle.std.proofs.Common.{ap, refl, rules, arith, map, Box, Vec}
 use Rattle.row_ast.specs.View.{expr_of}
 use Rattle.expr.specs.View.{bound_expr_of, bound_arm_pair}
-use Rattle.expr.specs.Weights.{weight}
+use Rattle.scope.specs.Weights.{weight}
 use Rattle.expr.specs.declared.bound.BoundExpr.{BoundExpr}
 use Rattle.expr.specs.declared.bound.BoundArm.{BoundArm}
-use Rattle.expr.proofs.Walks.{and_is, or_is, case_none, case_some, case_lighter, exprs_still, arms_still, exprs_lighter, when_lighter, result_lighter}
-use Rattle.resolve.specs.EntryView.{entry_of}
-use Rattle.binder.specs.BoundExprs.{bound_expr, pair}
-use Rattle.resolve.proofs.Lists.{pushed}
-use Rattle.resolve.proofs.Found.{failed}
-use Rattle.binder.proofs.Binds.{members_over, members_opened, members_next, arms_bound_over, arms_opened, arms_next}
-use Rattle.binder.proofs.expressions.+bind.Goals as goal
+use Rattle.scope.proofs.Walks.{and_is, or_is, case_none, case_some, case_lighter, exprs_still, arms_still, exprs_lighter, when_lighter, result_lighter}
+use Rattle.scope.specs.View.{entry_of}
+use Rattle.scope.specs.BoundExprs.{bound_expr, pair}
+use Rattle.scope.proofs.Lists.{pushed}
+use Rattle.scope.proofs.Found.{failed}
+use Rattle.scope.proofs.Binds.{members_over, members_opened, members_next, arms_bound_over, arms_opened, arms_next}
+use Rattle.scope.proofs.expressions.+bind.Goals as goal
 
 pub bind_members-bind_expr-requires : goal.bind_members-bind_expr-requires
 bind_members-bind_expr-requires g t c κs within = let h = exprs_lighter c.args.members.now c.loop-member.member-index c.member-item.result c.loop-member-test.true c.member-item.is c.loop-member.invariant.lighter in search rules

@@ -2,13 +2,13 @@
 use Rattle.std.specs.Prelude.{ℕ, nat_lt, ◌+◌, ◌&&◌, not, Bool, List, [], ◌∷◌, length, Option, Some, None, Result, Ok, Err, if◌then◌else◌}
 use Rattle.value.specs.declared.refusal.Refusal.TheVariants as r
 use Rattle.row_ast.specs.Ast as ast
-use Rattle.catalog.specs.Catalog.{is_qualified, place_of}
-use Rattle.resolve.specs.declared.fault.NameFault.{NameFault}
-use Rattle.resolve.specs.declared.lookup.Reach.{Reach}
+use Rattle.row_objects.specs.ColumnNames.{is_qualified, place_of}
+use Rattle.scope.specs.declared.fault.NameFault.{NameFault}
+use Rattle.scope.specs.declared.lookup.Reach.{Reach}
 use Rattle.expr.specs.declared.bound.ColumnId.{ColumnId}
-use Rattle.resolve.specs.declared.lookup.Search.{Search}
-use Rattle.resolve.specs.declared.lookup.Search.TheVariants as search
-use Rattle.resolve.specs.Entries.{Entry, fault}
+use Rattle.scope.specs.declared.lookup.Search.{Search}
+use Rattle.scope.specs.declared.lookup.Search.TheVariants as search
+use Rattle.scope.specs.Entry.{Entry, fault}
 
 -- ---- reach
 

@@ -2,10 +2,10 @@ use Rattle.std.proofs.Common.{◌≡◌, ◌≤◌, [], drop, map}
 use Rattle.row_ast.specs.View.{expr_of, exprs}
 use Rattle.row_ast.specs.View.{arms as arms_of}
 use Rattle.expr.specs.View.{bound_arm_pair, bound_expr_of}
-use Rattle.expr.specs.Weights.{weight, all_weight, arms_weight}
-use Rattle.binder.specs.BoundExprs.{bound_members, bound_arms}
-use Rattle.resolve.specs.EntryView.{entry_of}
-use Rattle.binder.proofs.expressions.+bind.Given as goal
+use Rattle.scope.specs.Weights.{weight, all_weight, arms_weight}
+use Rattle.scope.specs.BoundExprs.{bound_members, bound_arms}
+use Rattle.scope.specs.View.{entry_of}
+use Rattle.scope.proofs.expressions.+bind.Given as goal
 
 abbrev pub decreases-bind_expr : goal.decreases-bind_expr
 decreases-bind_expr g l = weight (expr_of l.expression.now)

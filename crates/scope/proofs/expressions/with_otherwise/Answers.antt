@@ -1,8 +1,8 @@
 use Rattle.std.proofs.Common.{Box}
 use Rattle.expr.specs.View.{bound_expr_of}
 use Rattle.expr.specs.declared.bound.BoundExpr.{BoundExpr}
-use Rattle.binder.proofs.Binds.{some_made, otherwise_failed}
-use Rattle.binder.proofs.expressions.with_otherwise.Goals as goal
+use Rattle.scope.proofs.Binds.{some_made, otherwise_failed}
+use Rattle.scope.proofs.expressions.with_otherwise.Goals as goal
 
 pub returns-in_ok-boxed-in-Ok-otherwise : goal.returns-in_ok-boxed-in-Ok-otherwise
 returns-in_ok-boxed-in-Ok-otherwise g c =

@@ -1,0 +1,18 @@
+-- A query with each column found.
+use Rattle.std.specs.Prelude.{List, Option}
+use Rattle.row_ast.specs.Ast.{Name}
+use Rattle.expr.specs.declared.bound.ColumnId.{ColumnId}
+use Rattle.expr.specs.Bound.{BoundExpr}
+
+-- an output column
+pub record BoundItem : Type 0 where
+  pub heading : Name
+  pub value : BoundExpr
+
+pub record BoundQuery : Type 0 where
+  pub items : List BoundItem
+  -- of each entry
+  pub ons : List (Option BoundExpr)
+  pub filter : Option BoundExpr
+  pub group_by : List ColumnId
+  pub having : Option BoundExpr

@@ -1,0 +1,23 @@
+-- The entries of FROM.
+use Rattle.std.specs.Prelude.{ℕ, Option, Result, Ok, Err}
+use Rattle.value.specs.declared.refusal.Refusal.{Refusal}
+use Rattle.row_ast.specs.Ast as ast
+use Rattle.row_ast.specs.Ast.{Name}
+use Rattle.row_objects.specs.Objects.{Table}
+use Rattle.scope.specs.declared.fault.NameFault.{NameFault}
+
+-- a refusal, and the byte of the text where it is due
+abbrev pub fault : Refusal → ℕ → NameFault
+fault code offset = record { code = code; offset = offset }
+
+-- what f gives of a result, or the result's fault
+abbrev pub and_then : {X Y E : Type 0} → Result X E → (X → Result Y E) → Result Y E
+and_then (Ok x) f = f x
+and_then (Err e) f = Err e
+
+-- a table, the name that stands before a dot, the number of the first entry of its comma item, and its ON
+pub record Entry : Type 0 where
+  pub table : Table
+  pub alias : Name
+  pub first : ℕ
+  pub on : Option ast.Condition

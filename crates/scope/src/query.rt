@@ -1,0 +1,32 @@
+//! Queries whose columns are found.
+
+use expr::{BoundExpr, ColumnId};
+use memory::Heap;
+use text::{Items, Text};
+
+/// An output column.
+#[derive(Drop)]
+pub struct BoundItem<A: Heap> {
+    /// Its heading.
+    pub heading: Text<A>,
+    /// Its value.
+    pub value: Box<BoundExpr<A>, A>,
+}
+
+/// A condition, if there is one.
+pub type BoundCondition<A> = Option<Box<BoundExpr<A>, A>>;
+
+/// A query whose columns are found.
+#[derive(Drop)]
+pub struct BoundQuery<A: Heap> {
+    /// The output columns.
+    pub items: Items<BoundItem<A>, A>,
+    /// The ON of each entry.
+    pub ons: Items<BoundCondition<A>, A>,
+    /// WHERE.
+    pub filter: BoundCondition<A>,
+    /// The columns of GROUP BY, none without it.
+    pub group_by: Items<ColumnId, A>,
+    /// HAVING.
+    pub having: BoundCondition<A>,
+}
