@@ -1,12 +1,11 @@
 -- Who may read what (PostgreSQL: Privileges; Row Security Policies).
 use Rattle.std.specs.Prelude.{ℕ, Bool, true, not, ◌&&◌, ◌||◌, List, [], filter, Option, Some, None, slice_index_or}
 use Rattle.std.specs.Str.{bytes_eq}
-use Rattle.std.specs.List.{list_any, find}
-use Rattle.value.specs.Datum.{Datum, null, text, Row}
-use Rattle.value.specs.Orders.{equal_of, is_true}
-use Rattle.value.specs.declared.order.Truth.{Truth}
+use Rattle.std.specs.List.{list_all, list_any, find}
+use Rattle.value.specs.Datum.{Datum, null, Row}
 use Rattle.row_ast.specs.Ast.{Name, everyone}
-use Rattle.row_objects.specs.Objects.{Operand, CurrentUser, Literal, Policy, Table}
+use Rattle.row_objects.specs.Objects.{Policy, Table}
+use Rattle.eval.specs.Meaning.{Cells, holds}
 use Rattle.catalog.specs.Catalog.{Catalog, belongs, bypasses_rls, is_superuser, owns}
 
 -- r is among the roles that the name stands for
@@ -48,27 +47,38 @@ row_at rows number = slice_index_or rows number []
 abbrev pub cell : Row → ℕ → Datum
 cell row place = slice_index_or row place null
 
--- what a policy compares with, for the role that asks
-abbrev pub operand_value : Name → Operand → Datum
-operand_value r CurrentUser = text r
-operand_value r (Literal datum) = datum
-
-abbrev pub policy_truth : Name → Policy → Row → Truth
-policy_truth r p row = equal_of (cell row p.column) (operand_value r p.operand)
+-- a row of a table as the cells of its columns; a policy is bound to its table alone, whatever the number of the entry
+abbrev pub cells_of : Row → Cells
+cells_of row id = cell row id.column
 
 -- the policy applies to the role
 abbrev pub applies : Catalog → Name → Policy → Bool
 applies cat r p = list_any (includes_role cat r) p.roles
 
--- the policy applies to the role, and is true on the row
-abbrev pub policy_allows : Catalog → Name → Row → Policy → Bool
-policy_allows cat r row p = applies cat r p && is_true (policy_truth r p row)
+-- it is a permissive policy that applies to the role
+abbrev pub permits : Catalog → Name → Policy → Bool
+permits cat r p = not p.restrictive && applies cat r p
 
--- row security is off, or the role is a superuser or has BYPASSRLS, or it belongs to the owner on whom row security is not
--- forced, or a policy allows the row
+-- it is a restrictive policy that applies to the role
+abbrev pub restricts : Catalog → Name → Policy → Bool
+restricts cat r p = p.restrictive && applies cat r p
+
+-- the predicate of the policy is true on the row; false and null are not
+abbrev pub is_true_of : Name → Row → Policy → Bool
+is_true_of r row p = holds (cells_of row) r p.predicate
+
+-- some applicable permissive policy is true on the row, and every applicable restrictive one is
+abbrev pub policies_allow : Catalog → Name → Table → Row → Bool
+policies_allow cat r t row =
+    list_any (is_true_of r row) (filter (permits cat r) t.policies) && list_all (is_true_of r row) (filter (restricts cat r) t.policies)
+
+-- row security is off, or the role is a superuser or has BYPASSRLS, or it belongs to the owner on whom row security is not forced
+abbrev pub is_above : Catalog → Name → Table → Bool
+is_above cat r t = not t.row_security || is_superuser cat r || bypasses_rls cat r || (belongs cat r t.owner && not t.forced)
+
+-- the role is above the policies of the table, or they allow it the row
 abbrev pub sees : Catalog → Name → Table → Row → Bool
-sees cat r t row =
-    not t.row_security || is_superuser cat r || bypasses_rls cat r || (belongs cat r t.owner && not t.forced) || list_any (policy_allows cat r row) t.policies
+sees cat r t row = is_above cat r t || policies_allow cat r t row
 
 -- the rows of the table that the role sees
 abbrev pub visible : Catalog → Name → Table → List Row → List Row

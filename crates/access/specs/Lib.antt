@@ -1,2 +1,4 @@
 pub mod Access
+pub mod Guards
+pub mod Laws
 pub mod View

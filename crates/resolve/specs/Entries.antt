@@ -1,33 +1,17 @@
 -- The entries of FROM, in written order.
 use Rattle.std.specs.Prelude.{ℕ, Bool, false, ◌||◌, List, [], ◌∷◌, ◌++◌, length, map, Option, Some, None, Result, Ok, Err, if◌then◌else◌}
 use Rattle.std.specs.Str.{bytes_eq}
-use Rattle.value.specs.declared.refusal.Refusal.{Refusal}
 use Rattle.value.specs.declared.refusal.Refusal.TheVariants as r
 use Rattle.row_ast.specs.Ast as ast
 use Rattle.row_ast.specs.Ast.{Name}
 use Rattle.row_objects.specs.Objects.{Table}
 use Rattle.catalog.specs.Catalog.{Catalog, table_named}
-use Rattle.resolve.specs.declared.fault.NameFault.{NameFault}
-
--- a refusal, and the byte of the text where it is due
-abbrev pub fault : Refusal → ℕ → NameFault
-fault code offset = record { code = code; offset = offset }
-
--- what f gives of a result, or the result's fault
-abbrev pub and_then : {X Y E : Type 0} → Result X E → (X → Result Y E) → Result Y E
-and_then (Ok x) f = f x
-and_then (Err e) f = Err e
+use Rattle.scope.specs.declared.fault.NameFault.{NameFault}
+use Rattle.scope.specs.Entry.{Entry, and_then, fault}
 
 -- a table of FROM, the number of the first one of its comma item, and its ON
 pub record JoinedTable : Type 0 where
   pub table : ast.TableRef
-  pub first : ℕ
-  pub on : Option ast.Condition
-
--- an entry of FROM: its table, found in the catalogue, and the name that stands before a dot
-pub record Entry : Type 0 where
-  pub table : Table
-  pub alias : Name
   pub first : ℕ
   pub on : Option ast.Condition
 

@@ -1,10 +1,7 @@
-pub mod Served
-pub mod Names
-pub mod View
 pub mod Entries
-pub mod EntryView
-pub mod Lookup
-pub mod Mentions
-pub mod MentionView
+pub mod BoundQueries
 pub mod Needed
-pub mod NeededView
+pub mod Resolved
+pub mod View
+pub mod Conjuncts
+pub mod Served

@@ -5,15 +5,16 @@ ghost use Rattle.memory.specs.Gives.{Gives};
 ghost use Rattle.row_ast.specs.View.{from_item_of, join_of, table_ref_of};
 ghost use Rattle.row_objects.specs.View.{table_of};
 ghost use Rattle.resolve.specs.Entries as spec;
-ghost use Rattle.resolve.specs.EntryView.{entry_of, joined_table_of};
+ghost use Rattle.scope.specs.View.{entry_of};
+ghost use Rattle.resolve.specs.View.{joined_table_of};
 
-use crate::fault::NameFault;
 use catalog::Catalog;
 use memory::{Failure, Heap};
 use row_ast::{Condition, FromItem, Join, TableRef};
 use row_objects::Table;
+use scope::{Entry, NameFault};
 use std::alloc::AllocError;
-use text::{Items, Text};
+use text::Items;
 use value::Refusal;
 
 // A table of FROM.
@@ -23,19 +24,6 @@ struct JoinedTable<'s, A: Heap> {
     // The number of the first table of its comma item, from 0.
     first: usize,
     on: Option<&'s Condition<A>>,
-}
-
-/// An entry of FROM, whose table is found.
-#[derive(Clone, Copy)]
-pub struct Entry<'s, A: Heap> {
-    /// The table.
-    pub table: Table<'s, A>,
-    /// Its alias, or its name.
-    pub alias: &'s Text<A>,
-    /// The number of the first entry of its comma item, from 0.
-    pub first: usize,
-    /// Its ON.
-    pub on: Option<&'s Condition<A>>,
 }
 
 fn joined_by<'s, A: Heap>(first: usize, join: &'s Join<A>) -> JoinedTable<'s, A>
@@ -98,12 +86,12 @@ fn joined<'s, A: Heap>(
     Ok(tables)
 }
 
-fn alias_of<A: Heap>(table: &TableRef<A>) -> &Text<A>
+fn alias_of<A: Heap>(table: &TableRef<A>) -> &str
     ensures { result.now ≡ spec.alias_of (table_ref_of table.now) }
 {
     match &table.alias {
-        Some(alias) => alias,
-        None => &table.table,
+        Some(alias) => alias.as_str(),
+        None => table.table.as_str(),
     }
 }
 
@@ -111,7 +99,7 @@ fn is_used<A: Heap>(entries: &[Entry<'_, A>], alias: &str) -> bool
     ensures { result ≡ spec.is_used alias.now (map (λ e. entry_of e) entries.now) }
 {
     for entry in entries {
-        if entry.alias.as_str() == alias {
+        if entry.alias == alias {
             return true;
         }
     }
@@ -126,7 +114,7 @@ fn found_entry<'s, A: Heap>(
     ensures { Gives (λ e. entry_of e) result (spec.found_entry (map (λ e. entry_of e) before.now) (joined_table_of joined.now) (Some (table_of table.entry))) }
 {
     let alias = alias_of(joined.table);
-    if is_used(before, alias.as_str()) {
+    if is_used(before, alias) {
         return Err(Failure::Fault(NameFault {
             code: Refusal::DuplicateAlias,
             offset: joined.table.offset,

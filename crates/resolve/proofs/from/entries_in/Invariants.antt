@@ -1,6 +1,7 @@
 use Rattle.std.proofs.Common.{◌≡◌, [], drop, map}
 use Rattle.resolve.specs.Entries.{entries_in}
-use Rattle.resolve.specs.EntryView.{entry_of, joined_table_of}
+use Rattle.scope.specs.View.{entry_of}
+use Rattle.resolve.specs.View.{joined_table_of}
 use Rattle.resolve.proofs.from.entries_in.Given as goal
 
 abbrev pub invariant-loop-joined : goal.invariant-loop-joined

@@ -1,6 +1,6 @@
 use Rattle.std.proofs.Common.{◌≡◌, drop, map}
 use Rattle.resolve.specs.Entries.{is_used}
-use Rattle.resolve.specs.EntryView.{entry_of}
+use Rattle.scope.specs.View.{entry_of}
 use Rattle.resolve.proofs.from.is_used.Given as goal
 
 abbrev pub invariant-loop-entry : goal.invariant-loop-entry

@@ -1,7 +1,7 @@
 use Rattle.std.proofs.Common.{refl}
 use Rattle.row_ast.specs.View.{from_item_of}
 use Rattle.resolve.specs.Entries.{joined, with_item}
-use Rattle.resolve.proofs.Lists.{known_next}
+use Rattle.scope.proofs.Lists.{known_next}
 use Rattle.resolve.proofs.from.joined.Goals as goal
 
 pub loop-item-preserved : goal.loop-item-preserved

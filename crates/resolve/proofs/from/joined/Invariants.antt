@@ -1,7 +1,7 @@
 use Rattle.std.proofs.Common.{◌≡◌, [], drop, map}
 use Rattle.row_ast.specs.View.{from_item_of}
 use Rattle.resolve.specs.Entries.{joined}
-use Rattle.resolve.specs.EntryView.{joined_table_of}
+use Rattle.resolve.specs.View.{joined_table_of}
 use Rattle.resolve.proofs.from.joined.Given as goal
 
 abbrev pub invariant-loop-item : goal.invariant-loop-item

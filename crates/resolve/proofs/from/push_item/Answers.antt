@@ -1,8 +1,8 @@
 use Rattle.std.proofs.Common.{refl, ap, ◌∙◌, ◌++◌, map}
 use Rattle.row_ast.specs.View.{join_of, from_item_of}
 use Rattle.resolve.specs.Entries.{first_table, joined_by}
-use Rattle.resolve.specs.EntryView.{joined_table_of}
-use Rattle.resolve.proofs.Lists.{numbered}
+use Rattle.resolve.specs.View.{joined_table_of}
+use Rattle.scope.proofs.Lists.{numbered}
 use Rattle.resolve.proofs.from.push_item.Goals as goal
 
 pub returns : goal.returns

@@ -1,7 +1,7 @@
 use Rattle.std.proofs.Common.{◌≡◌, ◌++◌, drop, map}
 use Rattle.row_ast.specs.View.{join_of}
 use Rattle.resolve.specs.Entries.{joined_by}
-use Rattle.resolve.specs.EntryView.{joined_table_of}
+use Rattle.resolve.specs.View.{joined_table_of}
 use Rattle.resolve.proofs.from.push_joins.Given as goal
 
 abbrev pub invariant-loop-join : goal.invariant-loop-join

@@ -1,0 +1,23 @@
+-- What holds of guards.
+use Rattle.std.specs.Prelude.{◌≡◌, true, false, List, [], filter}
+use Rattle.value.specs.Datum.{Row}
+use Rattle.row_ast.specs.Ast.{Name}
+use Rattle.expr.specs.Bound.{BoundExpr}
+use Rattle.row_objects.specs.Objects.{Table}
+use Rattle.catalog.specs.Catalog.{Catalog}
+use Rattle.access.specs.Access.{is_above, permits, sees}
+use Rattle.access.specs.Guards.{Guard, All, None, Expr, guard, shows}
+
+-- the guard is true on a row exactly where the role sees it
+abbrev pub GuardShows : Type 0
+GuardShows = (cat : Catalog) (r : Name) (t : Table) (row : Row) → shows r (guard cat r t) row ≡ sees cat r t row
+
+-- it is All exactly where the role is above the policies
+abbrev pub AllIsAbove : Type 0
+AllIsAbove = (cat : Catalog) (r : Name) (t : Table) → (guard cat r t ≡ All → is_above cat r t ≡ true) × (is_above cat r t ≡ true → guard cat r t ≡ All)
+
+-- it is None exactly where the role is not above them and no permissive policy applies to it
+abbrev pub NoneIsUnpermitted : Type 0
+NoneIsUnpermitted = (cat : Catalog) (r : Name) (t : Table) →
+    (guard cat r t ≡ None → (is_above cat r t ≡ false) × (filter (permits cat r) t.policies ≡ []))
+    × ((is_above cat r t ≡ false) × (filter (permits cat r) t.policies ≡ []) → guard cat r t ≡ None)

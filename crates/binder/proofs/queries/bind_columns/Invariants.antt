@@ -1,8 +1,0 @@
-use Rattle.std.proofs.Common.{◌≡◌, [], drop, map}
-use Rattle.resolve.specs.EntryView.{entry_of}
-use Rattle.row_ast.specs.View.{column_ref_of}
-use Rattle.binder.specs.BoundQueries.{bound_columns}
-use Rattle.binder.proofs.queries.bind_columns.Given as goal
-
-abbrev pub invariant-loop-column : goal.invariant-loop-column
-invariant-loop-column g l = bound_columns (map (λ e. entry_of e) l.entries) l.reach l.ids (map (λ c. column_ref_of c) (drop l.column-index l.columns)) ≡ bound_columns (map (λ e. entry_of e) l.entries) l.reach [] (map (λ c. column_ref_of c) l.columns)

@@ -1,3 +1,0 @@
-pub mod BoundExprs
-pub mod BoundQueries
-pub mod View

@@ -1,0 +1,95 @@
+-- A query with each column found and all else kept.
+use Rattle.std.specs.Prelude.{ℕ, ◌+◌, List, [], ◌∷◌, ◌++◌, Option, Some, None, Result, Ok, codes}
+use Rattle.value.specs.Columns.{Column}
+use Rattle.value.specs.declared.operators.Aggregate.{Aggregate}
+use Rattle.value.specs.declared.operators.Aggregate.TheVariants as aggregate
+use Rattle.row_ast.specs.Ast as ast
+use Rattle.row_ast.specs.Ast.{Name}
+use Rattle.expr.specs.declared.bound.ColumnId.{ColumnId}
+use Rattle.expr.specs.Bound as bound
+use Rattle.expr.specs.Bound.{BoundExpr}
+use Rattle.scope.specs.declared.fault.NameFault.{NameFault}
+use Rattle.scope.specs.declared.lookup.Reach.{Reach}
+use Rattle.scope.specs.Entry.{and_then, Entry}
+use Rattle.scope.specs.Lookup.{everywhere, find_column, on_reach}
+use Rattle.scope.specs.BoundQuery.{BoundItem, BoundQuery}
+use Rattle.scope.specs.BoundExprs.{bound_expr}
+
+-- ---- headings
+
+abbrev pub aggregate_heading : Aggregate → Name
+aggregate_heading aggregate.Count = codes "count"
+aggregate_heading aggregate.Sum = codes "sum"
+aggregate_heading aggregate.Min = codes "min"
+aggregate_heading aggregate.Max = codes "max"
+
+-- the heading of an item without alias
+abbrev pub own_heading : ast.Expr → Name
+own_heading (ast.Column c) = c.name
+own_heading (ast.CountStar offset) = codes "count"
+own_heading (ast.Call f offset e) = aggregate_heading f
+own_heading _ = codes "?column?"
+
+abbrev pub heading_or : Option Name → ast.Expr → Name
+heading_or (Some alias) e = alias
+heading_or None e = own_heading e
+
+-- ---- items
+
+abbrev pub bound_item : List Entry → Reach → ast.SelectItem → Result BoundItem NameFault
+bound_item entries reach i = and_then (bound_expr entries reach i.value) (λ e. Ok record { heading = heading_or i.alias i.value; value = e })
+
+-- after those before
+abbrev pub bound_items : List Entry → Reach → List BoundItem → List ast.SelectItem → Result (List BoundItem) NameFault
+bound_items entries reach known [] = Ok known
+bound_items entries reach known (i ∷ more) = and_then (bound_item entries reach i) (λ x. bound_items entries reach (known ++ x ∷ []) more)
+
+abbrev pub column_item : Column → ColumnId → BoundItem
+column_item c id = record { heading = c.name; value = bound.Column id }
+
+-- the columns of an entry, from that at a place on
+abbrev pub column_items : (entry column : ℕ) → List Column → List BoundItem
+column_items entry column [] = []
+column_items entry column (c ∷ more) = column_item c (record { entry = entry; column = column }) ∷ column_items entry (column + 1) more
+
+-- all columns of all entries, from that of a number on
+abbrev pub every_item : ℕ → List Entry → List BoundItem
+every_item entry [] = []
+every_item entry (e ∷ more) = column_items entry 0 e.table.columns ++ every_item (entry + 1) more
+
+abbrev pub bound_select : List Entry → Reach → ast.SelectList → Result (List BoundItem) NameFault
+bound_select entries reach (ast.All offset) = Ok (every_item 0 entries)
+bound_select entries reach (ast.Items items) = bound_items entries reach [] items
+
+-- ---- conditions
+
+abbrev pub bound_condition : List Entry → Reach → Option ast.Condition → Result (Option BoundExpr) NameFault
+bound_condition entries reach None = Ok None
+bound_condition entries reach (Some c) = and_then (bound_expr entries reach c.predicate) (λ e. Ok (Some e))
+
+-- the ON of each entry, after those before
+abbrev pub bound_ons : List Entry → ℕ → List (Option BoundExpr) → List Entry → Result (List (Option BoundExpr)) NameFault
+bound_ons entries number known [] = Ok known
+bound_ons entries number known (e ∷ more) = and_then (bound_condition entries (on_reach number e) e.on) (λ x. bound_ons entries (number + 1) (known ++ x ∷ []) more)
+
+-- ---- GROUP BY
+
+-- after those before
+abbrev pub bound_columns : List Entry → Reach → List ColumnId → List ast.ColumnRef → Result (List ColumnId) NameFault
+bound_columns entries reach known [] = Ok known
+bound_columns entries reach known (c ∷ more) = and_then (find_column entries reach c) (λ id. bound_columns entries reach (known ++ id ∷ []) more)
+
+-- ---- the query
+
+-- the query of its parts, or the fault of the first that has one
+abbrev pub bound_parts : Result (List BoundItem) NameFault → Result (List (Option BoundExpr)) NameFault → Result (Option BoundExpr) NameFault → Result (List ColumnId) NameFault → Result (Option BoundExpr) NameFault → Result BoundQuery NameFault
+bound_parts items ons filter group_by having =
+    and_then items (λ items. and_then ons (λ ons. and_then filter (λ filter. and_then group_by (λ group_by. and_then having (λ having. Ok record { items = items; ons = ons; filter = filter; group_by = group_by; having = having })))))
+
+abbrev pub bound_within : Reach → List Entry → ast.Query → Result BoundQuery NameFault
+bound_within reach entries q =
+    bound_parts (bound_select entries reach q.select) (bound_ons entries 0 [] entries) (bound_condition entries reach q.filter) (bound_columns entries reach [] q.group_by) (bound_condition entries reach q.having)
+
+-- the query with its columns found among the entries, or the first column that stands for nothing
+abbrev pub bound_query : List Entry → ast.Query → Result BoundQuery NameFault
+bound_query entries q = bound_within (everywhere entries) entries q

@@ -1,0 +1,246 @@
+//! Queries with their columns found.
+
+ghost use Rattle.std.specs.Prelude.{◌≡◌, ◌++◌, OnOk, IfOk, [], map, option_map};
+ghost use Rattle.memory.specs.Gives.{Gives};
+ghost use Rattle.value.specs.Columns.{column_of};
+ghost use Rattle.row_ast.specs.View.{column_ref_of, condition_of, expr_of, query_of, select_item_of, select_list_of};
+ghost use Rattle.expr.specs.View.{bound_expr_of};
+ghost use Rattle.resolve.specs.BoundQueries as spec;
+ghost use Rattle.scope.specs.View.{bound_item_of, bound_query_of, entry_of};
+
+use expr::{BoundExpr, ColumnId};
+use memory::{Failure, Heap, boxed};
+use row_ast::{ColumnRef, Condition, Expr, Query, SelectItem, SelectList};
+use scope::{
+    BoundCondition, BoundItem, BoundQuery, Entry, NameFault, Reach, bind_expr, everywhere,
+    find_column, on_reach,
+};
+use std::alloc::AllocError;
+use text::{Items, Text};
+use value::{Aggregate, Column};
+
+fn aggregate_heading(aggregate: Aggregate) -> &'static str
+    ensures { result.now ≡ spec.aggregate_heading aggregate }
+{
+    match aggregate {
+        Aggregate::Count => "count",
+        Aggregate::Sum => "sum",
+        Aggregate::Min => "min",
+        Aggregate::Max => "max",
+    }
+}
+
+fn own_heading<A: Heap>(expression: &Expr<A>) -> &str
+    ensures { result.now ≡ spec.own_heading (expr_of expression.now) }
+{
+    match expression {
+        Expr::Column(column) => column.name.as_str(),
+        Expr::CountStar { .. } => "count",
+        Expr::Call { aggregate, .. } => aggregate_heading(*aggregate),
+        _ => "?column?",
+    }
+}
+
+fn heading<A: Heap>(item: &SelectItem<A>) -> &str
+    ensures { result.now ≡ spec.heading_or (select_item_of item.now).alias (select_item_of item.now).value }
+{
+    match &item.alias {
+        Some(alias) => alias.as_str(),
+        None => own_heading(&item.value),
+    }
+}
+
+fn bind_item<A: Heap>(
+    alloc: A,
+    entries: &[Entry<'_, A>],
+    reach: Reach,
+    item: &SelectItem<A>,
+) -> Result<BoundItem<A>, Failure<NameFault>>
+    ensures { Gives (λ i. bound_item_of i) result (spec.bound_item (map (λ e. entry_of e) entries.now) reach (select_item_of item.now)) }
+{
+    let value = bind_expr(alloc, entries, reach, &item.value)?;
+    let heading = Text::new(alloc, heading(item))?;
+    Ok(BoundItem { heading, value })
+}
+
+fn bind_items<A: Heap>(
+    alloc: A,
+    entries: &[Entry<'_, A>],
+    reach: Reach,
+    items: &[SelectItem<A>],
+) -> Result<Items<BoundItem<A>, A>, Failure<NameFault>>
+    ensures { Gives (λ items. map (λ i. bound_item_of i) items) result (spec.bound_items (map (λ e. entry_of e) entries.now) reach [] (map (λ i. select_item_of i) items.now)) }
+{
+    let mut all = Items::new(alloc);
+    for item in items {
+        match bind_item(alloc, entries, reach, item) {
+            Ok(item) => all.push(item)?,
+            Err(failure) => return Err(failure),
+        }
+    }
+    Ok(all)
+}
+
+fn column_item<A: Heap>(
+    alloc: A,
+    id: ColumnId,
+    column: &Column<A>,
+) -> Result<BoundItem<A>, AllocError>
+    ensures { IfOk result (λ i. bound_item_of i ≡ spec.column_item (column_of column.now) id) }
+{
+    let heading = Text::new(alloc, column.name.as_str())?;
+    let value = boxed(alloc, BoundExpr::Column(id))?;
+    Ok(BoundItem { heading, value })
+}
+
+fn push_column_items<A: Heap>(
+    alloc: A,
+    items: &mut Items<BoundItem<A>, A>,
+    entry: usize,
+    columns: &[Column<A>],
+) -> Result<(), AllocError>
+    ensures { OnOk result (map (λ i. bound_item_of i) items.new ≡ map (λ i. bound_item_of i) items.old ++ spec.column_items entry 0 (map (λ c. column_of c) columns.now)) }
+{
+    for (place, column) in columns.iter().enumerate() {
+        let id = ColumnId {
+            entry,
+            column: place,
+        };
+        items.push(column_item(alloc, id, column)?)?;
+    }
+    Ok(())
+}
+
+fn push_every_item<A: Heap>(
+    alloc: A,
+    items: &mut Items<BoundItem<A>, A>,
+    entries: &[Entry<'_, A>],
+) -> Result<(), AllocError>
+    ensures { OnOk result (map (λ i. bound_item_of i) items.new ≡ map (λ i. bound_item_of i) items.old ++ spec.every_item 0 (map (λ e. entry_of e) entries.now)) }
+{
+    for (number, entry) in entries.iter().enumerate() {
+        push_column_items(alloc, items, number, entry.table.columns())?;
+    }
+    Ok(())
+}
+
+fn every_item<A: Heap>(
+    alloc: A,
+    entries: &[Entry<'_, A>],
+) -> Result<Items<BoundItem<A>, A>, AllocError>
+    ensures { IfOk result (λ items. map (λ i. bound_item_of i) items ≡ spec.every_item 0 (map (λ e. entry_of e) entries.now)) }
+{
+    let mut items = Items::new(alloc);
+    push_every_item(alloc, &mut items, entries)?;
+    Ok(items)
+}
+
+fn bind_select<A: Heap>(
+    alloc: A,
+    entries: &[Entry<'_, A>],
+    reach: Reach,
+    select: &SelectList<A>,
+) -> Result<Items<BoundItem<A>, A>, Failure<NameFault>>
+    ensures { Gives (λ items. map (λ i. bound_item_of i) items) result (spec.bound_select (map (λ e. entry_of e) entries.now) reach (select_list_of select.now)) }
+{
+    match select {
+        SelectList::All { .. } => Ok(every_item(alloc, entries)?),
+        SelectList::Items(items) => bind_items(alloc, entries, reach, items.as_slice()),
+    }
+}
+
+/// A condition with its columns found, if there is one.
+pub fn bind_condition<A: Heap>(
+    alloc: A,
+    entries: &[Entry<'_, A>],
+    reach: Reach,
+    condition: Option<&Condition<A>>,
+) -> Result<BoundCondition<A>, Failure<NameFault>>
+    ensures { Gives (λ o. option_map (λ b. bound_expr_of b.value) o) result (spec.bound_condition (map (λ e. entry_of e) entries.now) reach (option_map (λ c. condition_of c.now) condition.entry)) }
+{
+    match condition {
+        Some(condition) => match bind_expr(alloc, entries, reach, &condition.predicate) {
+            Ok(value) => Ok(Some(value)),
+            Err(failure) => Err(failure),
+        },
+        None => Ok(None),
+    }
+}
+
+fn bind_ons<A: Heap>(
+    alloc: A,
+    entries: &[Entry<'_, A>],
+) -> Result<Items<BoundCondition<A>, A>, Failure<NameFault>>
+    ensures { Gives (λ ons. map (λ o. option_map (λ b. bound_expr_of b.value) o) ons) result (spec.bound_ons (map (λ e. entry_of e) entries.now) 0 [] (map (λ e. entry_of e) entries.now)) }
+{
+    let mut ons = Items::new(alloc);
+    for (number, entry) in entries.iter().enumerate() {
+        match bind_condition(alloc, entries, on_reach(number, entry), entry.on) {
+            Ok(on) => ons.push(on)?,
+            Err(failure) => return Err(failure),
+        }
+    }
+    Ok(ons)
+}
+
+fn bind_columns<A: Heap>(
+    alloc: A,
+    entries: &[Entry<'_, A>],
+    reach: Reach,
+    columns: &[ColumnRef<A>],
+) -> Result<Items<ColumnId, A>, Failure<NameFault>>
+    ensures { Gives (λ ids. ids) result (spec.bound_columns (map (λ e. entry_of e) entries.now) reach [] (map (λ c. column_ref_of c) columns.now)) }
+{
+    let mut ids = Items::new(alloc);
+    for column in columns {
+        match find_column(entries, reach, column) {
+            Ok(id) => ids.push(id)?,
+            Err(fault) => return Err(Failure::Fault(fault)),
+        }
+    }
+    Ok(ids)
+}
+
+fn bind_optional<A: Heap>(
+    alloc: A,
+    entries: &[Entry<'_, A>],
+    reach: Reach,
+    condition: &Option<Condition<A>>,
+) -> Result<BoundCondition<A>, Failure<NameFault>>
+    ensures { Gives (λ o. option_map (λ b. bound_expr_of b.value) o) result (spec.bound_condition (map (λ e. entry_of e) entries.now) reach (option_map condition_of condition.now)) }
+{
+    match condition {
+        Some(condition) => bind_condition(alloc, entries, reach, Some(condition)),
+        None => Ok(None),
+    }
+}
+
+/// The query with its columns found among the entries of its FROM, or the first that stands for nothing.
+pub fn bind_query<A: Heap>(
+    alloc: A,
+    entries: &[Entry<'_, A>],
+    query: &Query<A>,
+) -> Result<Box<BoundQuery<A>, A>, Failure<NameFault>>
+    ensures { Gives (λ b. bound_query_of b.value) result (spec.bound_query (map (λ e. entry_of e) entries.now) (query_of query.now)) }
+{
+    let reach = everywhere(entries);
+    let items = bind_select(alloc, entries, reach, &query.select)?;
+    let ons = bind_ons(alloc, entries)?;
+    let filter = bind_optional(alloc, entries, reach, &query.filter)?;
+    let group_by = match bind_columns(alloc, entries, reach, query.group_by.as_slice()) {
+        Ok(group_by) => group_by,
+        Err(failure) => return Err(failure),
+    };
+    let having = match bind_optional(alloc, entries, reach, &query.having) {
+        Ok(having) => having,
+        Err(failure) => return Err(failure),
+    };
+    let bound = BoundQuery {
+        items,
+        ons,
+        filter,
+        group_by,
+        having,
+    };
+    Ok(boxed(alloc, bound)?)
+}
