@@ -1,0 +1,6 @@
+pub mod Nodes
+pub mod Conditions
+pub mod Movables
+pub mod Faultless
+pub mod Members
+pub mod Agreement

@@ -1,0 +1,181 @@
+use Rattle.std.proofs.Common.{sym, ap, rules, arith}
+use Rattle.std.proofs.lemmas.Grind.{common_steps}
+use denote.Enum.Bare.{same_true, same_false}
+use Rattle.value.specs.Datum.{datum_of}
+use Rattle.value.specs.contracts.order.Truth.{the_type}
+use Rattle.expr.specs.View.{bound_expr_of, bound_exprs}
+use Rattle.eval.specs.Meaning.{meaning, conjunction, disjunction}
+use Rattle.expr.specs.Weights.{weight}
+use Rattle.expr.proofs.Walks.{and_is, or_is, case_lighter, exprs_lighter}
+use Rattle.eval.proofs.Conditions.{and_start, or_start, and_over, and_fails, and_ends, and_goes_on, or_over, or_fails, or_ends, or_goes_on, case_over, when_fails, case_gives, case_goes_on, case_fails, case_value, case_else, case_null, exits, exits_choice}
+use Rattle.eval.proofs.Movables.{member_movable, rest_movable, when_movable, result_movable, arms_left_movable, arms_all_movable, else_movable, exits_safe}
+use Rattle.eval.proofs.evaluating.+eval.Goals as goal
+
+-- ---- AND
+
+pub conjunction-returns-in_err-condition-clause-value : goal.conjunction-returns-in_err-condition-clause-value
+conjunction-returns-in_err-condition-clause-value g t c =
+    exits (λ t. t) c.from_residual.result c.in_err-condition.field-0.0 _ c.from_residual.ensures.1
+    (and_fails (g.R.Row.cells c.args.row.now) c.args.role.now c.args.members.now c.loop-member.member-index c.loop-member.known c.loop-member.invariant.rest c.member-item.result c.loop-member-test.true c.member-item.is c.in_err-condition.field-0.0 (c.in_err-condition.ensures.value (meaning (g.R.Row.cells c.args.row.now) c.args.role.now (bound_expr_of c.member-item.result)) c.eval.ensures.value))
+
+pub conjunction-returns-then-eq-clause-value : goal.conjunction-returns-then-eq-clause-value
+conjunction-returns-then-eq-clause-value g t c =
+    and_ends (g.R.Row.cells c.args.row.now) c.args.role.now c.args.members.now c.loop-member.member-index c.loop-member.known c.loop-member.invariant.rest c.member-item.result c.loop-member-test.true c.member-item.is
+    c.in_ok-condition.field-0 c.and3-known.result (c.in_ok-condition.ensures.value (meaning (g.R.Row.cells c.args.row.now) c.args.role.now (bound_expr_of c.member-item.result)) c.eval.ensures.value) c.and3-known.ensures c.loop-member.invariant.open_yet (same_true the_type (search rules) _ _ (sym c.if-eq.ensures))
+
+pub conjunction-loop-member-preserved : goal.conjunction-loop-member-preserved
+conjunction-loop-member-preserved g t c = let o = same_false the_type _ _ (sym c.if-eq.ensures) in record {
+  open_yet = o;
+  rest = and_goes_on (g.R.Row.cells c.args.row.now) c.args.role.now c.args.members.now c.loop-member.member-index c.loop-member.known c.loop-member.invariant.rest c.member-item.result c.loop-member-test.true c.member-item.is c.in_ok-condition.field-0 c.and3-known.result (c.in_ok-condition.ensures.value (meaning (g.R.Row.cells c.args.row.now) c.args.role.now (bound_expr_of c.member-item.result)) c.eval.ensures.value) c.and3-known.ensures o;
+  memory = λ p. rest_movable c.args.members.now c.loop-member.member-index c.member-item.result c.loop-member-test.true c.member-item.is (c.loop-member.invariant.memory p);
+  lighter = grind (arith, common_steps);
+}
+
+pub conjunction-returns-clause-value : goal.conjunction-returns-clause-value
+conjunction-returns-clause-value g t c = and_over (g.R.Row.cells c.args.row.now) c.args.role.now c.args.members.now c.loop-member.member-index c.loop-member.known c.loop-member.invariant.rest (omega (arith, c.loop-member-test.false))
+
+-- ---- OR
+
+pub disjunction-returns-in_err-condition-clause-value : goal.disjunction-returns-in_err-condition-clause-value
+disjunction-returns-in_err-condition-clause-value g t c =
+    exits (λ t. t) c.from_residual.result c.in_err-condition.field-0.0 _ c.from_residual.ensures.1
+    (or_fails (g.R.Row.cells c.args.row.now) c.args.role.now c.args.members.now c.loop-member.member-index c.loop-member.known c.loop-member.invariant.rest c.member-item.result c.loop-member-test.true c.member-item.is c.in_err-condition.field-0.0 (c.in_err-condition.ensures.value (meaning (g.R.Row.cells c.args.row.now) c.args.role.now (bound_expr_of c.member-item.result)) c.eval.ensures.value))
+
+pub disjunction-returns-then-eq-clause-value : goal.disjunction-returns-then-eq-clause-value
+disjunction-returns-then-eq-clause-value g t c =
+    or_ends (g.R.Row.cells c.args.row.now) c.args.role.now c.args.members.now c.loop-member.member-index c.loop-member.known c.loop-member.invariant.rest c.member-item.result c.loop-member-test.true c.member-item.is
+    c.in_ok-condition.field-0 c.or3-known.result (c.in_ok-condition.ensures.value (meaning (g.R.Row.cells c.args.row.now) c.args.role.now (bound_expr_of c.member-item.result)) c.eval.ensures.value) c.or3-known.ensures c.loop-member.invariant.open_yet (same_true the_type (search rules) _ _ (sym c.if-eq.ensures))
+
+pub disjunction-loop-member-preserved : goal.disjunction-loop-member-preserved
+disjunction-loop-member-preserved g t c = let o = same_false the_type _ _ (sym c.if-eq.ensures) in record {
+  open_yet = o;
+  rest = or_goes_on (g.R.Row.cells c.args.row.now) c.args.role.now c.args.members.now c.loop-member.member-index c.loop-member.known c.loop-member.invariant.rest c.member-item.result c.loop-member-test.true c.member-item.is c.in_ok-condition.field-0 c.or3-known.result (c.in_ok-condition.ensures.value (meaning (g.R.Row.cells c.args.row.now) c.args.role.now (bound_expr_of c.member-item.result)) c.eval.ensures.value) c.or3-known.ensures o;
+  memory = λ p. rest_movable c.args.members.now c.loop-member.member-index c.member-item.result c.loop-member-test.true c.member-item.is (c.loop-member.invariant.memory p);
+  lighter = grind (arith, common_steps);
+}
+
+pub disjunction-returns-clause-value : goal.disjunction-returns-clause-value
+disjunction-returns-clause-value g t c = or_over (g.R.Row.cells c.args.row.now) c.args.role.now c.args.members.now c.loop-member.member-index c.loop-member.known c.loop-member.invariant.rest (omega (arith, c.loop-member-test.false))
+
+-- ---- the arms of CASE
+
+pub chosen-returns-in_err-condition-clause-value : goal.chosen-returns-in_err-condition-clause-value
+chosen-returns-in_err-condition-clause-value g t c = λ rest.
+    exits_choice c.from_residual.result c.in_err-condition.field-0.0 rest _ c.from_residual.ensures.1
+    (when_fails (g.R.Row.cells c.args.row.now) c.args.role.now c.args.arms.now c.loop-arm.arm-index rest (c.loop-arm.invariant.rest rest) c.arm-item.result c.loop-arm-test.true c.arm-item.is c.in_err-condition.field-0.0 (c.in_err-condition.ensures.value (meaning (g.R.Row.cells c.args.row.now) c.args.role.now (bound_expr_of c.arm-item.result.when)) c.eval.ensures.value))
+
+pub chosen-returns-in_err-eval-clause-value : goal.chosen-returns-in_err-eval-clause-value
+chosen-returns-in_err-eval-clause-value g t c = λ rest.
+    exits_choice c.from_residual-in_err-eval.result c.in_err-eval.field-0.0 rest _ c.from_residual-in_err-eval.ensures.1
+    (rw (case_gives (g.R.Row.cells c.args.row.now) c.args.role.now c.args.arms.now c.loop-arm.arm-index rest (c.loop-arm.invariant.rest rest) c.arm-item.result c.loop-arm-test.true c.arm-item.is c.in_ok-condition.field-0 (c.in_ok-condition.ensures.value (meaning (g.R.Row.cells c.args.row.now) c.args.role.now (bound_expr_of c.arm-item.result.when)) c.eval.ensures.value) (same_true the_type (search rules) _ _ (sym c.if-eq.ensures))) c.in_err-eval.ensures.value)
+
+pub chosen-returns-then-eq-clause-value : goal.chosen-returns-then-eq-clause-value
+chosen-returns-then-eq-clause-value g t c = λ rest.
+    rw (case_gives (g.R.Row.cells c.args.row.now) c.args.role.now c.args.arms.now c.loop-arm.arm-index rest (c.loop-arm.invariant.rest rest) c.arm-item.result c.loop-arm-test.true c.arm-item.is c.in_ok-condition.field-0 (c.in_ok-condition.ensures.value (meaning (g.R.Row.cells c.args.row.now) c.args.role.now (bound_expr_of c.arm-item.result.when)) c.eval.ensures.value) (same_true the_type (search rules) _ _ (sym c.if-eq.ensures))) c.in_ok-eval.ensures.value
+
+pub chosen-loop-arm-preserved : goal.chosen-loop-arm-preserved
+chosen-loop-arm-preserved g t c = record {
+  rest = λ rest. case_goes_on (g.R.Row.cells c.args.row.now) c.args.role.now c.args.arms.now c.loop-arm.arm-index rest (c.loop-arm.invariant.rest rest) c.arm-item.result c.loop-arm-test.true c.arm-item.is c.in_ok-condition.field-0 (c.in_ok-condition.ensures.value (meaning (g.R.Row.cells c.args.row.now) c.args.role.now (bound_expr_of c.arm-item.result.when)) c.eval.ensures.value) (same_false the_type _ _ (sym c.if-eq.ensures));
+  memory = λ p. arms_left_movable c.args.arms.now c.loop-arm.arm-index c.arm-item.result c.loop-arm-test.true c.arm-item.is (c.loop-arm.invariant.memory p);
+  lighter = grind (arith, common_steps);
+}
+
+pub chosen-returns-clause-value : goal.chosen-returns-clause-value
+chosen-returns-clause-value g t c = λ rest. case_over (g.R.Row.cells c.args.row.now) c.args.role.now c.args.arms.now c.loop-arm.arm-index rest (c.loop-arm.invariant.rest rest) (omega (arith, c.loop-arm-test.false))
+
+-- ---- nodes with members
+
+pub eval-returns-in-And-clause-value : goal.eval-returns-in-And-clause-value
+eval-returns-in-And-clause-value g t c = rw (and_is c.args.expression.now c.in-And.offset c.in-And.members c.deref-in-And.result.now c.deref-in-And.ensures.value c.in-And.is) (c.as_value.ensures.value _ c.conjunction.ensures.value)
+
+pub eval-returns-in-Or-clause-value : goal.eval-returns-in-Or-clause-value
+eval-returns-in-Or-clause-value g t c = rw (or_is c.args.expression.now c.in-Or.offset c.in-Or.members c.deref-in-Or.result.now c.deref-in-Or.ensures.value c.in-Or.is) (c.as_value-in-Or.ensures.value _ c.disjunction.ensures.value)
+
+pub eval-returns-in_err-value-in-Case-clause-value : goal.eval-returns-in_err-value-in-Case-clause-value
+eval-returns-in_err-value-in-Case-clause-value g t c =
+    exits (datum_of {A = g.row.A.Denot}) c.from_residual-in_err-value-in-Case.result c.in_err-value-in-Case.field-0.0 _ c.from_residual-in_err-value-in-Case.ensures.1
+    (case_fails (g.R.Row.cells c.args.row.now) c.args.role.now c.args.expression.now c.in-Case.offset c.in-Case.arms c.deref-in-Case.result.now c.deref-in-Case.ensures.value c.in-Case.otherwise c.in-Case.is c.in_err-value-in-Case.field-0.0 c.in_err-value-in-Case.ensures.value)
+
+pub eval-returns-in-Some-clause-value : goal.eval-returns-in-Some-clause-value
+eval-returns-in-Some-clause-value g t c =
+    case_value (g.R.Row.cells c.args.row.now) c.args.role.now c.args.expression.now c.in-Case.offset c.in-Case.arms c.deref-in-Case.result.now c.deref-in-Case.ensures.value c.in-Case.otherwise c.in-Case.is _ (rw c.in-Some.is at c.in_ok-value-in-Case.ensures.value)
+
+pub eval-returns-in-Some-otherwise-clause-value : goal.eval-returns-in-Some-otherwise-clause-value
+eval-returns-in-Some-otherwise-clause-value g t c =
+    rw (case_else (g.R.Row.cells c.args.row.now) c.args.role.now c.args.expression.now c.in-Case.offset c.in-Case.arms c.deref-in-Case.result.now c.deref-in-Case.ensures.value c.in-Case.otherwise c.in-Case.is (rw c.in-None.is at c.in_ok-value-in-Case.ensures.value) c.in-Some-otherwise.other c.in-Some-otherwise.is c.deref-in-Some-otherwise.result.now c.deref-in-Some-otherwise.ensures) c.eval-in-Some-otherwise.ensures.value
+
+pub eval-returns-in-None-otherwise-clause-value : goal.eval-returns-in-None-otherwise-clause-value
+eval-returns-in-None-otherwise-clause-value g t c =
+    case_null (g.R.Row.cells c.args.row.now) c.args.role.now c.args.expression.now c.in-Case.offset c.in-Case.arms c.deref-in-Case.result.now c.deref-in-Case.ensures.value c.in-Case.otherwise c.in-Case.is (rw c.in-None.is at c.in_ok-value-in-Case.ensures.value) c.in-None-otherwise.is
+
+-- ---- no memory
+
+pub conjunction-returns-in_err-condition-clause-memory : goal.conjunction-returns-in_err-condition-clause-memory
+conjunction-returns-in_err-condition-clause-memory g t c = λ p.
+    exits_safe c.from_residual.result c.in_err-condition.field-0.0 c.from_residual.ensures.1
+    (c.in_err-condition.ensures.memory (c.eval.ensures.memory (member_movable c.args.members.now c.loop-member.member-index c.member-item.result c.loop-member-test.true c.member-item.is (c.loop-member.invariant.memory p))))
+
+pub disjunction-returns-in_err-condition-clause-memory : goal.disjunction-returns-in_err-condition-clause-memory
+disjunction-returns-in_err-condition-clause-memory g t c = λ p.
+    exits_safe c.from_residual.result c.in_err-condition.field-0.0 c.from_residual.ensures.1
+    (c.in_err-condition.ensures.memory (c.eval.ensures.memory (member_movable c.args.members.now c.loop-member.member-index c.member-item.result c.loop-member-test.true c.member-item.is (c.loop-member.invariant.memory p))))
+
+pub chosen-returns-in_err-condition-clause-memory : goal.chosen-returns-in_err-condition-clause-memory
+chosen-returns-in_err-condition-clause-memory g t c = λ p.
+    exits_safe c.from_residual.result c.in_err-condition.field-0.0 c.from_residual.ensures.1
+    (c.in_err-condition.ensures.memory (c.eval.ensures.memory (when_movable c.args.arms.now c.loop-arm.arm-index c.arm-item.result c.loop-arm-test.true c.arm-item.is (c.loop-arm.invariant.memory p))))
+
+pub chosen-returns-in_err-eval-clause-memory : goal.chosen-returns-in_err-eval-clause-memory
+chosen-returns-in_err-eval-clause-memory g t c = λ p.
+    exits_safe c.from_residual-in_err-eval.result c.in_err-eval.field-0.0 c.from_residual-in_err-eval.ensures.1
+    (c.in_err-eval.ensures.memory (result_movable c.args.arms.now c.loop-arm.arm-index c.arm-item.result c.loop-arm-test.true c.arm-item.is (c.loop-arm.invariant.memory p)))
+
+pub eval-returns-in-And-clause-memory : goal.eval-returns-in-And-clause-memory
+eval-returns-in-And-clause-memory g t c = λ p.
+    c.as_value.ensures.memory (c.conjunction.ensures.memory (rw (and_is c.args.expression.now c.in-And.offset c.in-And.members c.deref-in-And.result.now c.deref-in-And.ensures.value c.in-And.is) at p))
+
+pub eval-returns-in-Or-clause-memory : goal.eval-returns-in-Or-clause-memory
+eval-returns-in-Or-clause-memory g t c = λ p.
+    c.as_value-in-Or.ensures.memory (c.disjunction.ensures.memory (rw (or_is c.args.expression.now c.in-Or.offset c.in-Or.members c.deref-in-Or.result.now c.deref-in-Or.ensures.value c.in-Or.is) at p))
+
+pub eval-returns-in_err-value-in-Case-clause-memory : goal.eval-returns-in_err-value-in-Case-clause-memory
+eval-returns-in_err-value-in-Case-clause-memory g t c = λ p.
+    exits_safe c.from_residual-in_err-value-in-Case.result c.in_err-value-in-Case.field-0.0 c.from_residual-in_err-value-in-Case.ensures.1
+    (c.in_err-value-in-Case.ensures.memory (arms_all_movable c.args.expression.now c.in-Case.offset c.in-Case.arms c.deref-in-Case.result.now c.deref-in-Case.ensures.value c.in-Case.otherwise c.in-Case.is p))
+
+pub eval-returns-in-Some-otherwise-clause-memory : goal.eval-returns-in-Some-otherwise-clause-memory
+eval-returns-in-Some-otherwise-clause-memory g t c = λ p.
+    c.eval-in-Some-otherwise.ensures.memory (else_movable c.args.expression.now c.in-Case.offset c.in-Case.arms c.deref-in-Case.result.now c.deref-in-Case.ensures.value c.in-Case.otherwise c.in-Case.is p c.in-Some-otherwise.other c.in-Some-otherwise.is c.deref-in-Some-otherwise.result.now c.deref-in-Some-otherwise.ensures)
+
+-- ---- each call is on less
+
+pub eval-conjunction-requires : goal.eval-conjunction-requires
+eval-conjunction-requires g t c κs within = let w = ap weight (and_is c.args.expression.now c.in-And.offset c.in-And.members c.deref-in-And.result.now c.deref-in-And.ensures.value c.in-And.is) in search rules
+
+pub eval-disjunction-requires : goal.eval-disjunction-requires
+eval-disjunction-requires g t c κs within = let w = ap weight (or_is c.args.expression.now c.in-Or.offset c.in-Or.members c.deref-in-Or.result.now c.deref-in-Or.ensures.value c.in-Or.is) in search rules
+
+pub eval-chosen-requires : goal.eval-chosen-requires
+eval-chosen-requires g t c κs within = let h = case_lighter c.args.expression.now c.in-Case.offset c.in-Case.arms c.deref-in-Case.result.now c.deref-in-Case.ensures.value c.in-Case.otherwise c.in-Case.is in search rules
+
+pub conjunction-eval-requires : goal.conjunction-eval-requires
+conjunction-eval-requires g t c κs within = let h = exprs_lighter c.args.members.now c.loop-member.member-index c.member-item.result c.loop-member-test.true c.member-item.is c.loop-member.invariant.lighter in search rules
+
+pub disjunction-eval-requires : goal.disjunction-eval-requires
+disjunction-eval-requires g t c κs within = let h = exprs_lighter c.args.members.now c.loop-member.member-index c.member-item.result c.loop-member-test.true c.member-item.is c.loop-member.invariant.lighter in search rules
+
+pub conjunction-loop-member-init : goal.conjunction-loop-member-init
+conjunction-loop-member-init g t c = record {
+  open_yet = search rules;
+  rest = and_start (conjunction (g.R.Row.cells c.args.row.now) c.args.role.now (bound_exprs c.args.members.now));
+  memory = λ p. p;
+  lighter = omega arith;
+}
+
+pub disjunction-loop-member-init : goal.disjunction-loop-member-init
+disjunction-loop-member-init g t c = record {
+  open_yet = search rules;
+  rest = or_start (disjunction (g.R.Row.cells c.args.row.now) c.args.role.now (bound_exprs c.args.members.now));
+  memory = λ p. p;
+  lighter = omega arith;
+}

@@ -1,0 +1,121 @@
+-- The value of an expression on a row, or its first fault from left to right.
+use Rattle.std.specs.Prelude.{ℕ, Bool, false, List, Result, Ok, Err}
+use Rattle.value.specs.Datum.{Datum, null, text}
+use Rattle.value.specs.Orders.{is_true}
+use Rattle.value.specs.Truths.{least, greatest, negated}
+use Rattle.value.specs.Conditions.{truth_at, at_truth}
+use Rattle.value.specs.Exact.{with_number, negated_of}
+use Rattle.value.specs.Casts.{cast_of}
+use Rattle.value.specs.declared.order.Truth.{Truth}
+use Rattle.value.specs.declared.order.Truth.TheVariants.{False, Unknown, True}
+use Rattle.value.specs.declared.types.FaultKind.{FaultKind}
+use Rattle.value.specs.declared.faults.Fault.{Fault}
+use Rattle.expr.specs.declared.bound.ColumnId.{ColumnId}
+use Rattle.expr.specs.Bound.{BoundExpr, Column, Literal, CurrentUser, Negate, Arithmetic, Comparison, Between, In, IsNull, Not, And, Or, Cast, Case, CountStar, Call, BoundExprs, no_expr, one_expr, BoundArms, no_arm, one_arm, BoundOtherwise, Nothing, Value}
+use Rattle.eval.specs.Operators.{arithmetic_of, comparison_of, between_of, in_of, null_test, negated_if}
+
+-- the cell in a column
+abbrev pub Cells : Type 0
+Cells = ColumnId → Datum
+
+-- a value, or a fault
+abbrev pub Outcome : Type 0
+Outcome = Result Datum Fault
+
+-- the first fault, or what the value leads to
+infixl 10 ◌>>=◌
+abbrev pub ◌>>=◌ : {A B : Type 0} → Result A Fault → (A → Result B Fault) → Result B Fault
+(Ok x) >>= f = f x
+(Err e) >>= f = Err e
+
+abbrev pub at_offset : ℕ → Result Datum FaultKind → Outcome
+at_offset offset (Ok d) = Ok d
+at_offset offset (Err kind) = Err (record { offset = offset; kind = kind })
+
+-- ---- conditions
+
+abbrev pub condition : Outcome → Result Truth Fault
+condition (Ok d) = Ok (truth_at d)
+condition (Err fault) = Err fault
+
+abbrev pub as_datum : Result Truth Fault → Outcome
+as_datum (Ok t) = Ok (at_truth t)
+as_datum (Err fault) = Err fault
+
+abbrev pub with_least : Truth → Result Truth Fault → Result Truth Fault
+with_least t (Ok u) = Ok (least t u)
+with_least t (Err fault) = Err fault
+
+abbrev pub with_greatest : Truth → Result Truth Fault → Result Truth Fault
+with_greatest t (Ok u) = Ok (greatest t u)
+with_greatest t (Err fault) = Err fault
+
+-- AND: the conditions after a false one are not evaluated
+abbrev pub unless_false : Result Truth Fault → Result Truth Fault → Result Truth Fault
+unless_false (Ok False) more = Ok False
+unless_false (Ok Unknown) more = with_least Unknown more
+unless_false (Ok True) more = with_least True more
+unless_false (Err fault) more = Err fault
+
+-- OR: the conditions after a true one are not evaluated
+abbrev pub unless_true : Result Truth Fault → Result Truth Fault → Result Truth Fault
+unless_true (Ok True) more = Ok True
+unless_true (Ok Unknown) more = with_greatest Unknown more
+unless_true (Ok False) more = with_greatest False more
+unless_true (Err fault) more = Err fault
+
+-- WHEN: the result where the condition is true, else the rest
+abbrev pub when_true : Result Truth Fault → Outcome → Outcome → Outcome
+when_true (Ok True) result rest = result
+when_true (Ok Unknown) result rest = rest
+when_true (Ok False) result rest = rest
+when_true (Err fault) result rest = Err fault
+
+-- null, false and a fault are not true
+abbrev pub is_true_outcome : Outcome → Bool
+is_true_outcome (Ok d) = is_true (truth_at d)
+is_true_outcome (Err fault) = false
+
+-- ---- expressions
+
+module _ (cells : Cells) (role : List ℕ) where
+  abbrev mutual
+    pub meaning : BoundExpr → Outcome
+    meaning (Column id) = Ok (cells id)
+    meaning (Literal d) = Ok d
+    meaning CurrentUser = Ok (text role)
+    meaning (Negate offset e) = meaning e >>= λ x. at_offset offset (with_number negated_of x)
+    meaning (Arithmetic operator offset e f) = meaning e >>= λ x. meaning f >>= λ y. at_offset offset (arithmetic_of operator x y)
+    meaning (Comparison operator offset e f) = meaning e >>= λ x. meaning f >>= λ y. Ok (at_truth (comparison_of operator x y))
+    meaning (Between negated offset e low high) = meaning e >>= λ x. meaning low >>= λ y. meaning high >>= λ z. Ok (at_truth (negated_if negated (between_of x y z)))
+    meaning (In negated offset values e) = meaning e >>= λ x. Ok (at_truth (negated_if negated (in_of x values)))
+    meaning (IsNull negated offset e) = meaning e >>= λ x. Ok (at_truth (negated_if negated (null_test x)))
+    meaning (Not offset e) = meaning e >>= λ x. Ok (at_truth (negated (truth_at x)))
+    meaning (And offset es) = as_datum (conjunction es)
+    meaning (Or offset es) = as_datum (disjunction es)
+    meaning (Cast offset to e) = meaning e >>= λ x. at_offset offset (cast_of to x)
+    meaning (Case offset as_ o) = chosen as_ (otherwise o)
+    -- an aggregate is taken out before its expression is evaluated on a row, so this case does not occur
+    meaning (CountStar offset) = Ok null
+    meaning (Call aggregate offset e) = Ok null
+
+    pub conjunction : BoundExprs → Result Truth Fault
+    conjunction no_expr = Ok True
+    conjunction (one_expr e es) = unless_false (condition (meaning e)) (conjunction es)
+
+    pub disjunction : BoundExprs → Result Truth Fault
+    disjunction no_expr = Ok False
+    disjunction (one_expr e es) = unless_true (condition (meaning e)) (disjunction es)
+
+    -- the result of the first arm whose condition is true, else the rest
+    pub chosen : BoundArms → Outcome → Outcome
+    chosen no_arm rest = rest
+    chosen (one_arm when result as_) rest = when_true (condition (meaning when)) (meaning result) (chosen as_ rest)
+
+    pub otherwise : BoundOtherwise → Outcome
+    otherwise Nothing = Ok null
+    otherwise (Value e) = meaning e
+
+  -- the value is TRUE
+  abbrev pub holds : BoundExpr → Bool
+  holds e = is_true_outcome (meaning e)

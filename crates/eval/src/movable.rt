@@ -1,0 +1,42 @@
+//! Expressions that never fault.
+
+ghost use Rattle.std.specs.Prelude.{◌≡◌, Ok, true};
+ghost use Rattle.value.specs.Datum.{datum_of};
+ghost use Rattle.expr.specs.View.{bound_expr_of};
+ghost use Rattle.expr.specs.Movable.{movable};
+ghost use Rattle.eval.specs.Meaning.{meaning, holds};
+
+use crate::evaluating::eval;
+use crate::row::Row;
+use expr::BoundExpr;
+use memory::Heap;
+use value::{Truth, Val, as_condition};
+
+/// The value of a movable expression on a row, for a role. It takes no memory.
+pub fn eval_movable<'a, A: Heap, R: Row<A>>(
+    alloc: A,
+    expression: &'a BoundExpr<A>,
+    row: &'a R,
+    role: &'a str,
+) -> Val<'a, A>
+    requires { movable (bound_expr_of expression.now) ≡ true }
+    ensures { Ok (datum_of result) ≡ meaning (R.cells row.now) role.now (bound_expr_of expression.now) }
+{
+    match eval(alloc, expression, row, role) {
+        Ok(value) => value,
+        Err(_) => Val::Null,
+    }
+}
+
+/// Whether a movable expression is true on a row, for a role: neither false nor null.
+pub fn is_true_on<A: Heap, R: Row<A>>(
+    alloc: A,
+    expression: &BoundExpr<A>,
+    row: &R,
+    role: &str,
+) -> bool
+    requires { movable (bound_expr_of expression.now) ≡ true }
+    ensures { result ≡ holds (R.cells row.now) role.now (bound_expr_of expression.now) }
+{
+    as_condition(&eval_movable(alloc, expression, row, role)) == Truth::True
+}
