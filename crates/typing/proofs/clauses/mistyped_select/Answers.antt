@@ -1,0 +1,4 @@
+use Rattle.typing.proofs.clauses.mistyped_select.Goals as goal
+
+pub returns-in-Items : goal.returns-in-Items
+returns-in-Items g c = rw (c.in-Items.is, ← c.as_slice.ensures) c.mistyped_items.ensures

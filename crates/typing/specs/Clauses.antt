@@ -1,0 +1,110 @@
+-- The checks of a query on aggregates and on types.
+use Rattle.std.specs.Prelude.{ℕ, ◌+◌, Bool, true, false, not, ◌&&◌, ◌||◌, List, [], ◌∷◌, Option, Some, None, is_some, Ok, Err, if◌then◌else◌}
+use Rattle.std.specs.List.{list_any}
+use Rattle.value.specs.Columns.{Column}
+use Rattle.value.specs.declared.refusal.Refusal.TheVariants as r
+use Rattle.row_ast.specs.Ast as ast
+use Rattle.row_ast.specs.Ast.{is_empty}
+use Rattle.expr.specs.declared.bound.ColumnId.{ColumnId}
+use Rattle.scope.specs.declared.fault.NameFault.{NameFault}
+use Rattle.scope.specs.declared.lookup.Reach.{Reach}
+use Rattle.scope.specs.Entry.{Entry, fault}
+use Rattle.scope.specs.Lookup.{everywhere, on_reach}
+use Rattle.typing.specs.Offsets.{least_of}
+use Rattle.typing.specs.Typing.{Typed, typed, typed_condition}
+use Rattle.typing.specs.Grouping.{is_column, misplaced}
+
+-- ---- aggregates
+
+-- after those before
+abbrev pub misplaced_items : List Entry → List ColumnId → Bool → Option ℕ → List ast.SelectItem → Option ℕ
+misplaced_items entries group_by of_groups known [] = known
+misplaced_items entries group_by of_groups known (i ∷ more) =
+    misplaced_items entries group_by of_groups (least_of known (misplaced entries (everywhere entries) group_by of_groups i.value)) more
+
+-- each column of an entry, from that at a place, is one of GROUP BY
+abbrev pub are_grouped : List ColumnId → ℕ → ℕ → List Column → Bool
+are_grouped group_by entry column [] = true
+are_grouped group_by entry column (c ∷ cs) = list_any (is_column (record { entry = entry; column = column })) group_by && are_grouped group_by entry (column + 1) cs
+
+-- each column of the entries, from that of a number, is one of GROUP BY
+abbrev pub every_grouped : List ColumnId → ℕ → List Entry → Bool
+every_grouped group_by entry [] = true
+every_grouped group_by entry (e ∷ more) = are_grouped group_by entry 0 e.table.columns && every_grouped group_by (entry + 1) more
+
+-- a * of a grouped query names every column
+abbrev pub misplaced_star : Bool → Bool → ℕ → Option ℕ
+misplaced_star false grouped offset = None
+misplaced_star true grouped offset = if grouped then None else Some offset
+
+abbrev pub misplaced_select : List Entry → List ColumnId → Bool → ast.SelectList → Option ℕ
+misplaced_select entries group_by of_groups (ast.All offset) = misplaced_star of_groups (every_grouped group_by 0 entries) offset
+misplaced_select entries group_by of_groups (ast.Items items) = misplaced_items entries group_by of_groups None items
+
+abbrev pub misplaced_condition : List Entry → List ColumnId → Bool → Option ast.Condition → Option ℕ
+misplaced_condition entries group_by of_groups None = None
+misplaced_condition entries group_by of_groups (Some c) = misplaced entries (everywhere entries) group_by of_groups c.predicate
+
+-- in the ONs, after those before
+abbrev pub misplaced_ons : List Entry → List ColumnId → Option ℕ → List Entry → Option ℕ
+misplaced_ons entries group_by known [] = known
+misplaced_ons entries group_by known (e ∷ more) = misplaced_ons entries group_by (least_of known (misplaced_condition entries group_by false e.on)) more
+
+-- an aggregate in an item is one that WHERE may not have
+abbrev pub is_grouped : List Entry → ast.Query → Bool
+is_grouped entries q = not (is_empty q.group_by) || (is_some q.having || is_some (misplaced_select entries [] false q.select))
+
+abbrev pub misplaced_by : List Entry → List ColumnId → Bool → ast.Query → Option ℕ
+misplaced_by entries group_by grouped q =
+    least_of (misplaced_select entries group_by grouped q.select)
+    (least_of (misplaced_ons entries group_by None entries) (least_of (misplaced_condition entries group_by false q.filter) (misplaced_condition entries group_by grouped q.having)))
+
+-- the least offset of an aggregate, or of a column beside one, that may not be there
+abbrev pub misplaced_in : List Entry → List ColumnId → ast.Query → Option ℕ
+misplaced_in entries group_by q = misplaced_by entries group_by (is_grouped entries q) q
+
+-- ---- types
+
+abbrev pub mistyped : Typed → Option ℕ
+mistyped (Ok t) = None
+mistyped (Err offset) = Some offset
+
+-- after those before
+abbrev pub mistyped_items : List Entry → Option ℕ → List ast.SelectItem → Option ℕ
+mistyped_items entries known [] = known
+mistyped_items entries known (i ∷ more) = mistyped_items entries (least_of known (mistyped (typed entries (everywhere entries) i.value))) more
+
+abbrev pub mistyped_select : List Entry → ast.SelectList → Option ℕ
+mistyped_select entries (ast.All offset) = None
+mistyped_select entries (ast.Items items) = mistyped_items entries None items
+
+abbrev pub mistyped_condition : List Entry → Reach → Option ast.Condition → Option ℕ
+mistyped_condition entries reach None = None
+mistyped_condition entries reach (Some c) = mistyped (typed_condition entries reach c.offset c.predicate)
+
+-- in the ONs from that of a number, after those before
+abbrev pub mistyped_ons : List Entry → ℕ → Option ℕ → List Entry → Option ℕ
+mistyped_ons entries number known [] = known
+mistyped_ons entries number known (e ∷ more) = mistyped_ons entries (number + 1) (least_of known (mistyped_condition entries (on_reach number e) e.on)) more
+
+-- the least offset of what is of the wrong type
+abbrev pub mistyped_in : List Entry → ast.Query → Option ℕ
+mistyped_in entries q =
+    least_of (mistyped_select entries q.select)
+    (least_of (mistyped_ons entries 0 None entries) (least_of (mistyped_condition entries (everywhere entries) q.filter) (mistyped_condition entries (everywhere entries) q.having)))
+
+-- ---- both checks
+
+-- 42803 at an offset, or else 42804 at the other, if there is one
+abbrev pub first_fault : Option ℕ → Option ℕ → Option NameFault
+first_fault (Some offset) other = Some (fault r.GroupingError offset)
+first_fault None (Some offset) = Some (fault r.DatatypeMismatch offset)
+first_fault None None = None
+
+-- of a query with the columns of its GROUP BY
+abbrev pub clause_fault : List Entry → List ColumnId → ast.Query → Option NameFault
+clause_fault entries group_by q = first_fault (misplaced_in entries group_by q) (mistyped_in entries q)
+
+-- of the condition of a policy, which starts at an offset and may have no aggregate
+abbrev pub condition_fault : List Entry → ℕ → ast.Expr → Option NameFault
+condition_fault entries offset e = first_fault (misplaced entries (everywhere entries) [] false e) (mistyped (typed_condition entries (everywhere entries) offset e))

@@ -1,0 +1,4 @@
+pub mod Offsets
+pub mod Typing
+pub mod Grouping
+pub mod Clauses

@@ -1,0 +1,171 @@
+-- The type of an expression, or the least offset of what is of the wrong type in it.
+use Rattle.std.specs.Prelude.{ℕ, Bool, true, false, ◌&&◌, List, [], ◌∷◌, Option, Some, None, option_map, option_and_then, slice_get, Result, Ok, Err, if◌then◌else◌}
+use Rattle.value.specs.Datum.{Datum, null, int, text, bool}
+use Rattle.value.specs.declared.types.ColType.{ColType}
+use Rattle.value.specs.declared.types.ColType.TheVariants.{Bigint, Text, Boolean}
+use Rattle.value.specs.declared.operators.Aggregate.{Aggregate}
+use Rattle.value.specs.declared.operators.Aggregate.TheVariants.{Count, Sum, Min, Max}
+use Rattle.row_ast.specs.Ast as ast
+use Rattle.expr.specs.declared.bound.ColumnId.{ColumnId}
+use Rattle.scope.specs.declared.fault.NameFault.{NameFault}
+use Rattle.scope.specs.declared.lookup.Reach.{Reach}
+use Rattle.scope.specs.Entry.{and_then, Entry}
+use Rattle.scope.specs.Lookup.{find_column}
+use Rattle.typing.specs.Offsets.{both}
+
+-- a type, or none: that of NULL, which fits every type
+abbrev pub TypeOf : Type 0
+TypeOf = Option ColType
+
+-- the type of a part, or the least offset of an operation that is wrong although its operands are well typed
+abbrev pub Typed : Type 0
+Typed = Result TypeOf ℕ
+
+-- ---- types
+
+abbrev pub is_type : ColType → ColType → Bool
+is_type Bigint Bigint = true
+is_type Text Text = true
+is_type Boolean Boolean = true
+is_type _ _ = false
+
+abbrev pub fits : ColType → TypeOf → Bool
+fits to None = true
+fits to (Some from) = is_type from to
+
+-- the one type that both fit, if there is one
+abbrev pub common : TypeOf → TypeOf → Option TypeOf
+common None b = Some b
+common (Some a) None = Some (Some a)
+common (Some a) (Some b) = if is_type a b then Some (Some a) else None
+
+abbrev pub common_with : Option TypeOf → TypeOf → Option TypeOf
+common_with None b = None
+common_with (Some a) b = common a b
+
+-- CAST takes a number to a text and back, and each type to itself
+abbrev pub can_cast : ColType → TypeOf → Bool
+can_cast to None = true
+can_cast Bigint (Some Bigint) = true
+can_cast Bigint (Some Text) = true
+can_cast Bigint (Some Boolean) = false
+can_cast Text (Some Bigint) = true
+can_cast Text (Some Text) = true
+can_cast Text (Some Boolean) = false
+can_cast Boolean (Some Bigint) = false
+can_cast Boolean (Some Text) = false
+can_cast Boolean (Some Boolean) = true
+
+-- the types of min and max
+abbrev pub is_ordered : TypeOf → Bool
+is_ordered (Some Boolean) = false
+is_ordered _ = true
+
+-- ---- values and columns
+
+abbrev pub type_of : Datum → TypeOf
+type_of null = None
+type_of (int n) = Some Bigint
+type_of (text t) = Some Text
+type_of (bool b) = Some Boolean
+
+-- with the type that those before have in common
+abbrev pub common_of_all : Option TypeOf → List Datum → Option TypeOf
+common_of_all known [] = known
+common_of_all known (d ∷ ds) = common_of_all (common_with known (type_of d)) ds
+
+-- none at a place that is not there, which no column that was found has
+abbrev pub column_type : List Entry → ColumnId → TypeOf
+column_type entries id = option_and_then (λ e. option_map (λ c. c.data_type) (slice_get e.table.columns id.column)) (slice_get entries id.entry)
+
+-- none for a name that stands for nothing, which is reported before types are checked
+abbrev pub found_type : List Entry → Result ColumnId NameFault → TypeOf
+found_type entries (Ok id) = column_type entries id
+found_type entries (Err fault) = None
+
+-- ---- operations on operands that are well typed
+
+abbrev pub type_if : ℕ → Bool → TypeOf → Typed
+type_if offset holds t = if holds then Ok t else Err offset
+
+-- what compares values of one type
+abbrev pub truth_if_common : ℕ → Option TypeOf → Typed
+truth_if_common offset None = Err offset
+truth_if_common offset (Some t) = Ok (Some Boolean)
+
+abbrev pub aggregate_type : ℕ → Aggregate → TypeOf → Typed
+aggregate_type offset Count t = Ok (Some Bigint)
+aggregate_type offset Sum t = type_if offset (fits Bigint t) (Some Bigint)
+aggregate_type offset Min t = type_if offset (is_ordered t) t
+aggregate_type offset Max t = type_if offset (is_ordered t) t
+
+abbrev pub common_or_fault : ℕ → Option TypeOf → Typed
+common_or_fault offset None = Err offset
+common_or_fault offset (Some t) = Ok t
+
+-- each WHEN is a condition, and the results have one type
+abbrev pub result_type : ℕ → Bool → Option TypeOf → TypeOf → Typed
+result_type offset holds known otherwise = if holds then common_or_fault offset (common_with known otherwise) else Err offset
+
+-- ---- operations
+
+abbrev pub common_type : Typed → Typed → Result (Option TypeOf) ℕ
+common_type a b = and_then (both a b) (λ p. Ok (common p.0 p.1))
+
+abbrev pub between_type : ℕ → Typed → Typed → Typed → Typed
+between_type offset a b c = and_then (both (common_type a b) c) (λ p. truth_if_common offset (common_with p.0 p.1))
+
+-- one more member of an AND or OR
+abbrev pub and_condition : Result Bool ℕ → Typed → Result Bool ℕ
+and_condition known t = and_then (both known t) (λ p. Ok (p.0 && fits Boolean p.1))
+
+abbrev pub conditions_type : ℕ → Result Bool ℕ → Typed
+conditions_type offset known = and_then known (λ holds. type_if offset holds (Some Boolean))
+
+-- one more WHEN and its result
+abbrev pub and_arm : Result (Bool × Option TypeOf) ℕ → Typed → Typed → Result (Bool × Option TypeOf) ℕ
+and_arm known when result = and_then (both known (both when result)) (λ p. Ok (p.0.0 && fits Boolean p.1.0, common_with p.0.1 p.1.1))
+
+abbrev pub case_type : ℕ → Result (Bool × Option TypeOf) ℕ → Typed → Typed
+case_type offset known otherwise = and_then (both known otherwise) (λ p. result_type offset p.0.0 p.0.1 p.1)
+
+-- ---- expressions
+
+module _ (entries : List Entry) (reach : Reach) where
+  abbrev mutual
+    pub typed : ast.Expr → Typed
+    typed (ast.Column c) = Ok (found_type entries (find_column entries reach c))
+    typed (ast.Literal d) = Ok (type_of d)
+    typed ast.CurrentUser = Ok (Some Text)
+    typed (ast.Negate offset e) = and_then (typed e) (λ t. type_if offset (fits Bigint t) (Some Bigint))
+    typed (ast.Arithmetic op offset e f) = and_then (both (typed e) (typed f)) (λ p. type_if offset (fits Bigint p.0 && fits Bigint p.1) (Some Bigint))
+    typed (ast.Comparison op offset e f) = and_then (both (typed e) (typed f)) (λ p. truth_if_common offset (common p.0 p.1))
+    typed (ast.Between negated offset e low high) = between_type offset (typed e) (typed low) (typed high)
+    typed (ast.In negated offset values e) = and_then (typed e) (λ t. truth_if_common offset (common_of_all (Some t) values))
+    typed (ast.IsNull negated offset e) = and_then (typed e) (λ t. Ok (Some Boolean))
+    typed (ast.Not offset e) = and_then (typed e) (λ t. type_if offset (fits Boolean t) (Some Boolean))
+    typed (ast.And offset es) = conditions_type offset (typed_members (Ok true) es)
+    typed (ast.Or offset es) = conditions_type offset (typed_members (Ok true) es)
+    typed (ast.Cast offset to e) = and_then (typed e) (λ t. type_if offset (can_cast to t) (Some to))
+    typed (ast.Case offset as_ o) = case_type offset (typed_arms (Ok (true, Some None)) as_) (typed_otherwise o)
+    typed (ast.CountStar offset) = Ok (Some Bigint)
+    typed (ast.Call aggregate offset e) = and_then (typed e) (aggregate_type offset aggregate)
+
+    -- whether each member is a condition, after those before
+    pub typed_members : Result Bool ℕ → ast.Exprs → Result Bool ℕ
+    typed_members known ast.no_expr = known
+    typed_members known (ast.one_expr e es) = typed_members (and_condition known (typed e)) es
+
+    -- whether each WHEN is a condition, and the one type of the results, after those before
+    pub typed_arms : Result (Bool × Option TypeOf) ℕ → ast.Arms → Result (Bool × Option TypeOf) ℕ
+    typed_arms known ast.no_arm = known
+    typed_arms known (ast.one_arm when result as_) = typed_arms (and_arm known (typed when) (typed result)) as_
+
+    -- without ELSE it is NULL
+    pub typed_otherwise : ast.Otherwise → Typed
+    typed_otherwise ast.Nothing = Ok None
+    typed_otherwise (ast.Value e) = typed e
+
+  -- an expression that is to be a condition, and where it starts
+  abbrev pub typed_condition : ℕ → ast.Expr → Typed
+  typed_condition offset e = and_then (typed e) (λ t. type_if offset (fits Boolean t) t)

@@ -1,0 +1,293 @@
+//! The checks of a whole query, and of the condition of a policy.
+
+ghost use Rattle.std.specs.Prelude.{◌≡◌, ◌<◌, ◌+◌, None, false, map, option_map};
+ghost use Rattle.value.specs.Columns.{column_of};
+ghost use Rattle.row_ast.specs.View.{condition_of, expr_of, query_of, select_item_of, select_list_of};
+ghost use Rattle.scope.specs.Lookup.{everywhere as all_entries, on_reach as reach_of_on};
+ghost use Rattle.scope.specs.View.{entry_of};
+ghost use Rattle.typing.specs.Clauses as spec;
+
+use crate::grouping::{is_among, misplaced};
+use crate::offsets::least_of;
+use crate::types::{Typed, typed, typed_condition};
+use expr::ColumnId;
+use memory::Heap;
+use row_ast::{Condition, Expr, Query, SelectItem, SelectList};
+use scope::{Entry, NameFault, Reach, everywhere, on_reach};
+use value::{Column, Refusal};
+
+// ---- aggregates
+
+fn misplaced_items<A: Heap>(
+    entries: &[Entry<'_, A>],
+    group_by: &[ColumnId],
+    of_groups: bool,
+    items: &[SelectItem<A>],
+) -> Option<u32>
+    ensures { result ≡ spec.misplaced_items (map (λ e. entry_of e) entries.now) group_by.now of_groups None (map (λ i. select_item_of i) items.now) }
+{
+    let reach = everywhere(entries);
+    let mut known = None;
+    for item in items {
+        known = least_of(
+            known,
+            misplaced(entries, reach, group_by, of_groups, &item.value),
+        );
+    }
+    known
+}
+
+fn are_grouped<A: Heap>(group_by: &[ColumnId], entry: usize, columns: &[Column<A>]) -> bool
+    ensures { result ≡ spec.are_grouped group_by.now entry 0 (map (λ c. column_of c) columns.now) }
+{
+    for (column, _) in columns.iter().enumerate() {
+        if !is_among(ColumnId { entry, column }, group_by) {
+            return false;
+        }
+    }
+    true
+}
+
+fn every_grouped<A: Heap>(group_by: &[ColumnId], entries: &[Entry<'_, A>]) -> bool
+    ensures { result ≡ spec.every_grouped group_by.now 0 (map (λ e. entry_of e) entries.now) }
+{
+    for (number, entry) in entries.iter().enumerate() {
+        if !are_grouped(group_by, number, entry.table.columns()) {
+            return false;
+        }
+    }
+    true
+}
+
+fn misplaced_star(of_groups: bool, grouped: bool, offset: u32) -> Option<u32>
+    ensures { result ≡ spec.misplaced_star of_groups grouped offset }
+{
+    if !of_groups {
+        return None;
+    }
+    if grouped { None } else { Some(offset) }
+}
+
+fn misplaced_select<A: Heap>(
+    entries: &[Entry<'_, A>],
+    group_by: &[ColumnId],
+    of_groups: bool,
+    select: &SelectList<A>,
+) -> Option<u32>
+    ensures { result ≡ spec.misplaced_select (map (λ e. entry_of e) entries.now) group_by.now of_groups (select_list_of select.now) }
+{
+    match select {
+        SelectList::All { offset } => {
+            misplaced_star(of_groups, every_grouped(group_by, entries), *offset)
+        }
+        SelectList::Items(items) => {
+            misplaced_items(entries, group_by, of_groups, items.as_slice())
+        }
+    }
+}
+
+fn misplaced_condition<A: Heap>(
+    entries: &[Entry<'_, A>],
+    group_by: &[ColumnId],
+    of_groups: bool,
+    condition: &Option<Condition<A>>,
+) -> Option<u32>
+    ensures { result ≡ spec.misplaced_condition (map (λ e. entry_of e) entries.now) group_by.now of_groups (option_map condition_of condition.now) }
+{
+    match condition {
+        None => None,
+        Some(condition) => misplaced(
+            entries,
+            everywhere(entries),
+            group_by,
+            of_groups,
+            &condition.predicate,
+        ),
+    }
+}
+
+fn misplaced_on<A: Heap>(
+    entries: &[Entry<'_, A>],
+    group_by: &[ColumnId],
+    entry: &Entry<'_, A>,
+) -> Option<u32>
+    ensures { result ≡ spec.misplaced_condition (map (λ e. entry_of e) entries.now) group_by.now false (entry_of entry.now).on }
+{
+    match entry.on {
+        None => None,
+        Some(on) => misplaced(entries, everywhere(entries), group_by, false, &on.predicate),
+    }
+}
+
+fn misplaced_ons<A: Heap>(entries: &[Entry<'_, A>], group_by: &[ColumnId]) -> Option<u32>
+    ensures { result ≡ spec.misplaced_ons (map (λ e. entry_of e) entries.now) group_by.now None (map (λ e. entry_of e) entries.now) }
+{
+    let mut known = None;
+    for entry in entries {
+        known = least_of(known, misplaced_on(entries, group_by, entry));
+    }
+    known
+}
+
+/// Whether a query has GROUP BY, HAVING, or an aggregate in an item.
+pub fn is_grouped<A: Heap>(entries: &[Entry<'_, A>], query: &Query<A>) -> bool
+    ensures { result ≡ spec.is_grouped (map (λ e. entry_of e) entries.now) (query_of query.now) }
+{
+    if !query.group_by.as_slice().is_empty() {
+        return true;
+    }
+    if query.having.is_some() {
+        return true;
+    }
+    misplaced_select(entries, &[], false, &query.select).is_some()
+}
+
+fn misplaced_in<A: Heap>(
+    entries: &[Entry<'_, A>],
+    group_by: &[ColumnId],
+    query: &Query<A>,
+) -> Option<u32>
+    ensures { result ≡ spec.misplaced_in (map (λ e. entry_of e) entries.now) group_by.now (query_of query.now) }
+{
+    let grouped = is_grouped(entries, query);
+    let select = misplaced_select(entries, group_by, grouped, &query.select);
+    let ons = misplaced_ons(entries, group_by);
+    let filter = misplaced_condition(entries, group_by, false, &query.filter);
+    let having = misplaced_condition(entries, group_by, grouped, &query.having);
+    least_of(select, least_of(ons, least_of(filter, having)))
+}
+
+// ---- types
+
+fn mistyped(typed: Typed) -> Option<u32>
+    ensures { result ≡ spec.mistyped typed }
+{
+    match typed {
+        Ok(_) => None,
+        Err(offset) => Some(offset),
+    }
+}
+
+fn mistyped_items<A: Heap>(entries: &[Entry<'_, A>], items: &[SelectItem<A>]) -> Option<u32>
+    ensures { result ≡ spec.mistyped_items (map (λ e. entry_of e) entries.now) None (map (λ i. select_item_of i) items.now) }
+{
+    let reach = everywhere(entries);
+    let mut known = None;
+    for item in items {
+        known = least_of(known, mistyped(typed(entries, reach, &item.value)));
+    }
+    known
+}
+
+fn mistyped_select<A: Heap>(entries: &[Entry<'_, A>], select: &SelectList<A>) -> Option<u32>
+    ensures { result ≡ spec.mistyped_select (map (λ e. entry_of e) entries.now) (select_list_of select.now) }
+{
+    match select {
+        SelectList::All { .. } => None,
+        SelectList::Items(items) => mistyped_items(entries, items.as_slice()),
+    }
+}
+
+fn mistyped_condition<A: Heap>(
+    entries: &[Entry<'_, A>],
+    condition: &Option<Condition<A>>,
+) -> Option<u32>
+    ensures { result ≡ spec.mistyped_condition (map (λ e. entry_of e) entries.now) (all_entries (map (λ e. entry_of e) entries.now)) (option_map condition_of condition.now) }
+{
+    match condition {
+        None => None,
+        Some(condition) => mistyped(typed_condition(
+            entries,
+            everywhere(entries),
+            condition.offset,
+            &condition.predicate,
+        )),
+    }
+}
+
+fn mistyped_on<A: Heap>(
+    entries: &[Entry<'_, A>],
+    number: usize,
+    entry: &Entry<'_, A>,
+) -> Option<u32>
+    requires { number + 1 < 18446744073709551616 }
+    ensures { result ≡ spec.mistyped_condition (map (λ e. entry_of e) entries.now) (reach_of_on number (entry_of entry.now)) (entry_of entry.now).on }
+{
+    match entry.on {
+        None => None,
+        Some(on) => mistyped(typed_condition(
+            entries,
+            on_reach(number, entry),
+            on.offset,
+            &on.predicate,
+        )),
+    }
+}
+
+fn mistyped_ons<A: Heap>(entries: &[Entry<'_, A>]) -> Option<u32>
+    ensures { result ≡ spec.mistyped_ons (map (λ e. entry_of e) entries.now) 0 None (map (λ e. entry_of e) entries.now) }
+{
+    let mut known = None;
+    for (number, entry) in entries.iter().enumerate() {
+        known = least_of(known, mistyped_on(entries, number, entry));
+    }
+    known
+}
+
+fn mistyped_in<A: Heap>(entries: &[Entry<'_, A>], query: &Query<A>) -> Option<u32>
+    ensures { result ≡ spec.mistyped_in (map (λ e. entry_of e) entries.now) (query_of query.now) }
+{
+    let select = mistyped_select(entries, &query.select);
+    let ons = mistyped_ons(entries);
+    let filter = mistyped_condition(entries, &query.filter);
+    let having = mistyped_condition(entries, &query.having);
+    least_of(select, least_of(ons, least_of(filter, having)))
+}
+
+// ---- both checks
+
+fn first_fault(misplaced: Option<u32>, mistyped: Option<u32>) -> Option<NameFault>
+    ensures { result ≡ spec.first_fault misplaced mistyped }
+{
+    if let Some(offset) = misplaced {
+        return Some(NameFault {
+            code: Refusal::GroupingError,
+            offset,
+        });
+    }
+    match mistyped {
+        None => None,
+        Some(offset) => Some(NameFault {
+            code: Refusal::DatatypeMismatch,
+            offset,
+        }),
+    }
+}
+
+/// The fault of a query with the columns of its GROUP BY: the first aggregate or column where it may not be, or else the
+/// first value of the wrong type.
+pub fn clause_fault<A: Heap>(
+    entries: &[Entry<'_, A>],
+    group_by: &[ColumnId],
+    query: &Query<A>,
+) -> Option<NameFault>
+    ensures { result ≡ spec.clause_fault (map (λ e. entry_of e) entries.now) group_by.now (query_of query.now) }
+{
+    let misplaced = misplaced_in(entries, group_by, query);
+    first_fault(misplaced, mistyped_in(entries, query))
+}
+
+/// The fault of the condition of a policy, which starts at an offset: its first aggregate, or else the first value of the
+/// wrong type.
+pub fn condition_fault<A: Heap>(
+    entries: &[Entry<'_, A>],
+    offset: u32,
+    predicate: &Expr<A>,
+) -> Option<NameFault>
+    ensures { result ≡ spec.condition_fault (map (λ e. entry_of e) entries.now) offset (expr_of predicate.now) }
+{
+    let reach = everywhere(entries);
+    let aggregate = misplaced(entries, reach, &[], false, predicate);
+    let typed = typed_condition(entries, reach, offset, predicate);
+    first_fault(aggregate, mistyped(typed))
+}

@@ -1,0 +1,9 @@
+//! The checks of queries on aggregates and on types.
+#![tactic(auto)]
+
+mod clauses;
+mod grouping;
+mod offsets;
+mod types;
+
+pub use clauses::{clause_fault, condition_fault, is_grouped};

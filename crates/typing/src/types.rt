@@ -1,0 +1,362 @@
+//! The types of expressions.
+
+ghost use Rattle.std.specs.Prelude.{◌≡◌, Ok, Some, None, true, map, option_map, slice_get};
+ghost use Rattle.value.specs.Datum.{datum};
+ghost use Rattle.row_ast.specs.View.{expr_of, exprs};
+ghost use Rattle.row_ast.specs.View.{arms as arms_of};
+ghost use Rattle.scope.specs.View.{entry_of};
+ghost use Rattle.typing.specs.Typing as spec;
+
+use crate::offsets::both;
+use expr::ColumnId;
+use memory::Heap;
+use row_ast::{Arm, Expr};
+use scope::{Entry, NameFault, Reach, find_column};
+use value::{Aggregate, ColType, Value};
+
+/// A type, or none: that of NULL, which fits every type.
+pub type TypeOf = Option<ColType>;
+
+/// A type, or the least offset of what is of the wrong type.
+pub type Typed = Result<TypeOf, u32>;
+
+fn is_type(a: ColType, b: ColType) -> bool
+    ensures { result ≡ spec.is_type a b }
+{
+    match a {
+        ColType::Bigint => b == ColType::Bigint,
+        ColType::Text => b == ColType::Text,
+        ColType::Boolean => b == ColType::Boolean,
+    }
+}
+
+fn fits(to: ColType, from: TypeOf) -> bool
+    ensures { result ≡ spec.fits to from }
+{
+    match from {
+        None => true,
+        Some(from) => is_type(from, to),
+    }
+}
+
+// The one type that both fit, if there is one.
+fn common(a: TypeOf, b: TypeOf) -> Option<TypeOf>
+    ensures { result ≡ spec.common a b }
+{
+    let Some(x) = a else {
+        return Some(b);
+    };
+    let Some(y) = b else {
+        return Some(a);
+    };
+    if is_type(x, y) { Some(a) } else { None }
+}
+
+fn common_with(a: Option<TypeOf>, b: TypeOf) -> Option<TypeOf>
+    ensures { result ≡ spec.common_with a b }
+{
+    match a {
+        None => None,
+        Some(a) => common(a, b),
+    }
+}
+
+fn can_cast(to: ColType, from: TypeOf) -> bool
+    ensures { result ≡ spec.can_cast to from }
+{
+    let Some(from) = from else {
+        return true;
+    };
+    match to {
+        ColType::Bigint | ColType::Text => match from {
+            ColType::Bigint | ColType::Text => true,
+            ColType::Boolean => false,
+        },
+        ColType::Boolean => match from {
+            ColType::Bigint | ColType::Text => false,
+            ColType::Boolean => true,
+        },
+    }
+}
+
+// Whether min and max take the type.
+fn is_ordered(of: TypeOf) -> bool
+    ensures { result ≡ spec.is_ordered of }
+{
+    match of {
+        None | Some(ColType::Bigint) | Some(ColType::Text) => true,
+        Some(ColType::Boolean) => false,
+    }
+}
+
+fn type_of<A: Heap>(value: &Value<A>) -> TypeOf
+    ensures { result ≡ spec.type_of (datum value.now) }
+{
+    match value {
+        Value::Null => None,
+        Value::Int(_) => Some(ColType::Bigint),
+        Value::Text(_) => Some(ColType::Text),
+        Value::Bool(_) => Some(ColType::Boolean),
+    }
+}
+
+fn common_of_all<A: Heap>(first: TypeOf, values: &[Value<A>]) -> Option<TypeOf>
+    ensures { result ≡ spec.common_of_all (Some first) (map datum values.now) }
+{
+    let mut known = Some(first);
+    for value in values {
+        known = common_with(known, type_of(value));
+    }
+    known
+}
+
+fn type_at<A: Heap>(entry: &Entry<'_, A>, column: usize) -> TypeOf
+    ensures { result ≡ option_map (λ c. c.data_type) (slice_get (entry_of entry.now).table.columns column) }
+{
+    match entry.table.columns().get(column) {
+        None => None,
+        Some(column) => Some(column.data_type),
+    }
+}
+
+fn column_type<A: Heap>(entries: &[Entry<'_, A>], id: ColumnId) -> TypeOf
+    ensures { result ≡ spec.column_type (map (λ e. entry_of e) entries.now) id }
+{
+    match entries.get(id.entry) {
+        None => None,
+        Some(entry) => type_at(entry, id.column),
+    }
+}
+
+fn found_type<A: Heap>(entries: &[Entry<'_, A>], found: Result<ColumnId, NameFault>) -> TypeOf
+    ensures { result ≡ spec.found_type (map (λ e. entry_of e) entries.now) found }
+{
+    match found {
+        Ok(id) => column_type(entries, id),
+        Err(_) => None,
+    }
+}
+
+fn type_if(offset: u32, holds: bool, of: TypeOf) -> Typed
+    ensures { result ≡ spec.type_if offset holds of }
+{
+    if holds { Ok(of) } else { Err(offset) }
+}
+
+fn truth_if_common(offset: u32, common: Option<TypeOf>) -> Typed
+    ensures { result ≡ spec.truth_if_common offset common }
+{
+    match common {
+        None => Err(offset),
+        Some(_) => Ok(Some(ColType::Boolean)),
+    }
+}
+
+fn aggregate_type(offset: u32, aggregate: Aggregate, argument: TypeOf) -> Typed
+    ensures { result ≡ spec.aggregate_type offset aggregate argument }
+{
+    match aggregate {
+        Aggregate::Count => Ok(Some(ColType::Bigint)),
+        Aggregate::Sum => type_if(
+            offset,
+            fits(ColType::Bigint, argument),
+            Some(ColType::Bigint),
+        ),
+        Aggregate::Min => type_if(offset, is_ordered(argument), argument),
+        Aggregate::Max => type_if(offset, is_ordered(argument), argument),
+    }
+}
+
+fn common_type(a: Typed, b: Typed) -> Result<Option<TypeOf>, u32>
+    ensures { result ≡ spec.common_type a b }
+{
+    let (a, b) = both(a, b)?;
+    Ok(common(a, b))
+}
+
+fn between_type(offset: u32, a: Typed, b: Typed, c: Typed) -> Typed
+    ensures { result ≡ spec.between_type offset a b c }
+{
+    let (known, c) = both(common_type(a, b), c)?;
+    truth_if_common(offset, common_with(known, c))
+}
+
+fn and_condition(known: Result<bool, u32>, member: Typed) -> Result<bool, u32>
+    ensures { result ≡ spec.and_condition known member }
+{
+    let (holds, member) = both(known, member)?;
+    Ok(holds && fits(ColType::Boolean, member))
+}
+
+fn conditions_type(offset: u32, known: Result<bool, u32>) -> Typed
+    ensures { result ≡ spec.conditions_type offset known }
+{
+    let holds = known?;
+    type_if(offset, holds, Some(ColType::Boolean))
+}
+
+// Whether each WHEN is a condition, and the one type of the results; or the least offset of what is wrong.
+type Arms = Result<(bool, Option<TypeOf>), u32>;
+
+fn and_arm(known: Arms, when: Typed, then: Typed) -> Arms
+    ensures { result ≡ spec.and_arm known when then }
+{
+    let ((holds, common), (when, then)) = both(known, both(when, then))?;
+    Ok((
+        holds && fits(ColType::Boolean, when),
+        common_with(common, then),
+    ))
+}
+
+fn case_type(offset: u32, known: Arms, otherwise: Typed) -> Typed
+    ensures { result ≡ spec.case_type offset known otherwise }
+{
+    let ((holds, common), otherwise) = both(known, otherwise)?;
+    if !holds {
+        return Err(offset);
+    }
+    match common_with(common, otherwise) {
+        None => Err(offset),
+        Some(of) => Ok(of),
+    }
+}
+
+/// The type of an expression, or the least offset of an operation that is wrong although its operands are well typed.
+#[cycle(typed)]
+pub fn typed<A: Heap>(entries: &[Entry<'_, A>], reach: Reach, expression: &Expr<A>) -> Typed
+    ensures { result ≡ spec.typed (map (λ e. entry_of e) entries.now) reach (expr_of expression.now) }
+{
+    match expression {
+        Expr::Column(column) => Ok(found_type(entries, find_column(entries, reach, column))),
+        Expr::Literal(value) => Ok(type_of(value)),
+        Expr::CurrentUser => Ok(Some(ColType::Text)),
+        Expr::Negate { offset, operand } => {
+            let of = typed(entries, reach, operand)?;
+            type_if(*offset, fits(ColType::Bigint, of), Some(ColType::Bigint))
+        }
+        Expr::Arithmetic {
+            offset,
+            left,
+            right,
+            ..
+        } => {
+            let (a, b) = both(typed(entries, reach, left), typed(entries, reach, right))?;
+            let holds = fits(ColType::Bigint, a) && fits(ColType::Bigint, b);
+            type_if(*offset, holds, Some(ColType::Bigint))
+        }
+        Expr::Comparison {
+            offset,
+            left,
+            right,
+            ..
+        } => {
+            let (a, b) = both(typed(entries, reach, left), typed(entries, reach, right))?;
+            truth_if_common(*offset, common(a, b))
+        }
+        Expr::Between {
+            offset,
+            operand,
+            low,
+            high,
+            ..
+        } => {
+            let operand = typed(entries, reach, operand);
+            let low = typed(entries, reach, low);
+            let high = typed(entries, reach, high);
+            between_type(*offset, operand, low, high)
+        }
+        Expr::In {
+            offset,
+            values,
+            operand,
+            ..
+        } => {
+            let of = typed(entries, reach, operand)?;
+            truth_if_common(*offset, common_of_all(of, values.as_slice()))
+        }
+        Expr::IsNull { operand, .. } => {
+            let _of = typed(entries, reach, operand)?;
+            Ok(Some(ColType::Boolean))
+        }
+        Expr::Not { offset, operand } => {
+            let of = typed(entries, reach, operand)?;
+            type_if(*offset, fits(ColType::Boolean, of), Some(ColType::Boolean))
+        }
+        Expr::And { offset, members } => {
+            conditions_type(*offset, typed_members(entries, reach, members))
+        }
+        Expr::Or { offset, members } => {
+            conditions_type(*offset, typed_members(entries, reach, members))
+        }
+        Expr::Cast {
+            offset,
+            to,
+            operand,
+        } => {
+            let of = typed(entries, reach, operand)?;
+            type_if(*offset, can_cast(*to, of), Some(*to))
+        }
+        Expr::Case {
+            offset,
+            arms,
+            otherwise,
+        } => {
+            let known = typed_arms(entries, reach, arms);
+            match otherwise {
+                Some(value) => case_type(*offset, known, typed(entries, reach, value)),
+                None => case_type(*offset, known, Ok(None)),
+            }
+        }
+        Expr::CountStar { .. } => Ok(Some(ColType::Bigint)),
+        Expr::Call {
+            aggregate,
+            offset,
+            argument,
+        } => {
+            let of = typed(entries, reach, argument)?;
+            aggregate_type(*offset, *aggregate, of)
+        }
+    }
+}
+
+// Whether each member is a condition.
+#[cycle(typed)]
+fn typed_members<A: Heap>(
+    entries: &[Entry<'_, A>],
+    reach: Reach,
+    members: &[Expr<A>],
+) -> Result<bool, u32>
+    ensures { result ≡ spec.typed_members (map (λ e. entry_of e) entries.now) reach (Ok true) (exprs members.now) }
+{
+    let mut known = Ok(true);
+    for member in members {
+        known = and_condition(known, typed(entries, reach, member));
+    }
+    known
+}
+
+// The same of each WHEN, and the one type of the results.
+#[cycle(typed)]
+fn typed_arms<A: Heap>(entries: &[Entry<'_, A>], reach: Reach, arms: &[Arm<A>]) -> Arms
+    ensures { result ≡ spec.typed_arms (map (λ e. entry_of e) entries.now) reach (Ok (true, Some None)) (arms_of arms.now) }
+{
+    let mut known = Ok((true, Some(None)));
+    for arm in arms {
+        let when = typed(entries, reach, &arm.when);
+        known = and_arm(known, when, typed(entries, reach, &arm.result));
+    }
+    known
+}
+
+/// The type of an expression that is to be a condition and starts at an offset.
+pub fn typed_condition<A: Heap>(
+    entries: &[Entry<'_, A>],
+    reach: Reach,
+    offset: u32,
+    expression: &Expr<A>,
+) -> Typed
+    ensures { result ≡ spec.typed_condition (map (λ e. entry_of e) entries.now) reach offset (expr_of expression.now) }
+{
+    let of = typed(entries, reach, expression)?;
+    type_if(offset, fits(ColType::Boolean, of), of)
+}
