@@ -1,5 +1,5 @@
 -- How a walk over the members of an expression continues.
-use Rattle.std.proofs.Common.{◌≡◌, ℕ, suc, ◌+◌, ◌<◌, ◌≤◌, List, [], ◌++◌, append_assoc, append-nil, length, get_or, drop, drop-cons, Option, Some, None, Vec, Box, refl, sym, ap, ◌∙◌, arith}
+use Rattle.std.proofs.Common.{◌≡◌, Bool, true, false, ◌&&◌, ℕ, suc, ◌+◌, ◌<◌, ◌≤◌, List, [], ◌++◌, append_assoc, append-nil, length, get_or, drop, drop-cons, Option, Some, None, Vec, Box, refl, sym, ap, ◌∙◌, arith}
 use Rattle.std.proofs.Math.ListN.{drop_of_length-le}
 use Rattle.expr.specs.declared.bound.ColumnId.{ColumnId}
 use Rattle.expr.specs.Bound as bound
@@ -11,6 +11,11 @@ use Rattle.expr.specs.Columns.{columns, all_columns, arms_columns}
 use Rattle.expr.specs.Weights.{weight, all_weight, arms_weight}
 
 -- ---- what a node with members is
+
+-- ELSE, if it is there
+abbrev pub otherwise_of : {A : Type 0} → Option (Box (BoundExpr A) A) → bound.BoundOtherwise
+otherwise_of None = bound.Nothing
+otherwise_of (Some b) = bound.Value (bound_expr_of b.value)
 
 module _ {A : Type 0} (e : BoundExpr A) (offset : ℕ) where
   module _ (v : Vec (BoundExpr A) A) (es : List (BoundExpr A)) (d : es ≡ v.items) where
@@ -26,6 +31,13 @@ module _ {A : Type 0} (e : BoundExpr A) (offset : ℕ) where
 
     pub case_some : (b : Box (BoundExpr A) A) → o ≡ Some b → bound_expr_of e ≡ bound.Case offset (bound_arms as_) (bound.Value (bound_expr_of b.value))
     case_some b n = ap bound_expr_of is ∙ ap (λ p. bound_expr_of (Case offset v p)) n ∙ ap (λ x. bound.Case offset x (bound.Value (bound_expr_of b.value))) (bound_arms_hidden v) ∙ ap (λ xs. bound.Case offset (bound_arms xs) (bound.Value (bound_expr_of b.value))) (sym d)
+
+    pub case_is : bound_expr_of e ≡ bound.Case offset (bound_arms as_) (otherwise_of o)
+    case_is = go o refl
+      where
+        go : (p : Option (Box (BoundExpr A) A)) → o ≡ p → bound_expr_of e ≡ bound.Case offset (bound_arms as_) (otherwise_of o)
+        go None q = case_none q ∙ ap (λ p. bound.Case offset (bound_arms as_) (otherwise_of p)) (sym q)
+        go (Some b) q = case_some b q ∙ ap (λ p. bound.Case offset (bound_arms as_) (otherwise_of p)) (sym q)
 
     pub case_lighter : arms_weight (bound_arms as_) < weight (bound_expr_of e)
     case_lighter = go o refl
@@ -97,3 +109,10 @@ case_columns_none e offset as_ known new is n = rw is (n ∙ ap (λ l. known ++ 
 pub case_columns_some : (e o : bound.BoundExpr) (offset : ℕ) (as_ : bound.BoundArms) (known mid new : List ColumnId) → e ≡ bound.Case offset as_ (bound.Value o) → mid ≡ known ++ arms_columns as_ → new ≡ mid ++ columns o
     → new ≡ known ++ columns e
 case_columns_some e o offset as_ known mid new is m n = rw (is, n, m) (append_assoc known (arms_columns as_) (columns o))
+
+-- ---- the arms that are left, after a movable one
+
+pub both_true : (when result rest all : Bool) → true ≡ when → true ≡ result → all ≡ (when && result) && rest → rest ≡ all
+both_true true true rest all p q e = sym e
+both_true true false rest all p q e = cc
+both_true false result rest all p q e = cc

@@ -3,3 +3,4 @@ pub mod View
 pub mod Weights
 pub mod Columns
 pub mod Movable
+pub mod Code

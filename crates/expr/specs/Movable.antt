@@ -1,5 +1,5 @@
 -- The expressions that never fault: those without arithmetic, casts and aggregates.
-use Rattle.std.specs.Prelude.{Bool, true, false, ◌&&◌}
+use Rattle.std.specs.Prelude.{Bool, true, false, ◌&&◌, Option, Some, None, if◌then◌else◌}
 use Rattle.expr.specs.Bound.{BoundExpr, Column, Literal, CurrentUser, Negate, Arithmetic, Comparison, Between, In, IsNull, Not, And, Or, Cast, Case, CountStar, Call, BoundExprs, no_expr, one_expr, BoundArms, no_arm, one_arm, BoundOtherwise, Nothing, Value}
 
 abbrev mutual
@@ -32,3 +32,6 @@ abbrev mutual
   pub otherwise_movable : BoundOtherwise → Bool
   otherwise_movable Nothing = true
   otherwise_movable (Value e) = movable e
+
+abbrev pub if_movable : BoundExpr → Option BoundExpr
+if_movable e = if movable e then Some e else None

@@ -1,8 +1,12 @@
-//! Expressions whose columns are found, and the columns that they name.
+//! Expressions whose columns are found, the columns that they name, and those that never fault.
 #![tactic(auto)]
 
 mod bound;
 mod columns;
+mod movable;
+mod movable_expr;
 
 pub use bound::{BoundArm, BoundExpr, ColumnId};
 pub use columns::push_columns;
+pub use movable::is_movable;
+pub use movable_expr::MovableExpr;

@@ -8,5 +8,3 @@ pub mod Grants
 pub mod Policies
 pub mod Indexes
 pub mod View
-pub mod Equations
-pub mod EquationView

@@ -1,12 +1,15 @@
 -- The things of a catalogue without their place in memory.
 use Rattle.std.specs.Prelude.{ℕ, Bool, List, Option}
-use Rattle.value.specs.Datum.{Datum}
 use Rattle.value.specs.Columns.{Column}
 use Rattle.row_ast.specs.Ast.{Name}
+use Rattle.expr.specs.Bound.{BoundExpr}
 
--- the most roles of a catalogue
+-- the most roles of a catalogue, and the most policies of all its tables
 abbrev pub most_roles : ℕ
 most_roles = 256
+
+abbrev pub most_policies : ℕ
+most_policies = 256
 
 pub record Role : Type 0 where
   pub name : Name
@@ -24,17 +27,12 @@ pub record Grant : Type 0 where
   pub to : Name
   pub column : Option Name
 
--- what a policy compares its column with: the name of the role that asks, or a value
-pub data Operand : Type 0 where
-  CurrentUser : Operand
-  Literal : Datum → Operand
-
--- a permissive policy for these roles: the column at a place equals the operand
+-- a policy for these roles, with its condition over the table's own columns
 pub record Policy : Type 0 where
   pub name : Name
+  pub restrictive : Bool
   pub roles : List Name
-  pub column : ℕ
-  pub operand : Operand
+  pub predicate : BoundExpr
 
 -- an index on the column at a place
 pub record Index : Type 0 where

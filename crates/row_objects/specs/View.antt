@@ -1,18 +1,15 @@
 -- What the things of the program's catalogue are.
 use Rattle.std.specs.Prelude.{map}
-use Rattle.value.specs.Datum.{datum}
 use Rattle.value.specs.Columns.{column_of}
 use Rattle.row_ast.specs.Ast.{Name}
 use Rattle.row_objects.specs.declared.objects.Role as declared
 use Rattle.row_objects.specs.declared.objects.Membership as declared_membership
 use Rattle.row_objects.specs.declared.objects.Grant as declared_grant
-use Rattle.row_objects.specs.declared.objects.Operand as declared_operand
-use Rattle.row_objects.specs.declared.objects.Operand.TheVariants as operand
 use Rattle.row_objects.specs.declared.objects.Policy as declared_policy
 use Rattle.row_objects.specs.declared.objects.Index as declared_index
 use Rattle.row_objects.specs.declared.objects.TableDef.{TableDef}
 use Rattle.row_objects.specs.declared.objects.Table as declared_table
-use Rattle.row_objects.specs.Objects.{Role, Membership, Grant, Operand, CurrentUser, Literal, Policy, Index, Table}
+use Rattle.row_objects.specs.Objects.{Role, Membership, Grant, Policy, Index, Table}
 
 -- a role by its name
 abbrev pub role_of : Name × declared.Role → Role
@@ -24,12 +21,8 @@ membership_of m = record { member = m.member; group = m.group }
 abbrev pub grant_of : {A : Type 0} → declared_grant.Grant A → Grant
 grant_of g = record { to = g.to; column = g.column }
 
-abbrev pub operand_of : {A : Type 0} → declared_operand.Operand A → Operand
-operand_of operand.CurrentUser = CurrentUser
-operand_of (operand.Literal value) = Literal (datum value)
-
 abbrev pub policy_of : {A : Type 0} → declared_policy.Policy A → Policy
-policy_of p = record { name = p.name; roles = p.roles; column = p.column; operand = operand_of p.operand }
+policy_of p = record { name = p.name; restrictive = p.restrictive; roles = p.roles; predicate = p.predicate }
 
 abbrev pub index_of : {A : Type 0} → declared_index.Index A → Index
 index_of i = record { name = i.name; column = i.column }

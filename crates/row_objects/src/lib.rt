@@ -3,7 +3,6 @@
 
 mod by_name;
 mod copies;
-mod equations;
 mod grants;
 mod indexes;
 mod memberships;
@@ -12,12 +11,11 @@ mod objects;
 mod policies;
 
 pub use by_name::ByName;
-pub use equations::{Equation, OperandRef, equation_in, new_policy, operand_fits};
 pub use grants::{add_grants, remove_grants};
 pub use indexes::{any_index, is_indexed, new_index};
 pub use memberships::{
     MOST_ROLES, add_membership, belongs_by, law_belongs_by_paths, law_no_loop, remove_membership,
 };
 pub use names::{are_columns, column_named, has_name_twice, is_qualified, place};
-pub use objects::{Grant, Index, Membership, Operand, Policy, Role, Table, TableDef};
-pub use policies::{has_policy, remove_policy};
+pub use objects::{Grant, Index, Membership, Policy, Role, Table, TableDef};
+pub use policies::{MOST_POLICIES, has_policy, has_policy_room, new_policy, remove_policy};

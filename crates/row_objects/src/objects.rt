@@ -4,9 +4,10 @@ ghost use Rattle.std.specs.Prelude.{◌≡◌, map};
 ghost use Rattle.value.specs.Columns.{column_of};
 ghost use Rattle.row_objects.specs.View.{grant_of, index_of, policy_of, table_entry, table_of};
 
+use expr::MovableExpr;
 use memory::Heap;
 use text::{Items, Text};
-use value::{Column, Value};
+use value::Column;
 
 /// A role, whose name is its key (PostgreSQL: Database Roles).
 #[derive(Drop)]
@@ -35,26 +36,17 @@ pub struct Grant<A: Heap> {
     pub column: Option<Text<A>>,
 }
 
-/// What a policy compares its column with.
-#[derive(Drop)]
-pub enum Operand<A: Heap> {
-    /// The name of the role that asks.
-    CurrentUser,
-    /// A value.
-    Literal(Value<A>),
-}
-
-/// A permissive policy for some roles: the column at a place equals the operand (PostgreSQL: CREATE POLICY).
+/// A policy for some roles (PostgreSQL: CREATE POLICY).
 #[derive(Drop)]
 pub struct Policy<A: Heap> {
     /// Its name.
     pub name: Text<A>,
+    /// Whether it is restrictive.
+    pub restrictive: bool,
     /// The roles to which it applies, `public` for all.
     pub roles: Items<Text<A>, A>,
-    /// The place of its column in the table, from 0.
-    pub column: usize,
-    /// What the column is compared with.
-    pub operand: Operand<A>,
+    /// The condition of USING, over the table's own columns.
+    pub predicate: MovableExpr<A>,
 }
 
 /// An index on a column (PostgreSQL: CREATE INDEX).

@@ -1,13 +1,41 @@
-//! The policies of a table, each under a name of its own.
+//! The policies of a table, each under a name of its own, and of all tables.
 
-ghost use Rattle.std.specs.Prelude.{◌≡◌, map};
-ghost use Rattle.row_objects.specs.Policies.{has_policy, without_policy};
-ghost use Rattle.row_objects.specs.View.{policy_of};
+ghost use Rattle.std.specs.Prelude.{◌≡◌, IfOk, map};
+ghost use Rattle.row_ast.specs.View.{create_policy_of};
+ghost use Rattle.row_objects.specs.Policies as spec;
+ghost use Rattle.row_objects.specs.Policies.{has_policy, has_policy_room, without_policy};
+ghost use Rattle.row_objects.specs.View.{policy_of, table_entry};
 
-use crate::objects::Policy;
+use crate::by_name::ByName;
+use crate::copies::copy_names;
+use crate::objects::{Policy, TableDef};
+use expr::MovableExpr;
 use memory::Heap;
+use row_ast::CreatePolicy;
+use std::alloc::AllocError;
 use std::mem::replace;
-use text::Items;
+use text::{Items, Text};
+
+/// The most policies of all tables of a catalogue.
+pub const MOST_POLICIES: usize = 256;
+
+/// The policy of a statement, with its bound condition.
+pub fn new_policy<A: Heap>(
+    alloc: A,
+    policy: &CreatePolicy<A>,
+    predicate: MovableExpr<A>,
+) -> Result<Policy<A>, AllocError>
+    ensures { IfOk result (λ p. policy_of p ≡ spec.new_policy (create_policy_of policy.now) predicate) }
+{
+    let name = Text::new(alloc, policy.name.as_str())?;
+    let roles = copy_names(alloc, policy.roles.as_slice())?;
+    Ok(Policy {
+        name,
+        restrictive: policy.restrictive,
+        roles,
+        predicate,
+    })
+}
 
 /// Whether there is a policy of that name.
 pub fn has_policy<A: Heap>(policies: &[Policy<A>], name: &str) -> bool
@@ -34,4 +62,19 @@ pub fn remove_policy<A: Heap>(alloc: A, policies: &mut Items<Policy<A>, A>, name
     let mut list = replace(policies, Items::new(alloc)).into_vec();
     keep_others(&mut list, name);
     *policies = Items::from(list);
+}
+
+/// Whether all tables have fewer policies than they may have.
+pub fn has_policy_room<A: Heap>(tables: &ByName<TableDef<A>, A>) -> bool
+    ensures { result ≡ has_policy_room (map (λ t. table_entry t) tables.now) }
+{
+    let mut room = MOST_POLICIES;
+    for place in 0..tables.len() {
+        let count = tables.at(place).policies.len();
+        if count >= room {
+            return false;
+        }
+        room -= count;
+    }
+    true
 }

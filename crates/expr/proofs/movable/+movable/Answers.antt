@@ -1,0 +1,39 @@
+use Rattle.std.proofs.Common.{◌∙◌, ap, arith, rules}
+use Rattle.expr.specs.Weights.{weight}
+use Rattle.std.proofs.lemmas.Grind.{common_steps}
+use Rattle.expr.specs.Movable.{movable, arms_movable}
+use Rattle.expr.proofs.Walks.{and_is, or_is, case_is, case_none, case_some, case_lighter, arms_step, arms_still, both_true}
+use Rattle.expr.proofs.movable.+movable.Goals as goal
+
+pub is_movable-are_movable-requires : goal.is_movable-are_movable-requires
+is_movable-are_movable-requires g t c κs within = let w = ap weight (and_is c.args.expression.now c.in-And.offset c.in-And.members c.deref-in-And.result.now c.deref-in-And.ensures.value c.in-And.is) in search rules
+
+pub is_movable-are_movable-requires-in-Or : goal.is_movable-are_movable-requires-in-Or
+is_movable-are_movable-requires-in-Or g t c κs within = let w = ap weight (or_is c.args.expression.now c.in-Or.offset c.in-Or.members c.deref-in-Or.result.now c.deref-in-Or.ensures.value c.in-Or.is) in search rules
+
+pub is_movable-are_arms_movable-requires : goal.is_movable-are_arms_movable-requires
+is_movable-are_arms_movable-requires g t c κs within = let h = case_lighter c.args.expression.now c.in-Case.offset c.in-Case.arms c.deref-in-Case.result.now c.deref-in-Case.ensures.value c.in-Case.otherwise c.in-Case.is in search rules
+
+pub is_movable-returns-in-And : goal.is_movable-returns-in-And
+is_movable-returns-in-And g t c = rw (and_is c.args.expression.now c.in-And.offset c.in-And.members c.deref-in-And.result.now c.deref-in-And.ensures.value c.in-And.is) c.are_movable.ensures
+
+pub is_movable-returns-in-Or : goal.is_movable-returns-in-Or
+is_movable-returns-in-Or g t c = rw (or_is c.args.expression.now c.in-Or.offset c.in-Or.members c.deref-in-Or.result.now c.deref-in-Or.ensures.value c.in-Or.is) c.are_movable-in-Or.ensures
+
+pub is_movable-returns-then-not-are_arms_movable : goal.is_movable-returns-then-not-are_arms_movable
+is_movable-returns-then-not-are_arms_movable g t c =
+    let h = ap movable (case_is c.args.expression.now c.in-Case.offset c.in-Case.arms c.deref-in-Case.result.now c.deref-in-Case.ensures.value c.in-Case.otherwise c.in-Case.is) in grind (arith, common_steps)
+
+pub is_movable-returns-in-Some : goal.is_movable-returns-in-Some
+is_movable-returns-in-Some g t c =
+    let h = ap movable (case_some c.args.expression.now c.in-Case.offset c.in-Case.arms c.deref-in-Case.result.now c.deref-in-Case.ensures.value c.in-Case.otherwise c.in-Case.is c.in-Some.value c.in-Some.is) in search rules
+
+pub is_movable-returns-in-None : goal.is_movable-returns-in-None
+is_movable-returns-in-None g t c =
+    let h = ap movable (case_none c.args.expression.now c.in-Case.offset c.in-Case.arms c.deref-in-Case.result.now c.deref-in-Case.ensures.value c.in-Case.otherwise c.in-Case.is c.in-None.is) in search rules
+
+pub are_arms_movable-loop-arm-preserved : goal.are_arms_movable-loop-arm-preserved
+are_arms_movable-loop-arm-preserved g t c = record {
+  rest = both_true _ _ _ _ c.if-not-is_movable.ensures c.if-not-is_movable-2.ensures (ap arms_movable (arms_step c.args.arms.now c.loop-arm.arm-index c.arm-item.result c.loop-arm-test.true c.arm-item.is)) ∙ c.loop-arm.invariant.rest;
+  lighter = arms_still c.args.arms.now c.loop-arm.arm-index c.arm-item.result c.loop-arm-test.true c.arm-item.is c.loop-arm.invariant.lighter;
+}

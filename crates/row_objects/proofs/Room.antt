@@ -1,0 +1,49 @@
+-- How many policies the tables that are left have.
+use Rattle.std.proofs.Common.{◌≡◌, ℕ, zero, suc, ◌+◌, ◌-◌, ◌<◌, ◌≤◌, true, false, List, [], ◌∷◌, length, drop, map, slice_get, Option, Some, None, refl, ap, ◌∙◌, arith}
+use Rattle.std.proofs.Math.ListN.{drop_of_length-le}
+use Rattle.std.proofs.lemmas.Bool.Decides.{nat_tests}
+use Rattle.row_ast.specs.Ast.{Name}
+use Rattle.row_objects.specs.Objects.{most_policies}
+use Rattle.row_objects.specs.Policies.{policy_count, has_policy_room}
+use Rattle.row_objects.specs.View.{policy_of, table_entry}
+use Rattle.row_objects.specs.declared.objects.TableDef.{TableDef}
+
+some_value : {V : Type 0} (x y : V) → ◌≡◌ {A = Option V} (Some x) (Some y) → x ≡ y
+some_value x y e = cc
+
+none_is_not : {V : Type 0} (x : V) → ◌≡◌ {A = Option V} None (Some x) → ⊥
+none_is_not x e = cc
+
+length_map : {X Y : Type 0} (f : X → Y) (xs : List X) → length (map f xs) ≡ length xs
+length_map f [] = refl
+length_map f (x ∷ xs) = ap suc (length_map f xs)
+
+module _ {A : Type 0} where
+  -- the policies of the table at a place, and of those after it
+  count_next : (es : List (Name × TableDef A)) (i : ℕ) (v : TableDef A) → slice_get (map (λ e. e.1) es) i ≡ Some v
+      → policy_count (map table_entry (drop i es)) ≡ length v.policies + policy_count (map table_entry (drop (i + 1) es))
+  count_next [] i v h = absurd (none_is_not v h)
+  count_next (e ∷ es) zero v h = ap (λ n. n + policy_count (map table_entry es)) (length_map policy_of e.1.policies ∙ ap (λ t. length t.policies) (some_value e.1 v h))
+  count_next (e ∷ es) (suc i) v h =
+      let more : suc (i + 1) ≡ suc i + 1 = omega arith in
+      count_next es i v h ∙ ap (λ n. length v.policies + policy_count (map table_entry (drop n (e ∷ es)))) more
+
+  none_left : (es : List (Name × TableDef A)) (i : ℕ) → length es ≤ i → policy_count (map table_entry (drop i es)) ≡ 0
+  none_left es i l = let e : drop i es ≡ [] = drop_of_length-le es l in ap (λ ts. policy_count (map table_entry ts)) e
+
+  -- room is left of the tables before a place
+  abbrev pub IsRoom : List (Name × TableDef A) → ℕ → ℕ → Type 0
+  IsRoom es i room = (0 < room) × (room + policy_count (map table_entry es) ≡ most_policies + policy_count (map table_entry (drop i es)))
+
+  module _ (es : List (Name × TableDef A)) (i room : ℕ) (is : IsRoom es i room) where
+    pub room_goes_on : (v : TableDef A) (n : ℕ) → slice_get (map (λ e. e.1) es) i ≡ Some v → n ≡ length v.policies → n < room → IsRoom es (i + 1) (room - n)
+    room_goes_on v n at count less = let s = count_next es i v at in let r = is.1 in (omega arith, omega arith)
+
+    pub no_room : (v : TableDef A) (n : ℕ) → slice_get (map (λ e. e.1) es) i ≡ Some v → n ≡ length v.policies → room ≤ n → false ≡ has_policy_room (map table_entry es)
+    no_room v n at count full = let s = count_next es i v at in let r = is.1 in let h : most_policies ≤ policy_count (map table_entry es) = omega arith in grind (arith, nat_tests)
+
+    pub room_over : length es ≤ i → true ≡ has_policy_room (map table_entry es)
+    room_over over = let s = none_left es i over in let r = is.1 in let p = is.0 in let h : policy_count (map table_entry es) < most_policies = omega arith in grind (arith, nat_tests)
+
+  pub room_first : (es : List (Name × TableDef A)) → IsRoom es 0 most_policies
+  room_first es = (omega arith, refl)
