@@ -17,8 +17,8 @@ use Rattle.access.specs.Access.{is_above, permits, restricts, sees}
 use Rattle.access.specs.Guards.{Guard, All, Expr, guard, guard_by, predicates, shows}
 use Rattle.access.specs.Guards as spec
 use Rattle.access.specs.View.{guard_of}
-use Rattle.access.specs.declared.guards.Guard as declared
-use Rattle.access.proofs.Shown.{shown}
+use Rattle.access.specs.declared.shown.Guard as declared
+use Rattle.access.proofs.Decided.{shown}
 
 -- ---- one policy after another
 

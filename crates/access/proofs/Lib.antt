@@ -1,3 +1,3 @@
 pub mod Passed
-pub mod Shown
+pub mod Decided
 pub mod Chosen

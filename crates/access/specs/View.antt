@@ -4,8 +4,8 @@ use Rattle.row_objects.specs.View.{table_of}
 use Rattle.access.specs.Access.{RequiredPrivilege}
 use Rattle.access.specs.Guards.{Guard, All, None, Expr}
 use Rattle.access.specs.declared.privileges.RequiredPrivilege as declared
-use Rattle.access.specs.declared.guards.Guard as declared_guard
-use Rattle.access.specs.declared.guards.Guard.TheVariants as code
+use Rattle.access.specs.declared.shown.Guard as declared_guard
+use Rattle.access.specs.declared.shown.Guard.TheVariants as code
 
 abbrev pub privilege_of : {A : Type 0} → declared.RequiredPrivilege A → RequiredPrivilege
 privilege_of p = record { table = table_of p.table; column = option_map (λ c. c.now) p.column }

@@ -14,26 +14,14 @@ ghost use Rattle.access.specs.Guards.{predicates};
 ghost use Rattle.access.specs.View.{guard_of};
 
 use crate::privileges::any_includes_role;
-use crate::rows::TableRow;
+use crate::shown::Guard;
 use catalog::Catalog;
-use eval::is_true_on;
 use expr::{BoundExpr, MovableExpr, copy_expr};
 use memory::{Heap, boxed};
 use row_objects::{Policy, Table};
 use scope::Entry;
 use std::alloc::AllocError;
 use text::Items;
-
-/// Which rows of a table a role sees.
-#[derive(Drop)]
-pub enum Guard<A: Heap> {
-    /// Every row.
-    All,
-    /// No row.
-    None,
-    /// The rows on which the expression is true.
-    Expr(MovableExpr<A>),
-}
 
 type Predicates<A> = Result<Vec<BoundExpr<A>, A>, AllocError>;
 
@@ -189,7 +177,7 @@ fn is_above<A: Heap>(catalog: &Catalog<A>, role: &str, table: Table<'_, A>) -> b
 }
 
 /// The guard of a table for a role.
-pub fn table_guard<A: Heap>(
+pub fn guard<A: Heap>(
     alloc: A,
     catalog: &Catalog<A>,
     role: &str,
@@ -205,17 +193,6 @@ pub fn table_guard<A: Heap>(
     }
 }
 
-/// Whether the guard lets the role see a row. It takes no memory.
-pub fn shows<A: Heap>(alloc: A, guard: &Guard<A>, role: &str, row: &TableRow<'_, A>) -> bool
-    ensures { result ≡ spec.shows role.now (guard_of guard.now) row.now }
-{
-    match guard {
-        Guard::All => true,
-        Guard::None => false,
-        Guard::Expr(predicate) => is_true_on(alloc, predicate.expression(), row, role),
-    }
-}
-
 /// The guard of each entry, in order.
 pub fn frame<'s, A: Heap>(
     alloc: A,
@@ -227,7 +204,7 @@ pub fn frame<'s, A: Heap>(
 {
     let mut guards = Items::new(alloc);
     for entry in entries {
-        match table_guard(alloc, catalog, role, entry.table) {
+        match guard(alloc, catalog, role, entry.table) {
             Ok(guard) => guards.push(guard)?,
             Err(error) => return Err(error),
         }

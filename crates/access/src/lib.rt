@@ -5,8 +5,10 @@ mod guards;
 mod laws;
 mod privileges;
 mod rows;
+mod shown;
 
-pub use guards::{Guard, frame, shows, table_guard};
+pub use guards::{frame, guard};
 pub use laws::law_guard;
 pub use privileges::{RequiredPrivilege, denied, is_granted};
 pub use rows::TableRow;
+pub use shown::{Guard, shows};

@@ -1,4 +1,4 @@
-use Rattle.access.proofs.Shown.{guard_shows, all_is_above, none_is_unpermitted}
+use Rattle.access.proofs.Decided.{guard_shows, all_is_above, none_is_unpermitted}
 use Rattle.access.proofs.laws.law_guard.Goals as goal
 
 pub returns : goal.returns

@@ -1,7 +1,7 @@
 use Rattle.std.proofs.Common.{map}
 use Rattle.row_objects.specs.View.{policy_of, table_of}
 use Rattle.access.proofs.Chosen.{by_policies, shown_of}
-use Rattle.access.proofs.guards.table_guard.Goals as goal
+use Rattle.access.proofs.guards.guard.Goals as goal
 
 pub returns-else-is_above-clause-value : goal.returns-else-is_above-clause-value
 returns-else-is_above-clause-value g c =
