@@ -1,3 +1,4 @@
+pub mod Steps
 pub mod HiddenRows
 pub mod Places
 pub mod Loads

@@ -1,21 +1,21 @@
 //! Asking.
 
-ghost use Rattle.std.specs.Prelude.{◌≡◌, IfOk, Ok, None, Some, map, option_map};
+ghost use Rattle.std.specs.Prelude.{◌≡◌, IfOk, Ok, None, Some, map, filter, option_map, slice_get, true};
 ghost use Rattle.bags.specs.Sorting.{sorted_by};
 ghost use Rattle.value.specs.Datum.{row_of};
 ghost use Rattle.value.specs.Orders.{row_cmp};
 ghost use Rattle.row_ast.specs.View.{query_of};
-ghost use Rattle.row_objects.specs.View.{table_of};
 ghost use Rattle.syntax.specs.Parsing.{parsed_query};
-ghost use Rattle.access.specs.Access.{visible};
+ghost use Rattle.scope.specs.View.{bound_item_of, bound_query_of, entry_of};
 ghost use Rattle.access.specs.View.{privilege_of};
-ghost use Rattle.resolve.specs.NeededView.{names_of};
+ghost use Rattle.resolve.specs.Served.{are_served_parts};
 ghost use Rattle.resolve.specs.View.{bound_of};
 ghost use Rattle.report.specs.Reply as reply;
 ghost use Rattle.value.specs.declared.refusal.Refusal.TheVariants as codes;
 ghost use Rattle.report.specs.View.{reply_of};
 ghost use Rattle.engine.specs.Database.{rows_of};
-ghost use Rattle.engine.specs.Answer.{reply_to, parsed_reply, query_reply, named_reply, served_reply, denied_reply, rows_reply, fault_reply, items_of};
+ghost use Rattle.engine.specs.Answer as spec;
+ghost use Rattle.engine.specs.Answer.{reply_to, parsed_reply, query_reply, resolved_reply, served_reply, denied_reply, first_reply, rows_reply, fault_reply};
 ghost use Rattle.engine.specs.Serving.{IsReply};
 
 use crate::answer::answer_rows;
@@ -23,45 +23,55 @@ use crate::store::{Store, contents_of};
 use access::{RequiredPrivilege, denied};
 use memory::{Failure, Heap};
 use report::Reply;
-use resolve::{Bound, Names, bind, found_names, is_served, needed};
+use resolve::{Bound, bind, is_served, needed};
 use row_ast::Query;
-use row_objects::Table;
+use scope::{BoundItem, BoundQuery, Entry};
 use std::alloc::AllocError;
 use syntax::{ParseError, parse_query};
 use text::{Items, Text};
 use value::{Refusal, Value};
 
-// The items of the rows of a table that the role sees, in order.
+// The items of the rows of an entry that the role sees and that pass WHERE, in order.
 fn rows_seen<A: Heap>(
     alloc: A,
     store: &Store<A>,
     role: &str,
-    table: Table<'_, A>,
-    places: &[usize],
+    query: &BoundQuery<A>,
+    entry: &Entry<'_, A>,
 ) -> Result<Items<Items<Value<A>, A>, A>, AllocError>
-    ensures { IfOk result (λ rows. map (λ r. row_of r) rows ≡
-        sorted_by row_cmp (map (items_of places.now) (visible store.now.catalog role.now (table_of table.entry) (rows_of store.now (table_of table.entry).name)))) }
+    requires { are_served_parts (bound_query_of query.now) ≡ true }
+    ensures { IfOk result (λ rows. map (λ r. row_of r) rows ≡ spec.answer store.now.catalog (rows_of store.now) role.now (bound_query_of query.now) (entry_of entry.now)) }
 {
-    match contents_of(&store.tables, table.name()) {
-        Some(rows) => answer_rows(alloc, &store.catalog, role, table, rows, places),
+    match contents_of(&store.tables, entry.table.name()) {
+        Some(rows) => answer_rows(alloc, &store.catalog, role, entry, query, rows),
         None => Ok(Items::new(alloc)),
     }
 }
 
-// The rows of a query that is supported.
-fn answer_bound<A: Heap>(
+fn headings<A: Heap>(alloc: A, items: &[BoundItem<A>]) -> Result<Items<Text<A>, A>, AllocError>
+    ensures { IfOk result (λ headings. headings ≡ spec.headings (map (λ i. bound_item_of i) items.now)) }
+{
+    let mut headings = Items::new(alloc);
+    for item in items {
+        headings.push(Text::new(alloc, item.heading.as_str())?)?;
+    }
+    Ok(headings)
+}
+
+// The rows of a supported query over an entry.
+fn answer_entry<A: Heap>(
     alloc: A,
     store: &Store<A>,
     role: &str,
-    bound: Bound<'_, A>,
+    query: &BoundQuery<A>,
+    entry: &Entry<'_, A>,
 ) -> Result<Reply<A>, AllocError>
-    ensures { IfOk result (λ reply. reply_of reply ≡ rows_reply store.now.catalog (rows_of store.now) role.now (Some (bound_of bound.entry))) }
+    requires { are_served_parts (bound_query_of query.now) ≡ true }
+    ensures { IfOk result (λ reply. reply_of reply ≡ rows_reply store.now.catalog (rows_of store.now) role.now (bound_query_of query.now) (entry_of entry.now)) }
 {
-    let rows = rows_seen(alloc, store, role, bound.table, bound.places.as_slice())?;
-    Ok(Reply::Rows {
-        headings: bound.names,
-        rows,
-    })
+    let rows = rows_seen(alloc, store, role, query, entry)?;
+    let headings = headings(alloc, query.items.as_slice())?;
+    Ok(Reply::Rows { headings, rows })
 }
 
 fn not_supported<A: Heap>() -> Reply<A>
@@ -73,23 +83,37 @@ fn not_supported<A: Heap>() -> Reply<A>
     }
 }
 
+// The rows of a supported query over the first of its entries.
+fn answer_first<A: Heap>(
+    alloc: A,
+    store: &Store<A>,
+    role: &str,
+    query: &BoundQuery<A>,
+    entries: &[Entry<'_, A>],
+) -> Result<Reply<A>, AllocError>
+    requires { are_served_parts (bound_query_of query.now) ≡ true }
+    ensures { IfOk result (λ reply. reply_of reply ≡ first_reply store.now.catalog (rows_of store.now) role.now (bound_query_of query.now) (slice_get (map (λ e. entry_of e) entries.now) 0)) }
+{
+    match entries.get(0) {
+        Some(entry) => answer_entry(alloc, store, role, query, entry),
+        None => Ok(not_supported()),
+    }
+}
+
 // The rows of a query whose privileges are granted; what is not supported yet is refused.
 fn answer_granted<A: Heap>(
     alloc: A,
     store: &Store<A>,
     role: &str,
     query: &Query<A>,
-    names: &Names<'_, A>,
+    bound: &Bound<'_, A>,
 ) -> Result<Reply<A>, AllocError>
-    ensures { IfOk result (λ reply. reply_of reply ≡ served_reply store.now.catalog (rows_of store.now) role.now (query_of query.now) (names_of names.now)) }
+    ensures { IfOk result (λ reply. reply_of reply ≡ served_reply store.now.catalog (rows_of store.now) role.now (query_of query.now) (bound_of bound.now)) }
 {
-    if !is_served(query) {
+    if !is_served(query, &bound.query) {
         return Ok(not_supported());
     }
-    match bind(alloc, names)? {
-        Some(bound) => answer_bound(alloc, store, role, bound),
-        None => Ok(not_supported()),
-    }
+    answer_first(alloc, store, role, &bound.query, bound.entries.as_slice())
 }
 
 fn copy_name<A: Heap>(alloc: A, name: Option<&Text<A>>) -> Result<Option<Text<A>>, AllocError>
@@ -112,24 +136,25 @@ fn answer_denied<A: Heap>(
     Ok(Reply::Denied { column, table })
 }
 
-// The denial of a query whose names are found, or its rows.
-fn answer_named<A: Heap>(
+// The denial of a query that is bound, or its rows.
+fn answer_bound<A: Heap>(
     alloc: A,
     store: &Store<A>,
     role: &str,
     query: &Query<A>,
-    names: &Names<'_, A>,
+    bound: &Bound<'_, A>,
 ) -> Result<Reply<A>, AllocError>
-    ensures { IfOk result (λ reply. reply_of reply ≡ named_reply store.now.catalog (rows_of store.now) role.now (query_of query.now) (Ok (names_of names.now))) }
+    ensures { IfOk result (λ reply. reply_of reply ≡ resolved_reply store.now.catalog (rows_of store.now) role.now (query_of query.now) (Ok (bound_of bound.now))) }
 {
-    let needed = needed(alloc, names)?;
+    let needed = needed(alloc, bound.entries.as_slice(), &bound.query)?;
     match denied(&store.catalog, role, needed.as_slice()) {
         Some(privilege) => answer_denied(alloc, privilege),
-        None => answer_granted(alloc, store, role, query, names),
+        None => answer_granted(alloc, store, role, query, bound),
     }
 }
 
-// The reply to a query: the first fault of its names, the first privilege that is missing, or its rows.
+// The reply to a query: the first fault of its names, aggregates or types, the first privilege that is missing, or its
+// rows.
 fn answer_query<A: Heap>(
     alloc: A,
     store: &Store<A>,
@@ -138,8 +163,8 @@ fn answer_query<A: Heap>(
 ) -> Result<Reply<A>, AllocError>
     ensures { IfOk result (λ reply. reply_of reply ≡ query_reply store.now.catalog (rows_of store.now) role.now (query_of query.now)) }
 {
-    match found_names(alloc, &store.catalog, query) {
-        Ok(names) => answer_named(alloc, store, role, query, &names),
+    match bind(alloc, &store.catalog, query) {
+        Ok(bound) => answer_bound(alloc, store, role, query, &bound),
         Err(Failure::Fault(fault)) => Ok(Reply::Refused {
             code: fault.code,
             offset: Some(fault.offset),

@@ -1,15 +1,10 @@
 -- The outcome of an expression depends only on the columns that it names.
 use Rattle.std.proofs.Common.{◌≡◌, ℕ, List, [], ◌∷◌, ◌++◌, Ok, Contains, refl, ap, ap₂, ◌∙◌, arith}
 use Rattle.std.proofs.lemmas.List.Elements.{Contains-append_left, Contains-append_right}
-use Rattle.value.specs.Exact.{with_number, negated_of}
-use Rattle.value.specs.Truths.{negated as negated_truth}
-use Rattle.value.specs.Conditions.{truth_at, at_truth}
-use Rattle.value.specs.Casts.{cast_of}
 use Rattle.expr.specs.declared.bound.ColumnId.{ColumnId}
 use Rattle.expr.specs.Bound.{BoundExpr, Column, Literal, CurrentUser, Negate, Arithmetic, Comparison, Between, In, IsNull, Not, And, Or, Cast, Case, CountStar, Call, BoundExprs, no_expr, one_expr, BoundArms, no_arm, one_arm, BoundOtherwise, Nothing, Value}
 use Rattle.expr.specs.Columns.{columns, all_columns, arms_columns, otherwise_columns}
-use Rattle.eval.specs.Operators.{arithmetic_of, comparison_of, between_of, in_of, null_test, negated_if}
-use Rattle.eval.specs.Meaning.{Cells, Outcome, meaning, conjunction, disjunction, chosen, otherwise, holds, is_true_outcome, ◌>>=◌, at_offset, condition, unless_false, unless_true, when_true, as_datum}
+use Rattle.eval.specs.Meaning.{Cells, Outcome, meaning, conjunction, disjunction, chosen, otherwise, holds, is_true_outcome, negation, arithmetic, comparison, between, membership, null_check, logical_not, cast_at, condition, unless_false, unless_true, when_true, as_datum}
 use Rattle.eval.specs.Laws.{AgreeOn}
 
 contains_first : (id : ColumnId) (ids : List ColumnId) → Contains (id ∷ ids) id
@@ -28,24 +23,21 @@ module _ (one other : Cells) where
       same_meaning (Column id) h = ap Ok (h id (contains_first id []))
       same_meaning (Literal d) h = refl
       same_meaning CurrentUser h = refl
-      same_meaning (Negate offset e) h = ap (λ m. m >>= λ x. at_offset offset (with_number negated_of x)) (same_meaning e h)
+      same_meaning (Negate offset e) h = ap (negation offset) (same_meaning e h)
       same_meaning (Arithmetic operator offset e f) h =
-          ap₂ (λ m n. m >>= λ x. n >>= λ y. at_offset offset (arithmetic_of operator x y))
-          (same_meaning e (agree_left (columns e) (columns f) h)) (same_meaning f (agree_right (columns e) (columns f) h))
+          ap₂ (arithmetic operator offset) (same_meaning e (agree_left (columns e) (columns f) h)) (same_meaning f (agree_right (columns e) (columns f) h))
       same_meaning (Comparison operator offset e f) h =
-          ap₂ (λ m n. m >>= λ x. n >>= λ y. Ok (at_truth (comparison_of operator x y)))
-          (same_meaning e (agree_left (columns e) (columns f) h)) (same_meaning f (agree_right (columns e) (columns f) h))
+          ap₂ (comparison operator) (same_meaning e (agree_left (columns e) (columns f) h)) (same_meaning f (agree_right (columns e) (columns f) h))
       same_meaning (Between negated offset e low high) h =
           let r = agree_right (columns e) (columns low ++ columns high) h in
-          let tests : Outcome → Outcome → Outcome → Outcome = λ m n o. m >>= λ x. n >>= λ y. o >>= λ z. Ok (at_truth (negated_if negated (between_of x y z))) in
-          ap (λ m. tests m (meaning one role low) (meaning one role high)) (same_meaning e (agree_left (columns e) (columns low ++ columns high) h))
-          ∙ ap₂ (λ n o. tests (meaning other role e) n o) (same_meaning low (agree_left (columns low) (columns high) r)) (same_meaning high (agree_right (columns low) (columns high) r))
-      same_meaning (In negated offset values e) h = ap (λ m. m >>= λ x. Ok (at_truth (negated_if negated (in_of x values)))) (same_meaning e h)
-      same_meaning (IsNull negated offset e) h = ap (λ m. m >>= λ x. Ok (at_truth (negated_if negated (null_test x)))) (same_meaning e h)
-      same_meaning (Not offset e) h = ap (λ m. m >>= λ x. Ok (at_truth (negated_truth (truth_at x)))) (same_meaning e h)
+          ap (λ m. between negated m (meaning one role low) (meaning one role high)) (same_meaning e (agree_left (columns e) (columns low ++ columns high) h))
+          ∙ ap₂ (between negated (meaning other role e)) (same_meaning low (agree_left (columns low) (columns high) r)) (same_meaning high (agree_right (columns low) (columns high) r))
+      same_meaning (In negated offset values e) h = ap (λ m. membership negated m values) (same_meaning e h)
+      same_meaning (IsNull negated offset e) h = ap (null_check negated) (same_meaning e h)
+      same_meaning (Not offset e) h = ap logical_not (same_meaning e h)
       same_meaning (And offset es) h = ap as_datum (same_conjunction es h)
       same_meaning (Or offset es) h = ap as_datum (same_disjunction es h)
-      same_meaning (Cast offset to e) h = ap (λ m. m >>= λ x. at_offset offset (cast_of to x)) (same_meaning e h)
+      same_meaning (Cast offset to e) h = ap (cast_at to offset) (same_meaning e h)
       same_meaning (Case offset as_ o) h =
           same_chosen as_ _ _ (agree_left (arms_columns as_) (otherwise_columns o) h) (same_otherwise o (agree_right (arms_columns as_) (otherwise_columns o) h))
       same_meaning (CountStar offset) h = refl

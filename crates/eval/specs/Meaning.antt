@@ -8,7 +8,10 @@ use Rattle.value.specs.Exact.{with_number, negated_of}
 use Rattle.value.specs.Casts.{cast_of}
 use Rattle.value.specs.declared.order.Truth.{Truth}
 use Rattle.value.specs.declared.order.Truth.TheVariants.{False, Unknown, True}
+use Rattle.value.specs.declared.types.ColType.{ColType}
 use Rattle.value.specs.declared.types.FaultKind.{FaultKind}
+use Rattle.value.specs.declared.operators.Arithmetic as operators
+use Rattle.value.specs.declared.operators.Comparison as operators'
 use Rattle.value.specs.declared.faults.Fault.{Fault}
 use Rattle.expr.specs.declared.bound.ColumnId.{ColumnId}
 use Rattle.expr.specs.Bound.{BoundExpr, Column, Literal, CurrentUser, Negate, Arithmetic, Comparison, Between, In, IsNull, Not, And, Or, Cast, Case, CountStar, Call, BoundExprs, no_expr, one_expr, BoundArms, no_arm, one_arm, BoundOtherwise, Nothing, Value}
@@ -31,6 +34,32 @@ abbrev pub ◌>>=◌ : {A B : Type 0} → Result A Fault → (A → Result B Fau
 abbrev pub at_offset : ℕ → Result Datum FaultKind → Outcome
 at_offset offset (Ok d) = Ok d
 at_offset offset (Err kind) = Err (record { offset = offset; kind = kind })
+
+-- ---- operators
+
+abbrev pub negation : ℕ → Outcome → Outcome
+negation offset m = m >>= λ x. at_offset offset (with_number negated_of x)
+
+abbrev pub arithmetic : operators.Arithmetic → ℕ → Outcome → Outcome → Outcome
+arithmetic operator offset m n = m >>= λ x. n >>= λ y. at_offset offset (arithmetic_of operator x y)
+
+abbrev pub comparison : operators'.Comparison → Outcome → Outcome → Outcome
+comparison operator m n = m >>= λ x. n >>= λ y. Ok (at_truth (comparison_of operator x y))
+
+abbrev pub between : Bool → Outcome → Outcome → Outcome → Outcome
+between negated m low high = m >>= λ x. low >>= λ y. high >>= λ z. Ok (at_truth (negated_if negated (between_of x y z)))
+
+abbrev pub membership : Bool → Outcome → List Datum → Outcome
+membership negated m values = m >>= λ x. Ok (at_truth (negated_if negated (in_of x values)))
+
+abbrev pub null_check : Bool → Outcome → Outcome
+null_check negated m = m >>= λ x. Ok (at_truth (negated_if negated (null_test x)))
+
+abbrev pub logical_not : Outcome → Outcome
+logical_not m = m >>= λ x. Ok (at_truth (negated (truth_at x)))
+
+abbrev pub cast_at : ColType → ℕ → Outcome → Outcome
+cast_at to offset m = m >>= λ x. at_offset offset (cast_of to x)
 
 -- ---- conditions
 
@@ -84,16 +113,16 @@ module _ (cells : Cells) (role : List ℕ) where
     meaning (Column id) = Ok (cells id)
     meaning (Literal d) = Ok d
     meaning CurrentUser = Ok (text role)
-    meaning (Negate offset e) = meaning e >>= λ x. at_offset offset (with_number negated_of x)
-    meaning (Arithmetic operator offset e f) = meaning e >>= λ x. meaning f >>= λ y. at_offset offset (arithmetic_of operator x y)
-    meaning (Comparison operator offset e f) = meaning e >>= λ x. meaning f >>= λ y. Ok (at_truth (comparison_of operator x y))
-    meaning (Between negated offset e low high) = meaning e >>= λ x. meaning low >>= λ y. meaning high >>= λ z. Ok (at_truth (negated_if negated (between_of x y z)))
-    meaning (In negated offset values e) = meaning e >>= λ x. Ok (at_truth (negated_if negated (in_of x values)))
-    meaning (IsNull negated offset e) = meaning e >>= λ x. Ok (at_truth (negated_if negated (null_test x)))
-    meaning (Not offset e) = meaning e >>= λ x. Ok (at_truth (negated (truth_at x)))
+    meaning (Negate offset e) = negation offset (meaning e)
+    meaning (Arithmetic operator offset e f) = arithmetic operator offset (meaning e) (meaning f)
+    meaning (Comparison operator offset e f) = comparison operator (meaning e) (meaning f)
+    meaning (Between negated offset e low high) = between negated (meaning e) (meaning low) (meaning high)
+    meaning (In negated offset values e) = membership negated (meaning e) values
+    meaning (IsNull negated offset e) = null_check negated (meaning e)
+    meaning (Not offset e) = logical_not (meaning e)
     meaning (And offset es) = as_datum (conjunction es)
     meaning (Or offset es) = as_datum (disjunction es)
-    meaning (Cast offset to e) = meaning e >>= λ x. at_offset offset (cast_of to x)
+    meaning (Cast offset to e) = cast_at to offset (meaning e)
     meaning (Case offset as_ o) = chosen as_ (otherwise o)
     -- an aggregate is taken out before its expression is evaluated on a row, so this case does not occur
     meaning (CountStar offset) = Ok null

@@ -9,13 +9,15 @@ ghost use Rattle.eval.specs.Meaning as spec;
 ghost use Rattle.eval.specs.Meaning.{Outcome, meaning};
 ghost use Rattle.eval.specs.Choice.{GivesChoice};
 
-use crate::operators::{compare, is_between, is_in, is_null, negate_if, operate};
-use crate::outcomes::{as_value, cast_at, condition, located};
+use crate::outcomes::{
+    arithmetic, as_value, between, cast_at, comparison, condition, logical_not, membership,
+    negation, null_check,
+};
 use crate::row::Row;
 use expr::{BoundArm, BoundExpr};
 use memory::{Failure, Heap};
 use std::borrow::CowStr;
-use value::{Fault, Truth, Val, and3, as_condition, neg, not3, of_truth, or3};
+use value::{Fault, Truth, Val, and3, or3};
 
 /// The value on a row, for a role, or the first fault from left to right. An aggregate is null: it is taken out before
 /// its expression is evaluated on a row.
@@ -35,10 +37,7 @@ pub fn eval<'a, A: Heap, R: Row<A>>(
         BoundExpr::Column(id) => Ok(row.cell(*id)),
         BoundExpr::Literal(value) => Ok(value.as_val()),
         BoundExpr::CurrentUser => Ok(Val::Text(CowStr::Borrowed(role))),
-        BoundExpr::Negate { offset, operand } => {
-            let x = eval(alloc, operand, row, role)?;
-            located(*offset, neg(&x))
-        }
+        BoundExpr::Negate { offset, operand } => negation(*offset, eval(alloc, operand, row, role)),
         BoundExpr::Arithmetic {
             operator,
             offset,
@@ -46,8 +45,7 @@ pub fn eval<'a, A: Heap, R: Row<A>>(
             right,
         } => {
             let x = eval(alloc, left, row, role)?;
-            let y = eval(alloc, right, row, role)?;
-            located(*offset, operate(*operator, &x, &y))
+            arithmetic(*operator, *offset, x, eval(alloc, right, row, role))
         }
         BoundExpr::Comparison {
             operator,
@@ -56,8 +54,7 @@ pub fn eval<'a, A: Heap, R: Row<A>>(
             ..
         } => {
             let x = eval(alloc, left, row, role)?;
-            let y = eval(alloc, right, row, role)?;
-            Ok(of_truth(compare(*operator, &x, &y)))
+            comparison(*operator, x, eval(alloc, right, row, role))
         }
         BoundExpr::Between {
             negated,
@@ -68,40 +65,27 @@ pub fn eval<'a, A: Heap, R: Row<A>>(
         } => {
             let x = eval(alloc, operand, row, role)?;
             let y = eval(alloc, low, row, role)?;
-            let z = eval(alloc, high, row, role)?;
-            Ok(of_truth(negate_if(*negated, is_between(&x, &y, &z))))
+            between(*negated, x, y, eval(alloc, high, row, role))
         }
         BoundExpr::In {
             negated,
             values,
             operand,
             ..
-        } => {
-            let x = eval(alloc, operand, row, role)?;
-            Ok(of_truth(negate_if(*negated, is_in(&x, values.as_slice()))))
-        }
+        } => { membership(*negated, eval(alloc, operand, row, role), values.as_slice()) }
         BoundExpr::IsNull {
             negated,
             operand,
             ..
-        } => {
-            let x = eval(alloc, operand, row, role)?;
-            Ok(of_truth(negate_if(*negated, is_null(&x))))
-        }
-        BoundExpr::Not { operand, .. } => {
-            let x = eval(alloc, operand, row, role)?;
-            Ok(of_truth(not3(as_condition(&x))))
-        }
+        } => { null_check(*negated, eval(alloc, operand, row, role)) }
+        BoundExpr::Not { operand, .. } => logical_not(eval(alloc, operand, row, role)),
         BoundExpr::And { members, .. } => as_value(conjunction(alloc, members, row, role)),
         BoundExpr::Or { members, .. } => as_value(disjunction(alloc, members, row, role)),
         BoundExpr::Cast {
             offset,
             to,
             operand,
-        } => {
-            let x = eval(alloc, operand, row, role)?;
-            cast_at(alloc, *to, *offset, x)
-        }
+        } => { cast_at(alloc, *to, *offset, eval(alloc, operand, row, role)) }
         BoundExpr::Case {
             arms,
             otherwise,

@@ -59,7 +59,7 @@ misplaced_by entries group_by grouped q =
     least_of (misplaced_select entries group_by grouped q.select)
     (least_of (misplaced_ons entries group_by None entries) (least_of (misplaced_condition entries group_by false q.filter) (misplaced_condition entries group_by grouped q.having)))
 
--- the least offset of an aggregate, or of a column beside one, that may not be there
+-- the least offset of an aggregate, or of a column beside one, that is not allowed there
 abbrev pub misplaced_in : List Entry → List ColumnId → ast.Query → Option ℕ
 misplaced_in entries group_by q = misplaced_by entries group_by (is_grouped entries q) q
 
@@ -105,6 +105,6 @@ first_fault None None = None
 abbrev pub clause_fault : List Entry → List ColumnId → ast.Query → Option NameFault
 clause_fault entries group_by q = first_fault (misplaced_in entries group_by q) (mistyped_in entries q)
 
--- of the condition of a policy, which starts at an offset and may have no aggregate
+-- of the condition of a policy, which starts at an offset; no aggregate is allowed in it
 abbrev pub condition_fault : List Entry → ℕ → ast.Expr → Option NameFault
 condition_fault entries offset e = first_fault (misplaced entries (everywhere entries) [] false e) (mistyped (typed_condition entries (everywhere entries) offset e))

@@ -12,18 +12,18 @@ use Rattle.typing.specs.Offsets.{least_of}
 abbrev pub is_column : ColumnId → ColumnId → Bool
 is_column id other = nat_eq id.entry other.entry && nat_eq id.column other.column
 
--- among groups a column has to be one of GROUP BY
+-- in an item or HAVING of a grouped query, outside aggregates, a column has to be one of GROUP BY
 abbrev pub misplaced_column : List ColumnId → Bool → ℕ → Result ColumnId NameFault → Option ℕ
 misplaced_column group_by false offset found = None
 misplaced_column group_by true offset (Ok id) = if list_any (is_column id) group_by then None else Some offset
 misplaced_column group_by true offset (Err fault) = None
 
--- an aggregate may be among groups and nowhere else
+-- an aggregate is allowed there and nowhere else
 abbrev pub misplaced_call : Bool → ℕ → Option ℕ → Option ℕ
 misplaced_call of_groups offset inner = if of_groups then inner else least_of (Some offset) inner
 
 module _ (entries : List Entry) (reach : Reach) (group_by : List ColumnId) where
-  -- the least offset of what may not be there; of_groups: in an item or HAVING of a grouped query, outside aggregates
+  -- the least offset of what is not allowed there; of_groups: in an item or HAVING of a grouped query, outside aggregates
   abbrev mutual
     pub misplaced : Bool → ast.Expr → Option ℕ
     misplaced of_groups (ast.Column c) = misplaced_column group_by of_groups c.offset (find_column entries reach c)

@@ -1,9 +1,8 @@
 //! The checks of a whole query, and of the condition of a policy.
 
-ghost use Rattle.std.specs.Prelude.{◌≡◌, ◌<◌, ◌+◌, None, false, map, option_map};
+ghost use Rattle.std.specs.Prelude.{◌≡◌, None, map, option_map};
 ghost use Rattle.value.specs.Columns.{column_of};
 ghost use Rattle.row_ast.specs.View.{condition_of, expr_of, query_of, select_item_of, select_list_of};
-ghost use Rattle.scope.specs.Lookup.{everywhere as all_entries, on_reach as reach_of_on};
 ghost use Rattle.scope.specs.View.{entry_of};
 ghost use Rattle.typing.specs.Clauses as spec;
 
@@ -90,9 +89,9 @@ fn misplaced_condition<A: Heap>(
     entries: &[Entry<'_, A>],
     group_by: &[ColumnId],
     of_groups: bool,
-    condition: &Option<Condition<A>>,
+    condition: Option<&Condition<A>>,
 ) -> Option<u32>
-    ensures { result ≡ spec.misplaced_condition (map (λ e. entry_of e) entries.now) group_by.now of_groups (option_map condition_of condition.now) }
+    ensures { result ≡ spec.misplaced_condition (map (λ e. entry_of e) entries.now) group_by.now of_groups (option_map (λ c. condition_of c.now) condition.entry) }
 {
     match condition {
         None => None,
@@ -106,25 +105,15 @@ fn misplaced_condition<A: Heap>(
     }
 }
 
-fn misplaced_on<A: Heap>(
-    entries: &[Entry<'_, A>],
-    group_by: &[ColumnId],
-    entry: &Entry<'_, A>,
-) -> Option<u32>
-    ensures { result ≡ spec.misplaced_condition (map (λ e. entry_of e) entries.now) group_by.now false (entry_of entry.now).on }
-{
-    match entry.on {
-        None => None,
-        Some(on) => misplaced(entries, everywhere(entries), group_by, false, &on.predicate),
-    }
-}
-
 fn misplaced_ons<A: Heap>(entries: &[Entry<'_, A>], group_by: &[ColumnId]) -> Option<u32>
     ensures { result ≡ spec.misplaced_ons (map (λ e. entry_of e) entries.now) group_by.now None (map (λ e. entry_of e) entries.now) }
 {
     let mut known = None;
     for entry in entries {
-        known = least_of(known, misplaced_on(entries, group_by, entry));
+        known = least_of(
+            known,
+            misplaced_condition(entries, group_by, false, entry.on),
+        );
     }
     known
 }
@@ -152,8 +141,8 @@ fn misplaced_in<A: Heap>(
     let grouped = is_grouped(entries, query);
     let select = misplaced_select(entries, group_by, grouped, &query.select);
     let ons = misplaced_ons(entries, group_by);
-    let filter = misplaced_condition(entries, group_by, false, &query.filter);
-    let having = misplaced_condition(entries, group_by, grouped, &query.having);
+    let filter = misplaced_condition(entries, group_by, false, query.filter.as_ref());
+    let having = misplaced_condition(entries, group_by, grouped, query.having.as_ref());
     least_of(select, least_of(ons, least_of(filter, having)))
 }
 
@@ -190,36 +179,18 @@ fn mistyped_select<A: Heap>(entries: &[Entry<'_, A>], select: &SelectList<A>) ->
 
 fn mistyped_condition<A: Heap>(
     entries: &[Entry<'_, A>],
-    condition: &Option<Condition<A>>,
+    reach: Reach,
+    condition: Option<&Condition<A>>,
 ) -> Option<u32>
-    ensures { result ≡ spec.mistyped_condition (map (λ e. entry_of e) entries.now) (all_entries (map (λ e. entry_of e) entries.now)) (option_map condition_of condition.now) }
+    ensures { result ≡ spec.mistyped_condition (map (λ e. entry_of e) entries.now) reach (option_map (λ c. condition_of c.now) condition.entry) }
 {
     match condition {
         None => None,
         Some(condition) => mistyped(typed_condition(
             entries,
-            everywhere(entries),
+            reach,
             condition.offset,
             &condition.predicate,
-        )),
-    }
-}
-
-fn mistyped_on<A: Heap>(
-    entries: &[Entry<'_, A>],
-    number: usize,
-    entry: &Entry<'_, A>,
-) -> Option<u32>
-    requires { number + 1 < 18446744073709551616 }
-    ensures { result ≡ spec.mistyped_condition (map (λ e. entry_of e) entries.now) (reach_of_on number (entry_of entry.now)) (entry_of entry.now).on }
-{
-    match entry.on {
-        None => None,
-        Some(on) => mistyped(typed_condition(
-            entries,
-            on_reach(number, entry),
-            on.offset,
-            &on.predicate,
         )),
     }
 }
@@ -229,7 +200,8 @@ fn mistyped_ons<A: Heap>(entries: &[Entry<'_, A>]) -> Option<u32>
 {
     let mut known = None;
     for (number, entry) in entries.iter().enumerate() {
-        known = least_of(known, mistyped_on(entries, number, entry));
+        let on = mistyped_condition(entries, on_reach(number, entry), entry.on);
+        known = least_of(known, on);
     }
     known
 }
@@ -237,10 +209,11 @@ fn mistyped_ons<A: Heap>(entries: &[Entry<'_, A>]) -> Option<u32>
 fn mistyped_in<A: Heap>(entries: &[Entry<'_, A>], query: &Query<A>) -> Option<u32>
     ensures { result ≡ spec.mistyped_in (map (λ e. entry_of e) entries.now) (query_of query.now) }
 {
+    let reach = everywhere(entries);
     let select = mistyped_select(entries, &query.select);
     let ons = mistyped_ons(entries);
-    let filter = mistyped_condition(entries, &query.filter);
-    let having = mistyped_condition(entries, &query.having);
+    let filter = mistyped_condition(entries, reach, query.filter.as_ref());
+    let having = mistyped_condition(entries, reach, query.having.as_ref());
     least_of(select, least_of(ons, least_of(filter, having)))
 }
 
@@ -264,8 +237,8 @@ fn first_fault(misplaced: Option<u32>, mistyped: Option<u32>) -> Option<NameFaul
     }
 }
 
-/// The fault of a query with the columns of its GROUP BY: the first aggregate or column where it may not be, or else the
-/// first value of the wrong type.
+/// The fault of a query with the columns of its GROUP BY: the aggregate or column at the least offset that is not allowed
+/// there (42803), or else the least offset of a wrong type (42804).
 pub fn clause_fault<A: Heap>(
     entries: &[Entry<'_, A>],
     group_by: &[ColumnId],
@@ -277,8 +250,8 @@ pub fn clause_fault<A: Heap>(
     first_fault(misplaced, mistyped_in(entries, query))
 }
 
-/// The fault of the condition of a policy, which starts at an offset: its first aggregate, or else the first value of the
-/// wrong type.
+/// The fault of the condition of a policy, which starts at an offset: the least offset of an aggregate (42803), or else of
+/// a wrong type (42804).
 pub fn condition_fault<A: Heap>(
     entries: &[Entry<'_, A>],
     offset: u32,

@@ -62,7 +62,8 @@ fn misplaced_call(of_groups: bool, offset: u32, inner: Option<u32>) -> Option<u3
     }
 }
 
-/// The least offset of what may not be there. Of groups: in an item or HAVING of a grouped query, outside aggregates.
+/// The least offset of an aggregate, or of a column beside one, that is not allowed there. `of_groups`: the expression is in
+/// an item or HAVING of a grouped query, outside aggregates.
 #[cycle(misplaced)]
 pub fn misplaced<A: Heap>(
     entries: &[Entry<'_, A>],
