@@ -79,7 +79,7 @@ static MEMBERS: [(&str, &str); 24] = [
 ];
 
 // CASE, arithmetic and casts.
-static CASES: [(&str, &str); 22] = [
+static CASES: [(&str, &str); 21] = [
     (
         "SELECT CASE WHEN amount = 1 THEN 1 WHEN id BETWEEN 1 AND 9 THEN 2 END FROM deal",
         "2",
@@ -121,7 +121,6 @@ static CASES: [(&str, &str); 22] = [
     ("SELECT CAST('12' AS bigint) + 1 FROM deal", "13"),
     ("SELECT CAST(CAST(id AS text) AS bigint) FROM deal", "7"),
     ("SELECT CAST(amount AS text) FROM deal", "NULL"),
-    ("SELECT CAST(id = 7 AS boolean) FROM deal", "TRUE"),
 ];
 
 // Faults, each at its operation.
