@@ -1,6 +1,7 @@
 pub mod Named
 pub mod Roles
 pub mod Places
+pub mod Policies
 pub mod Grants
 pub mod Revoked
 pub mod Counts

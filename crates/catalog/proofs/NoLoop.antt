@@ -10,7 +10,7 @@ use Rattle.row_objects.proofs.Loops.{none_after, none_among, none_at_first}
 use Rattle.catalog.specs.Catalog.{Catalog, at_first, belongs, is_role, is_superuser}
 use Rattle.catalog.specs.Checks.{Check, first_refusal, unless}
 use Rattle.catalog.specs.GrantRole.{checks_grant_role}
-use Rattle.catalog.specs.Changes.{after, changed, checks, counted, is_supported, most_changes}
+use Rattle.catalog.specs.Changes.{after, changed, checks, counted, most_changes}
 use Rattle.catalog.specs.Run.{or_same, run}
 
 some_is_not : (why : Refusal) → ◌≡◌ {A = Option Refusal} (Some why) None → ⊥
@@ -65,10 +65,9 @@ module _ (cat : Catalog) (none : HasNoLoop cat.memberships) where
 
   step : (actor : Name) (s : Statement) → HasNoLoop (or_same cat (changed cat actor s)).memberships
   step actor s = by_refusal actor s _ (λ e.
-      let one = passed (nat_le most_changes cat.change_number) r.ProgramLimitExceeded ((not (is_supported cat s), r.FeatureNotSupported) ∷ (not (is_role cat actor), r.UndefinedObject) ∷ checks cat actor s) e in
-      let two = passed (not (is_supported cat s)) r.FeatureNotSupported ((not (is_role cat actor), r.UndefinedObject) ∷ checks cat actor s) one.1 in
-      let three = passed (not (is_role cat actor)) r.UndefinedObject (checks cat actor s) two.1 in
-      after_one actor s three.1)
+      let one = passed (nat_le most_changes cat.change_number) r.ProgramLimitExceeded ((not (is_role cat actor), r.UndefinedObject) ∷ checks cat actor s) e in
+      let two = passed (not (is_role cat actor)) r.UndefinedObject (checks cat actor s) one.1 in
+      after_one actor s two.1)
 
 no_loop_after : (statements : List (Name × Statement)) (cat : Catalog) → HasNoLoop cat.memberships → HasNoLoop (run statements cat).memberships
 no_loop_after [] cat none = none

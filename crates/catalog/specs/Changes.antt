@@ -1,13 +1,11 @@
--- What schema statements change, and which are supported.
-use Rattle.std.specs.Prelude.{◌≡◌, ◌⊎◌, ℕ, ◌+◌, nat_le, Bool, true, false, not, ◌&&◌, List, ◌∷◌, is_some, Result, Ok, Err}
+-- What schema statements change.
+use Rattle.std.specs.Prelude.{◌≡◌, ◌⊎◌, ℕ, ◌+◌, nat_le, Bool, true, false, not, List, ◌∷◌, Result, Ok, Err}
 use Rattle.value.specs.declared.refusal.Refusal.{Refusal}
 use Rattle.value.specs.declared.refusal.Refusal.TheVariants as r
-use Rattle.row_ast.specs.Ast as ast
-use Rattle.row_ast.specs.Ast.{Name, is_empty}
+use Rattle.row_ast.specs.Ast.{Name}
 use Rattle.row_ast.specs.Statements.{Statement, CreateRole, GrantRole, RevokeRole, CreateTable, SetOwner, SetRowSecurity, CreateIndex, GrantSelect, RevokeSelect, CreatePolicy, DropPolicy}
-use Rattle.row_objects.specs.Equations.{equation_in}
-use Rattle.catalog.specs.Catalog.{Catalog, is_role, table_named}
-use Rattle.catalog.specs.Checks.{Check, first_refusal, if_found, unless}
+use Rattle.catalog.specs.Catalog.{Catalog, is_role}
+use Rattle.catalog.specs.Checks.{Check, first_refusal, unless}
 use Rattle.catalog.specs.CreateRole.{checks_create_role, after_create_role}
 use Rattle.catalog.specs.GrantRole.{checks_grant_role, after_grant_role}
 use Rattle.catalog.specs.RevokeRole.{checks_revoke_role, after_revoke_role}
@@ -19,18 +17,6 @@ use Rattle.catalog.specs.RevokeSelect.{after_revoke_select}
 use Rattle.catalog.specs.CreatePolicy.{checks_create_policy, after_create_policy}
 use Rattle.catalog.specs.DropPolicy.{checks_drop_policy, after_drop_policy}
 use Rattle.catalog.specs.CreateIndex.{checks_create_index, after_create_index}
-
--- ---- what is supported
-
--- a permissive policy (column = operand), the first of its table
-abbrev pub is_supported_policy : Catalog → ast.CreatePolicy → Bool
-is_supported_policy cat p = not p.restrictive && is_some (equation_in p.predicate) && if_found true (λ t. is_empty t.policies) (table_named p.table cat)
-
-abbrev pub is_supported : Catalog → Statement → Bool
-is_supported cat (CreatePolicy policy) = is_supported_policy cat policy
-is_supported cat _ = true
-
--- ---- statements
 
 -- the checks of a statement, by an actor that is a role
 abbrev pub checks : Catalog → Name → Statement → List Check
@@ -68,12 +54,11 @@ most_changes = 18446744073709551615
 abbrev pub counted : Catalog → Catalog → Catalog
 counted before cat = record cat { change_number = before.change_number + 1 }
 
--- the catalogue after a statement, or its refusal: that as many were accepted as may be comes first, then that it is not
--- supported, then that the actor is no role
+-- the catalogue after a statement, or its refusal: that as many were accepted as may be comes first, then that the actor is
+-- no role
 abbrev pub changed : Catalog → Name → Statement → Result Catalog Refusal
 changed cat actor statement = unless (first_refusal (
     (nat_le most_changes cat.change_number, r.ProgramLimitExceeded)
-    ∷ (not (is_supported cat statement), r.FeatureNotSupported)
     ∷ (not (is_role cat actor), r.UndefinedObject)
     ∷ checks cat actor statement)) (counted cat (after cat actor statement))
 

@@ -1,40 +1,18 @@
 //! Statements of an actor.
 
-ghost use Rattle.std.specs.Prelude.{◌≡◌, map, true};
-ghost use Rattle.row_ast.specs.View.{create_policy_of, statement_of};
+ghost use Rattle.std.specs.Prelude.{◌≡◌, true};
+ghost use Rattle.row_ast.specs.View.{statement_of};
 ghost use Rattle.catalog.specs.Checks.{first_refusal, unless};
-ghost use Rattle.catalog.specs.Changes.{after, changed, checks, is_supported, is_supported_policy, takes_no_memory, IsChange, IsExactChange};
+ghost use Rattle.catalog.specs.Changes.{after, changed, checks, takes_no_memory, IsChange, IsExactChange};
 
 use crate::catalog::Catalog;
 use memory::Heap;
-use row_ast::{CreatePolicy, Statement};
-use row_objects::equation_in;
+use row_ast::Statement;
 use value::Refusal;
 
-fn is_supported_policy<A: Heap>(catalog: &Catalog<A>, policy: &CreatePolicy<A>) -> bool
-    ensures { result ≡ is_supported_policy catalog.now (create_policy_of policy.now) }
-{
-    if policy.restrictive || equation_in(&policy.predicate).is_none() {
-        return false;
-    }
-    match catalog.table(policy.table.as_str()) {
-        Some(table) => table.policies().is_empty(),
-        None => true,
-    }
-}
-
-fn is_supported<A: Heap>(catalog: &Catalog<A>, statement: &Statement<A>) -> bool
-    ensures { result ≡ is_supported catalog.now (statement_of statement.now) }
-{
-    match statement {
-        Statement::CreatePolicy(policy) => is_supported_policy(catalog, policy),
-        _ => true,
-    }
-}
-
 impl<A: Heap> Catalog<A> {
-    // A statement that is supported, of an actor that is a role.
-    fn apply_supported(&mut self, actor: &str, statement: &Statement<A>) -> Result<(), Refusal>
+    // A statement of an actor that is a role.
+    fn apply_statement(&mut self, actor: &str, statement: &Statement<A>) -> Result<(), Refusal>
         ensures change { IsChange self.old self.new (unless (first_refusal (checks self.old actor.now (statement_of statement.now))) (after self.old actor.now (statement_of statement.now))) result }
         ensures exact { takes_no_memory (statement_of statement.now) ≡ true → IsExactChange self.old self.new (unless (first_refusal (checks self.old actor.now (statement_of statement.now))) (after self.old actor.now (statement_of statement.now))) result }
     {
@@ -74,8 +52,8 @@ impl<A: Heap> Catalog<A> {
     }
 
     /// Applies a statement of an actor, and counts it. A refused statement changes nothing. That 2^64 - 1 statements were
-    /// accepted comes before all else (54000), then that the statement is not supported yet (0A000), then that the actor is no
-    /// role (42704). REVOKE, the settings of row security and DROP POLICY take no memory.
+    /// accepted comes before all else (54000), then that the actor is no role (42704). REVOKE, the settings of row security and
+    /// DROP POLICY take no memory.
     pub fn apply(&mut self, actor: &str, statement: &Statement<A>) -> Result<(), Refusal>
         ensures change { IsChange self.old self.new (changed self.old actor.now (statement_of statement.now)) result }
         ensures exact { takes_no_memory (statement_of statement.now) ≡ true → IsExactChange self.old self.new (changed self.old actor.now (statement_of statement.now)) result }
@@ -84,13 +62,10 @@ impl<A: Heap> Catalog<A> {
         if before >= u64::MAX {
             return Err(Refusal::ProgramLimitExceeded);
         }
-        if !is_supported(self, statement) {
-            return Err(Refusal::FeatureNotSupported);
-        }
         if !self.is_role(actor) {
             return Err(Refusal::UndefinedObject);
         }
-        match self.apply_supported(actor, statement) {
+        match self.apply_statement(actor, statement) {
             Ok(()) => {
                 self.set_change_number(before + 1);
                 Ok(())

@@ -2,11 +2,14 @@
 
 ghost use Rattle.std.specs.Prelude.{◌≡◌, ◌<◌, length, IfOk, IfSome, map, option_map};
 ghost use Rattle.std.specs.List.{list_all};
+ghost use Rattle.row_objects.specs.Policies as policies;
 ghost use Rattle.row_objects.specs.View.{table_of};
 ghost use Rattle.catalog.specs.Catalog.{at_first, belongs, bypasses_rls, is_index, is_known, is_role, is_superuser, is_table, owns, table_named, table_place};
 
 use memory::Heap;
-use row_objects::{ByName, Membership, Role, Table, TableDef, any_index, belongs_by};
+use row_objects::{
+    ByName, Membership, Role, Table, TableDef, any_index, belongs_by, has_policy_room,
+};
 use std::alloc::AllocError;
 use std::marker::Model;
 use text::Text;
@@ -22,7 +25,7 @@ pub struct Catalog<A: Heap> {
 }
 
 impl<A: Heap> Model for Catalog<A> {
-    ghost use Rattle.std.specs.Prelude.{◌≡◌, ◌≤◌, length, map, true};
+    ghost use Rattle.std.specs.Prelude.{◌≡◌, ◌≤◌, ℕ, length, map, true};
     ghost use Rattle.std.specs.List.{list_all};
     ghost use Rattle.row_objects.specs.Objects.{most_roles};
     ghost use Rattle.row_objects.specs.Reached.{is_of_roles};
@@ -30,6 +33,11 @@ impl<A: Heap> Model for Catalog<A> {
     ghost use Rattle.catalog.specs.Catalog as spec;
 
     ghost Value = { spec.Catalog };
+
+    ghost use Rattle.std.specs.Coded.{codes, coded_ℕ};
+    ghost use Rattle.expr.specs.declared.movable_expr.MovableExpr as movable_expr;
+
+    ghost coded = { Prim.hlevel (codes, movable_expr.the_code ℕ coded_ℕ) };
 
     ghost use Rattle.catalog.specs.View.{catalog_of};
 
@@ -156,6 +164,13 @@ impl<A: Heap> Catalog<A> {
         ensures { result ≡ is_index self.now name.now }
     {
         any_index(&self.tables, name)
+    }
+
+    /// Whether one more policy is within the limit of all tables.
+    pub(crate) fn has_policy_room(&self) -> bool
+        ensures { result ≡ policies.has_policy_room self.now.tables }
+    {
+        has_policy_room(&self.tables)
     }
 
     /// Whether a role is a superuser, or belongs to the owner of a table.

@@ -1,52 +1,100 @@
-//! `CREATE POLICY name ON table TO roles USING (column = operand)` (PostgreSQL: CREATE POLICY).
+//! `CREATE POLICY name ON table [AS RESTRICTIVE] TO roles USING (predicate)` (PostgreSQL: CREATE POLICY).
 
-ghost use Rattle.std.specs.Prelude.{◌≡◌, ◌<◌, IfOk, OnErr, OnOk, length, map, option_map};
-ghost use Rattle.row_ast.specs.View.{create_policy_of};
-ghost use Rattle.row_objects.specs.EquationView.{equation_of};
-ghost use Rattle.row_objects.specs.View.{table_entry, table_of};
-ghost use Rattle.catalog.specs.Catalog.{table_place};
-ghost use Rattle.catalog.specs.Checks.{changed_at, first_refusal, unless, Checked};
-ghost use Rattle.catalog.specs.CreatePolicy.{after_create_policy, checks_create_policy, checks_equation, with_policy};
+ghost use Rattle.std.specs.Prelude.{◌≡◌, ◌<◌, IfOk, None, Ok, OnErr, OnOk, length, map};
+ghost use Rattle.memory.specs.Gives.{Gives};
+ghost use Rattle.row_ast.specs.View.{create_policy_of, expr_of};
+ghost use Rattle.expr.specs.View.{bound_expr_of};
+ghost use Rattle.row_objects.specs.Policies.{new_policy as made_policy};
+ghost use Rattle.row_objects.specs.View.{policy_of, table_entry, table_of};
+ghost use Rattle.scope.specs.View.{entry_of};
+ghost use Rattle.catalog.specs.Checks.{changed_at, first_refusal, unless};
+ghost use Rattle.catalog.specs.CreatePolicy as spec;
+ghost use Rattle.catalog.specs.CreatePolicy.{after_create_policy, bound_predicate, checks_bound, checks_create_policy, checks_predicate, with_new_policy, CheckedPolicy, CheckedPredicate};
 ghost use Rattle.catalog.specs.Changes.{IsChange};
 
 use crate::catalog::Catalog;
-use memory::Heap;
-use row_ast::CreatePolicy;
-use row_objects::{
-    ByName, Equation, Table, TableDef, column_named, equation_in, is_qualified, new_policy,
-    operand_fits,
-};
+use expr::{BoundExpr, MovableExpr};
+use memory::{Failure, Heap};
+use row_ast::{CreatePolicy, Expr};
+use row_objects::{ByName, Policy, Table, TableDef, has_policy, new_policy};
+use scope::{BindResult, Entry, NameFault, bind_expr, everywhere};
 use std::alloc::AllocError;
+use typing::condition_fault;
 use value::Refusal;
+
+// ---- the condition
+
+fn policy_entry<A: Heap>(table: Table<'_, A>) -> Entry<'_, A>
+    ensures { entry_of result ≡ spec.policy_entry (table_of table.entry) }
+{
+    Entry {
+        table,
+        alias: table.name(),
+        first: 0,
+        on: None,
+    }
+}
+
+fn bind_predicate<A: Heap>(alloc: A, table: Table<'_, A>, predicate: &Expr<A>) -> BindResult<A>
+    ensures { Gives (λ b. bound_expr_of b.value) result (bound_predicate (table_of table.entry) (expr_of predicate.now)) }
+{
+    let entries = [policy_entry(table)];
+    bind_expr(alloc, &entries, everywhere(&entries), predicate)
+}
+
+fn predicate_fault<A: Heap>(table: Table<'_, A>, predicate: &Expr<A>) -> Option<NameFault>
+    ensures { result ≡ spec.predicate_fault (table_of table.entry) (expr_of predicate.now) }
+{
+    let entries = [policy_entry(table)];
+    condition_fault(&entries, 0, predicate)
+}
 
 // ---- checks
 
-fn check_equation<A: Heap>(
-    table: Table<'_, A>,
-    equation: Option<Equation<'_, A>>,
-) -> Option<Refusal>
-    ensures { result ≡ first_refusal (checks_equation (table_of table.entry) (option_map (λ e. equation_of e) equation.entry)) }
+// The bound condition, if it never faults and there is room for it.
+fn check_movable<A: Heap>(
+    catalog: &Catalog<A>,
+    bound: Box<BoundExpr<A>, A>,
+) -> Result<MovableExpr<A>, Refusal>
+    ensures { CheckedPredicate result (first_refusal (checks_bound catalog.now (Ok (bound_expr_of bound.value)) None)) (Ok (bound_expr_of bound.value)) }
 {
-    let equation = equation?;
-    if !is_qualified(table.name(), &equation.column.table) {
-        return Some(Refusal::UndefinedTable);
+    match MovableExpr::new(bound) {
+        None => Err(Refusal::InvalidObjectDefinition),
+        Some(predicate) => {
+            if catalog.has_policy_room() {
+                Ok(predicate)
+            } else {
+                Err(Refusal::ProgramLimitExceeded)
+            }
+        }
     }
-    let Some(column) = column_named(table.columns(), equation.column.name.as_str()) else {
-        return Some(Refusal::UndefinedColumn);
-    };
-    if !operand_fits(column.data_type, equation.operand) {
-        return Some(Refusal::DatatypeMismatch);
-    }
-    None
 }
 
+fn check_predicate<A: Heap>(
+    catalog: &Catalog<A>,
+    table: Table<'_, A>,
+    predicate: &Expr<A>,
+) -> Result<MovableExpr<A>, Refusal>
+    ensures { CheckedPredicate result (first_refusal (checks_predicate catalog.now (table_of table.entry) (expr_of predicate.now))) (bound_predicate (table_of table.entry) (expr_of predicate.now)) }
+{
+    match bind_predicate(catalog.alloc, table, predicate) {
+        Err(Failure::Fault(fault)) => Err(fault.code),
+        Err(Failure::OutOfMemory) => Err(Refusal::OutOfMemory),
+        Ok(bound) => match predicate_fault(table, predicate) {
+            Some(fault) => Err(fault.code),
+            None => check_movable(catalog, bound),
+        },
+    }
+}
+
+// The place of the table, and the bound condition.
 fn check_create_policy<A: Heap>(
     catalog: &Catalog<A>,
     actor: &str,
     policy: &CreatePolicy<A>,
-) -> Result<usize, Refusal>
-    ensures checked { Checked result (first_refusal (checks_create_policy catalog.now actor.now (create_policy_of policy.now))) (table_place policy.now.table catalog.now) }
-    ensures within { IfOk result (λ place. place < length catalog.now.tables) }
+) -> Result<(usize, MovableExpr<A>), Refusal>
+    ensures checked { CheckedPolicy result (first_refusal (checks_create_policy catalog.now actor.now (create_policy_of policy.now))) catalog.now (create_policy_of policy.now) }
+    ensures within { IfOk result (λ found. found.0 < length catalog.now.tables) }
 {
     let Some((place, table)) = catalog.find_table(policy.table.as_str()) else {
         return Err(Refusal::UndefinedTable);
@@ -55,10 +103,12 @@ fn check_create_policy<A: Heap>(
         Err(Refusal::InsufficientPrivilege)
     } else if !catalog.are_known(policy.roles.as_slice()) {
         Err(Refusal::UndefinedObject)
+    } else if has_policy(table.policies(), policy.name.as_str()) {
+        Err(Refusal::DuplicateObject)
     } else {
-        match check_equation(table, equation_in(&policy.predicate)) {
-            Some(why) => Err(why),
-            None => Ok(place),
+        match check_predicate(catalog, table, &policy.predicate) {
+            Err(why) => Err(why),
+            Ok(predicate) => Ok((place, predicate)),
         }
     }
 }
@@ -66,29 +116,33 @@ fn check_create_policy<A: Heap>(
 // ---- effect
 
 fn add_policy_in<A: Heap>(
-    alloc: A,
     tables: &mut ByName<TableDef<A>, A>,
     place: usize,
-    policy: &CreatePolicy<A>,
+    policy: Policy<A>,
 ) -> Result<(), AllocError>
     requires { place < length tables.old }
-    ensures done { OnOk result (map (λ t. table_entry t) tables.new ≡ changed_at place (with_policy (create_policy_of policy.now)) (map (λ t. table_entry t) tables.old)) }
+    ensures done { OnOk result (map (λ t. table_entry t) tables.new ≡ changed_at place (with_new_policy (policy_of policy)) (map (λ t. table_entry t) tables.old)) }
     ensures unchanged { OnErr result (map (λ t. table_entry t) tables.new ≡ map (λ t. table_entry t) tables.old) }
 {
     let table = tables.at_mut(place);
-    if let Some(made) = new_policy(alloc, policy, table.columns.as_slice())? {
-        table.policies.push(made)?;
-    }
-    Ok(())
+    table.policies.push(policy)
 }
 
 impl<A: Heap> Catalog<A> {
-    fn add_policy_at(&mut self, place: usize, policy: &CreatePolicy<A>) -> Result<(), AllocError>
+    fn add_policy_at(
+        &mut self,
+        place: usize,
+        policy: &CreatePolicy<A>,
+        predicate: MovableExpr<A>,
+    ) -> Result<(), AllocError>
         requires { place < length self.old.tables }
-        ensures done { OnOk result (self.new ≡ record self.old { tables = changed_at place (with_policy (create_policy_of policy.now)) self.old.tables }) }
+        ensures done { OnOk result (self.new ≡ record self.old { tables = changed_at place (with_new_policy (made_policy (create_policy_of policy.now) predicate)) self.old.tables }) }
         ensures unchanged { OnErr result (self.new ≡ self.old) }
     {
-        add_policy_in(self.alloc, &mut self.tables, place, policy)
+        match new_policy(self.alloc, policy, predicate) {
+            Err(error) => Err(error),
+            Ok(made) => add_policy_in(&mut self.tables, place, made),
+        }
     }
 
     /// Makes a policy, if no check refuses it.
@@ -101,7 +155,7 @@ impl<A: Heap> Catalog<A> {
     {
         match check_create_policy(self, actor, policy) {
             Err(why) => Err(why),
-            Ok(place) => match self.add_policy_at(place, policy) {
+            Ok((place, predicate)) => match self.add_policy_at(place, policy, predicate) {
                 Ok(()) => Ok(()),
                 Err(_) => Err(Refusal::OutOfMemory),
             },

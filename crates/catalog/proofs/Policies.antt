@@ -1,0 +1,79 @@
+-- The condition of a policy that the checks found is the one that is due.
+use Rattle.std.proofs.Common.{◌≡◌, ◌⊎◌, inl, inr, ℕ, Bool, true, false, not, cond, if◌then◌else◌, List, [], ◌∷◌, find, Option, Some, None, option_map, Result, Ok, Err, bytes_eq, refl, sym, ap, ◌∙◌}
+use Rattle.value.specs.declared.refusal.Refusal.{Refusal}
+use Rattle.value.specs.declared.refusal.Refusal.TheVariants as r
+use Rattle.row_ast.specs.Ast.{CreatePolicy}
+use Rattle.expr.specs.Bound.{BoundExpr}
+use Rattle.expr.specs.Movable.{movable, if_movable}
+use Rattle.row_objects.specs.Objects.{Table}
+use Rattle.row_objects.specs.Policies.{has_policy_room, new_policy}
+use Rattle.scope.specs.declared.fault.NameFault.{NameFault}
+use Rattle.catalog.specs.Catalog.{Catalog, table_named}
+use Rattle.catalog.specs.Checks.{changed_at, first_changed, first_refusal, unless, with_table}
+use Rattle.catalog.specs.CreatePolicy.{after_create_policy, bound_predicate, checks_bound, with_bound, with_new_policy, with_policy, CheckedPolicy, CheckedPredicate}
+use Rattle.catalog.proofs.Places.{due}
+
+-- ---- changes that agree on the first
+
+first_same : {E : Type 0} (q : E → Bool) (f g : E → E) (es : List E) → ((t : E) → find q es ≡ Some t → f t ≡ g t) → first_changed q f es ≡ first_changed q g es
+first_same q f g [] h = refl
+first_same {E} q f g (e ∷ es) h = go (q e) h (first_same q f g es)
+  where
+    go : (b : Bool) → ((t : E) → cond b (Some e) (find q es) ≡ Some t → f t ≡ g t) → (((t : E) → find q es ≡ Some t → f t ≡ g t) → first_changed q f es ≡ first_changed q g es)
+        → cond b (f e ∷ es) (e ∷ first_changed q f es) ≡ cond b (g e ∷ es) (e ∷ first_changed q g es)
+    go true h more = ap (λ x. x ∷ es) (h e refl)
+    go false h more = ap (λ l. e ∷ l) (more h)
+
+some_is : {X : Type 0} (x y : X) → ◌≡◌ {A = Option X} (Some x) (Some y) → x ≡ y
+some_is x y e = cc
+
+policy_same : (cat : Catalog) (p : CreatePolicy) (e : BoundExpr) → option_map (λ t. bound_predicate t p.predicate) (table_named p.table cat) ≡ Some (Ok e)
+    → with_table cat p.table (with_new_policy (new_policy p e)) ≡ after_create_policy cat p
+policy_same cat p e is = ap (λ ts. let c : Catalog = record cat { tables = ts } in c) (first_same (λ t. bytes_eq p.table t.name) (with_new_policy (new_policy p e)) (with_policy p) cat.tables there)
+  where
+    there : (t : Table) → table_named p.table cat ≡ Some t → with_new_policy (new_policy p e) t ≡ with_policy p t
+    there t found = ap (with_bound p t) (sym (some_is (bound_predicate t p.predicate) (Ok e) (sym (ap (option_map (λ t. bound_predicate t p.predicate)) found) ∙ is)))
+
+-- the policy that is added is the one that is due
+pub due_policy : (cat new : Catalog) (p : CreatePolicy) (refusal : Option Refusal) (found : ℕ × BoundExpr) → CheckedPolicy (Ok found) refusal cat p
+    → new ≡ record cat { tables = changed_at found.0 (with_new_policy (new_policy p found.1)) cat.tables } → unless refusal (after_create_policy cat p) ≡ Ok new
+due_policy cat new p refusal found checked e =
+    ap (unless refusal) (sym (policy_same cat p found.1 checked.2)) ∙ due cat p.table (with_new_policy (new_policy p found.1)) found.0 refusal new checked.0 checked.1 e
+
+-- ---- the checks of a condition
+
+module _ (cat : Catalog) where
+  pub name_refused : (bound : Result BoundExpr NameFault) (mistake : Option NameFault) (fault : NameFault) → bound ≡ Err fault → first_refusal (checks_bound cat bound mistake) ≡ Some fault.code
+  name_refused bound mistake fault e = ap (λ b. first_refusal (checks_bound cat b mistake)) e
+
+  pub mistake_refused : (bound : Result BoundExpr NameFault) (mistake : Option NameFault) (b : BoundExpr) (fault : NameFault) → bound ≡ Ok b → Some fault ≡ mistake → first_refusal (checks_bound cat bound mistake) ≡ Some fault.code
+  mistake_refused bound mistake b fault e m = ap (λ x. first_refusal (checks_bound cat x mistake)) e ∙ ap (λ x. first_refusal (checks_bound cat (Ok b) x)) (sym m)
+
+  pub checked_further : (result : Result BoundExpr Refusal) (bound : Result BoundExpr NameFault) (mistake : Option NameFault) (b : BoundExpr) → bound ≡ Ok b → None ≡ mistake
+      → CheckedPredicate result (first_refusal (checks_bound cat (Ok b) None)) (Ok b) → CheckedPredicate result (first_refusal (checks_bound cat bound mistake)) bound
+  checked_further result bound mistake b e m h = rw (e, ← m) h
+
+  module _ (e : BoundExpr) where
+    pub not_movable : None ≡ if_movable e → first_refusal (checks_bound cat (Ok e) None) ≡ Some r.InvalidObjectDefinition
+    not_movable h = go (movable e) h
+      where
+        go : (b : Bool) → None ≡ (if b then Some e else None) → first_refusal ((not b, r.InvalidObjectDefinition) ∷ (not (has_policy_room cat.tables), r.ProgramLimitExceeded) ∷ []) ≡ Some r.InvalidObjectDefinition
+        go true h = cc
+        go false h = refl
+
+    pub no_policy_room : (x : BoundExpr) → Some x ≡ if_movable e → has_policy_room cat.tables ≡ false → first_refusal (checks_bound cat (Ok e) None) ≡ Some r.ProgramLimitExceeded
+    no_policy_room x h room = go (movable e) h (has_policy_room cat.tables) room
+      where
+        go : (b : Bool) → Some x ≡ (if b then Some e else None) → (room : Bool) → room ≡ false → first_refusal ((not b, r.InvalidObjectDefinition) ∷ (not room, r.ProgramLimitExceeded) ∷ []) ≡ Some r.ProgramLimitExceeded
+        go true h true q = cc
+        go true h false q = refl
+        go false h room q = cc
+
+    pub is_accepted : (x : BoundExpr) → Some x ≡ if_movable e → has_policy_room cat.tables ≡ true → (first_refusal (checks_bound cat (Ok e) None) ≡ None) × (◌≡◌ {A = Result BoundExpr NameFault} (Ok e) (Ok x))
+    is_accepted x h room = go (movable e) h (has_policy_room cat.tables) room
+      where
+        go : (b : Bool) → Some x ≡ (if b then Some e else None) → (room : Bool) → room ≡ true
+            → (first_refusal ((not b, r.InvalidObjectDefinition) ∷ (not room, r.ProgramLimitExceeded) ∷ []) ≡ None) × (◌≡◌ {A = Result BoundExpr NameFault} (Ok e) (Ok x))
+        go true h true q = (refl, cc)
+        go true h false q = cc
+        go false h room q = cc
