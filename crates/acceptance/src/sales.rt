@@ -22,6 +22,7 @@ pub const INDEXED: &str = "CREATE ROLE audit BYPASSRLS; CREATE ROLE sales; CREAT
 GRANT sales TO alice; CREATE TABLE deal (id bigint, owner text); ALTER TABLE deal OWNER TO audit;
 ALTER TABLE deal FORCE ROW LEVEL SECURITY; GRANT SELECT (id, owner) ON deal TO sales, PUBLIC;
 CREATE INDEX i ON deal (id); CREATE POLICY own ON deal TO sales USING (owner = 'x'); DROP POLICY own ON deal;
+CREATE POLICY near ON deal AS RESTRICTIVE USING (CASE WHEN id IN (1, NULL) THEN NOT owner < 'm' ELSE id BETWEEN 1 AND 9 OR owner IS NULL END);
 REVOKE SELECT (id) ON deal FROM sales; REVOKE sales FROM alice;";
 
 /// The rows of the table of deals there.
