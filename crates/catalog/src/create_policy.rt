@@ -1,7 +1,6 @@
 //! `CREATE POLICY name ON table [AS RESTRICTIVE] TO roles USING (predicate)` (PostgreSQL: CREATE POLICY).
 
 ghost use Rattle.std.specs.Prelude.{◌≡◌, ◌<◌, IfOk, None, Ok, OnErr, OnOk, length, map};
-ghost use Rattle.memory.specs.Gives.{Gives};
 ghost use Rattle.row_ast.specs.View.{create_policy_of, expr_of};
 ghost use Rattle.expr.specs.View.{bound_expr_of};
 ghost use Rattle.row_objects.specs.Policies.{new_policy as made_policy};
@@ -17,12 +16,10 @@ use expr::{BoundExpr, MovableExpr};
 use memory::{Failure, Heap};
 use row_ast::{CreatePolicy, Expr};
 use row_objects::{ByName, Policy, Table, TableDef, has_policy, new_policy};
-use scope::{BindResult, Entry, NameFault, bind_expr, everywhere};
+use scope::{Entry, bind_expr, everywhere};
 use std::alloc::AllocError;
 use typing::condition_fault;
 use value::Refusal;
-
-// ---- the condition
 
 fn policy_entry<A: Heap>(table: Table<'_, A>) -> Entry<'_, A>
     ensures { entry_of result ≡ spec.policy_entry (table_of table.entry) }
@@ -35,22 +32,6 @@ fn policy_entry<A: Heap>(table: Table<'_, A>) -> Entry<'_, A>
     }
 }
 
-fn bind_predicate<A: Heap>(alloc: A, table: Table<'_, A>, predicate: &Expr<A>) -> BindResult<A>
-    ensures { Gives (λ b. bound_expr_of b.value) result (bound_predicate (table_of table.entry) (expr_of predicate.now)) }
-{
-    let entries = [policy_entry(table)];
-    bind_expr(alloc, &entries, everywhere(&entries), predicate)
-}
-
-fn predicate_fault<A: Heap>(table: Table<'_, A>, predicate: &Expr<A>) -> Option<NameFault>
-    ensures { result ≡ spec.predicate_fault (table_of table.entry) (expr_of predicate.now) }
-{
-    let entries = [policy_entry(table)];
-    condition_fault(&entries, 0, predicate)
-}
-
-// ---- checks
-
 // The bound condition, if it never faults and there is room for it.
 fn check_movable<A: Heap>(
     catalog: &Catalog<A>,
@@ -58,15 +39,13 @@ fn check_movable<A: Heap>(
 ) -> Result<MovableExpr<A>, Refusal>
     ensures { CheckedPredicate result (first_refusal (checks_bound catalog.now (Ok (bound_expr_of bound.value)) None)) (Ok (bound_expr_of bound.value)) }
 {
-    match MovableExpr::new(bound) {
-        None => Err(Refusal::InvalidObjectDefinition),
-        Some(predicate) => {
-            if catalog.has_policy_room() {
-                Ok(predicate)
-            } else {
-                Err(Refusal::ProgramLimitExceeded)
-            }
-        }
+    let Some(predicate) = MovableExpr::new(bound) else {
+        return Err(Refusal::InvalidObjectDefinition);
+    };
+    if catalog.has_policy_room() {
+        Ok(predicate)
+    } else {
+        Err(Refusal::ProgramLimitExceeded)
     }
 }
 
@@ -77,10 +56,11 @@ fn check_predicate<A: Heap>(
 ) -> Result<MovableExpr<A>, Refusal>
     ensures { CheckedPredicate result (first_refusal (checks_predicate catalog.now (table_of table.entry) (expr_of predicate.now))) (bound_predicate (table_of table.entry) (expr_of predicate.now)) }
 {
-    match bind_predicate(catalog.alloc, table, predicate) {
+    let entries = [policy_entry(table)];
+    match bind_expr(catalog.alloc, &entries, everywhere(&entries), predicate) {
         Err(Failure::Fault(fault)) => Err(fault.code),
         Err(Failure::OutOfMemory) => Err(Refusal::OutOfMemory),
-        Ok(bound) => match predicate_fault(table, predicate) {
+        Ok(bound) => match condition_fault(&entries, 0, predicate) {
             Some(fault) => Err(fault.code),
             None => check_movable(catalog, bound),
         },
@@ -112,8 +92,6 @@ fn check_create_policy<A: Heap>(
         }
     }
 }
-
-// ---- effect
 
 fn add_policy_in<A: Heap>(
     tables: &mut ByName<TableDef<A>, A>,

@@ -43,6 +43,11 @@ impl<A: Heap> Model for Store<A> {
 
     ghost Value = { Database };
 
+    ghost use Rattle.std.specs.Coded.{codes, coded_ℕ};
+    ghost use Rattle.expr.specs.declared.movable_expr.MovableExpr as movable_expr;
+
+    ghost coded = { Prim.hlevel (codes, movable_expr.the_code ℕ coded_ℕ) };
+
     ghost use Rattle.engine.specs.View.{database_of};
 
     ghost view = { database_of };
@@ -150,8 +155,8 @@ impl<A: Heap> Store<A> {
         }
     }
 
-    /// Applies a schema statement of an actor; a new table has no rows. A refused statement changes nothing. What is not
-    /// supported yet is refused before all else (0A000). REVOKE, the settings of row security and DROP POLICY take no memory.
+    /// Applies a schema statement of an actor; a new table has no rows. A refused statement changes nothing.
+    /// REVOKE, the settings of row security and DROP POLICY take no memory.
     pub fn change(&mut self, actor: &str, statement: &Statement<A>) -> Result<(), Refusal>
         ensures change { IsChange self.old self.new (changed_database self.old actor.now (statement_of statement.now)) result }
         ensures exact { takes_no_memory (statement_of statement.now) ≡ true → IsExactChange self.old self.new (changed_database self.old actor.now (statement_of statement.now)) result }

@@ -1,29 +1,21 @@
 -- How many policies the tables that are left have.
-use Rattle.std.proofs.Common.{◌≡◌, ℕ, zero, suc, ◌+◌, ◌-◌, ◌<◌, ◌≤◌, true, false, List, [], ◌∷◌, length, drop, map, slice_get, Option, Some, None, refl, ap, ◌∙◌, arith}
+use Rattle.std.proofs.Common.{◌≡◌, ℕ, zero, suc, ◌+◌, ◌-◌, ◌<◌, ◌≤◌, true, false, List, [], ◌∷◌, length, drop, map, slice_get, Some, refl, ap, ◌∙◌, arith}
 use Rattle.std.proofs.Math.ListN.{drop_of_length-le}
+use Rattle.std.proofs.lemmas.List.{length-map}
 use Rattle.std.proofs.lemmas.Bool.Decides.{nat_tests}
 use Rattle.row_ast.specs.Ast.{Name}
 use Rattle.row_objects.specs.Objects.{most_policies}
 use Rattle.row_objects.specs.Policies.{policy_count, has_policy_room}
 use Rattle.row_objects.specs.View.{policy_of, table_entry}
 use Rattle.row_objects.specs.declared.objects.TableDef.{TableDef}
-
-some_value : {V : Type 0} (x y : V) → ◌≡◌ {A = Option V} (Some x) (Some y) → x ≡ y
-some_value x y e = cc
-
-none_is_not : {V : Type 0} (x : V) → ◌≡◌ {A = Option V} None (Some x) → ⊥
-none_is_not x e = cc
-
-length_map : {X Y : Type 0} (f : X → Y) (xs : List X) → length (map f xs) ≡ length xs
-length_map f [] = refl
-length_map f (x ∷ xs) = ap suc (length_map f xs)
+use Rattle.row_objects.proofs.Values.{some_value, none_is_not}
 
 module _ {A : Type 0} where
   -- the policies of the table at a place, and of those after it
   count_next : (es : List (Name × TableDef A)) (i : ℕ) (v : TableDef A) → slice_get (map (λ e. e.1) es) i ≡ Some v
       → policy_count (map table_entry (drop i es)) ≡ length v.policies + policy_count (map table_entry (drop (i + 1) es))
   count_next [] i v h = absurd (none_is_not v h)
-  count_next (e ∷ es) zero v h = ap (λ n. n + policy_count (map table_entry es)) (length_map policy_of e.1.policies ∙ ap (λ t. length t.policies) (some_value e.1 v h))
+  count_next (e ∷ es) zero v h = ap (λ n. n + policy_count (map table_entry es)) (length-map e.1.policies policy_of ∙ ap (λ t. length t.policies) (some_value e.1 v h))
   count_next (e ∷ es) (suc i) v h =
       let more : suc (i + 1) ≡ suc i + 1 = omega arith in
       count_next es i v h ∙ ap (λ n. length v.policies + policy_count (map table_entry (drop n (e ∷ es)))) more

@@ -6,10 +6,10 @@ use Rattle.row_objects.specs.Indexes.{any_index, has_index}
 use Rattle.row_objects.specs.View.{index_of, table_entry}
 use Rattle.row_objects.specs.declared.objects.TableDef.{TableDef}
 
-some_value : {V : Type 0} (x y : V) → ◌≡◌ {A = Option V} (Some x) (Some y) → x ≡ y
+pub some_value : {V : Type 0} (x y : V) → ◌≡◌ {A = Option V} (Some x) (Some y) → x ≡ y
 some_value x y e = cc
 
-none_is_not : {V : Type 0} (x : V) → ◌≡◌ {A = Option V} None (Some x) → ⊥
+pub none_is_not : {V : Type 0} (x : V) → ◌≡◌ {A = Option V} None (Some x) → ⊥
 none_is_not x e = cc
 
 -- the thing at a place, and those after it
