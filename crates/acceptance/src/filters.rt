@@ -535,6 +535,84 @@ fn refused() -> &'static [Filter] {
     &REFUSED
 }
 
+// What PostgreSQL answers in another way.
+static ELSEWHERE: [Filter; 10] = [
+    (
+        "a_table_is_no_column",
+        "boss",
+        "SELECT deal FROM deal",
+        "refused 42703 at 7\n",
+        3,
+    ),
+    (
+        "there_are_no_system_columns",
+        "boss",
+        "SELECT ctid FROM deal",
+        "refused 42703 at 7\n",
+        3,
+    ),
+    (
+        "an_item_has_an_alias_only_after_as",
+        "boss",
+        "SELECT id n FROM deal",
+        "refused 42601 at 10\n",
+        3,
+    ),
+    (
+        "user_is_a_name",
+        "boss",
+        "SELECT user.id FROM deal user WHERE user.id = 1",
+        "id\n1\n",
+        0,
+    ),
+    (
+        "is_null_once",
+        "boss",
+        "SELECT id IS NULL IS NULL FROM deal",
+        "refused 42601 at 18\n",
+        3,
+    ),
+    (
+        "one_sign_for_not_equal",
+        "boss",
+        "SELECT id FROM deal WHERE id != 1",
+        "refused 42601 at 29\n",
+        3,
+    ),
+    (
+        "no_literal_is_converted",
+        "boss",
+        "SELECT id FROM deal WHERE id = '1'",
+        "refused 42804 at 29\n",
+        3,
+    ),
+    (
+        "a_text_is_no_condition",
+        "boss",
+        "SELECT id FROM deal WHERE 't'",
+        "refused 42804 at 26\n",
+        3,
+    ),
+    (
+        "the_heading_of_current_user",
+        "boss",
+        "SELECT CURRENT_USER FROM deal WHERE id = 1",
+        "?column?\nboss\n",
+        0,
+    ),
+    (
+        "the_heading_of_a_case",
+        "boss",
+        "SELECT CASE WHEN TRUE THEN 1 ELSE id END FROM deal WHERE id = 1",
+        "?column?\n1\n",
+        0,
+    ),
+];
+
+fn elsewhere() -> &'static [Filter] {
+    &ELSEWHERE
+}
+
 // A column of truth values as a condition.
 static FLAGGED: [Row; 1] = [(
     "a_column_of_truth_values_is_a_condition",
@@ -626,6 +704,11 @@ fn conditions_choose_among_the_rows_that_are_seen(rt: HostRuntime) {
 #[test]
 fn conditions_are_refused_before_grants(rt: HostRuntime) {
     are_answered(&rt, refused());
+}
+
+#[test]
+fn what_postgresql_answers_otherwise(rt: HostRuntime) {
+    are_answered(&rt, elsewhere());
 }
 
 #[test]

@@ -7,7 +7,7 @@ use crate::sales::{DEALS, REGIONS, SCHEMA};
 use std::process::Abort;
 
 // The owner, FORCE, BYPASSRLS and superusers.
-static FORCED: [Row; 7] = [
+static FORCED: [Row; 9] = [
     (
         "the_owner_sees_all_until_it_is_forced",
         SCHEMA,
@@ -89,6 +89,25 @@ static FORCED: [Row; 7] = [
             Apply("ALTER TABLE deal OWNER TO bob; GRANT SELECT ON deal TO boss;"),
             Ask("bob", "SELECT id FROM deal", "id\n1\n2\n3\n4\n5\n", 0),
             Ask("boss", "SELECT id FROM deal", "id\n", 0),
+        ],
+    ),
+    (
+        "the_owner_keeps_select",
+        SCHEMA,
+        &[
+            Load("deal", DEALS),
+            Apply("REVOKE SELECT ON deal FROM boss;"),
+            Ask("boss", "SELECT id FROM deal", "id\n1\n2\n3\n4\n5\n", 0),
+        ],
+    ),
+    (
+        "grants_stay_with_the_old_owner",
+        SCHEMA,
+        &[
+            Load("deal", DEALS),
+            Apply("GRANT SELECT ON deal TO boss; ALTER TABLE deal OWNER TO bob;"),
+            Ask("boss", "SELECT id FROM deal", "id\n", 0),
+            Ask("bob", "SELECT id FROM deal", "id\n1\n2\n3\n4\n5\n", 0),
         ],
     ),
 ];
