@@ -1,5 +1,5 @@
 -- The expression that decides which rows of a table a role sees.
-use Rattle.std.specs.Prelude.{ℕ, Bool, true, false, List, [], ◌∷◌, map, filter, if◌then◌else◌}
+use Rattle.std.specs.Prelude.{Bool, true, false, List, [], ◌∷◌, map, filter, if◌then◌else◌}
 use Rattle.value.specs.Datum.{Row}
 use Rattle.row_ast.specs.Ast.{Name}
 use Rattle.expr.specs.Bound.{BoundExpr, And, Or, one_expr, bound_exprs_of}

@@ -1,16 +1,17 @@
 -- What holds of guards.
-use Rattle.std.specs.Prelude.{◌≡◌, true, false, List, [], filter}
+use Rattle.std.specs.Prelude.{◌≡◌, true, false, [], filter}
+use Rattle.std.specs.List.{list_all}
 use Rattle.value.specs.Datum.{Row}
 use Rattle.row_ast.specs.Ast.{Name}
-use Rattle.expr.specs.Bound.{BoundExpr}
+use Rattle.expr.specs.Movable.{movable}
 use Rattle.row_objects.specs.Objects.{Table}
 use Rattle.catalog.specs.Catalog.{Catalog}
 use Rattle.access.specs.Access.{is_above, permits, sees}
-use Rattle.access.specs.Guards.{Guard, All, None, Expr, guard, shows}
+use Rattle.access.specs.Guards.{All, None, guard, shows}
 
--- the guard is true on a row exactly where the role sees it
+-- where no policy of the table can fault, the guard is true on a row exactly where the role sees it
 abbrev pub GuardShows : Type 0
-GuardShows = (cat : Catalog) (r : Name) (t : Table) (row : Row) → shows r (guard cat r t) row ≡ sees cat r t row
+GuardShows = (cat : Catalog) (r : Name) (t : Table) (row : Row) → list_all (λ p. movable p.predicate) t.policies ≡ true → shows r (guard cat r t) row ≡ sees cat r t row
 
 -- it is All exactly where the role is above the policies
 abbrev pub AllIsAbove : Type 0

@@ -1,0 +1,13 @@
+use Rattle.std.proofs.Common.{map}
+use Rattle.row_objects.specs.View.{policy_of, table_of}
+use Rattle.access.proofs.Chosen.{by_policies, shown_of}
+use Rattle.access.proofs.guards.table_guard.Goals as goal
+
+pub returns-else-is_above-clause-value : goal.returns-else-is_above-clause-value
+returns-else-is_above-clause-value g c =
+    by_policies c.args.catalog.now c.args.role.now (table_of c.args.table) c.guard_by.result (map (λ p. policy_of p) c.policies.result.now) c.policies.ensures c.if-is_above.ensures c.guard_by.ensures.value
+
+pub returns-else-is_above-clause-shows : goal.returns-else-is_above-clause-shows
+returns-else-is_above-clause-shows g c =
+    shown_of c.args.catalog.now c.args.role.now (table_of c.args.table) c.guard_by.result (map (λ p. policy_of p) c.policies.result.now) c.policies.ensures c.guard_by.ensures.movable
+    (by_policies c.args.catalog.now c.args.role.now (table_of c.args.table) c.guard_by.result (map (λ p. policy_of p) c.policies.result.now) c.policies.ensures c.if-is_above.ensures c.guard_by.ensures.value)

@@ -1,0 +1,236 @@
+//! The guard of a table: which of its rows a role sees (PostgreSQL: Row Security Policies).
+
+ghost use Rattle.std.specs.Prelude.{◌≡◌, ◌∷◌, ◌++◌, [], true, IfOk, OnOk, filter, map};
+ghost use Rattle.value.specs.Datum as value;
+ghost use Rattle.expr.specs.Bound as bound;
+ghost use Rattle.expr.specs.Bound.{bound_exprs_of, one_expr};
+ghost use Rattle.expr.specs.Movable.{all_movable, movable};
+ghost use Rattle.expr.specs.View.{bound_expr_of, bound_exprs};
+ghost use Rattle.row_objects.specs.View.{policy_of, table_of};
+ghost use Rattle.scope.specs.View.{entry_of};
+ghost use Rattle.access.specs.Access.{applies, is_above, permits, restricts, sees};
+ghost use Rattle.access.specs.Guards as spec;
+ghost use Rattle.access.specs.Guards.{predicates};
+ghost use Rattle.access.specs.View.{guard_of};
+
+use crate::privileges::any_includes_role;
+use crate::rows::TableRow;
+use catalog::Catalog;
+use eval::is_true_on;
+use expr::{BoundExpr, MovableExpr, copy_expr};
+use memory::{Heap, boxed};
+use row_objects::{Policy, Table};
+use scope::Entry;
+use std::alloc::AllocError;
+use text::Items;
+
+/// Which rows of a table a role sees.
+#[derive(Drop)]
+pub enum Guard<A: Heap> {
+    /// Every row.
+    All,
+    /// No row.
+    None,
+    /// The rows on which the expression is true.
+    Expr(MovableExpr<A>),
+}
+
+type Predicates<A> = Result<Vec<BoundExpr<A>, A>, AllocError>;
+
+fn applies<A: Heap>(catalog: &Catalog<A>, role: &str, policy: &Policy<A>) -> bool
+    ensures { result ≡ applies catalog.now role.now (policy_of policy.now) }
+{
+    any_includes_role(catalog, role, policy.roles.as_slice())
+}
+
+fn permits<A: Heap>(catalog: &Catalog<A>, role: &str, policy: &Policy<A>) -> bool
+    ensures { result ≡ permits catalog.now role.now (policy_of policy.now) }
+{
+    !policy.restrictive && applies(catalog, role, policy)
+}
+
+fn restricts<A: Heap>(catalog: &Catalog<A>, role: &str, policy: &Policy<A>) -> bool
+    ensures { result ≡ restricts catalog.now role.now (policy_of policy.now) }
+{
+    policy.restrictive && applies(catalog, role, policy)
+}
+
+// Adds the predicate of a policy, which is movable.
+fn push_predicate<A: Heap>(
+    alloc: A,
+    list: &mut Items<BoundExpr<A>, A>,
+    policy: &Policy<A>,
+) -> Result<(), AllocError>
+    ensures value { OnOk result (map bound_expr_of list.new ≡ map bound_expr_of list.old ++ (policy_of policy.now).predicate ∷ []) }
+    ensures movable { movable (policy_of policy.now).predicate ≡ true }
+{
+    match copy_expr(alloc, policy.predicate.expression()) {
+        Ok(copy) => list.push(Box::into_inner(copy)),
+        Err(error) => Err(error),
+    }
+}
+
+// The predicates of the permissive policies that apply to the role.
+fn permissive<A: Heap>(
+    alloc: A,
+    catalog: &Catalog<A>,
+    role: &str,
+    policies: &[Policy<A>],
+) -> Predicates<A>
+    ensures value { IfOk result (λ v. map bound_expr_of v.items ≡ predicates (filter (permits catalog.now role.now) (map (λ p. policy_of p) policies.now))) }
+    ensures movable { IfOk result (λ v. all_movable (bound_exprs v.items) ≡ true) }
+{
+    let mut all = Items::new(alloc);
+    for policy in policies {
+        if permits(catalog, role, policy) {
+            push_predicate(alloc, &mut all, policy)?;
+        }
+    }
+    Ok(all.into_vec())
+}
+
+// An expression, and the predicates of the restrictive policies that apply to the role.
+fn with_restrictive<A: Heap>(
+    alloc: A,
+    first: Box<BoundExpr<A>, A>,
+    catalog: &Catalog<A>,
+    role: &str,
+    policies: &[Policy<A>],
+) -> Predicates<A>
+    requires { movable (bound_expr_of first.value) ≡ true }
+    ensures value { IfOk result (λ v. map bound_expr_of v.items ≡ bound_expr_of first.value ∷ predicates (filter (restricts catalog.now role.now) (map (λ p. policy_of p) policies.now))) }
+    ensures movable { IfOk result (λ v. all_movable (bound_exprs v.items) ≡ true) }
+{
+    let mut all = Items::new(alloc);
+    all.push(Box::into_inner(first))?;
+    for policy in policies {
+        if restricts(catalog, role, policy) {
+            push_predicate(alloc, &mut all, policy)?;
+        }
+    }
+    Ok(all.into_vec())
+}
+
+fn disjunction<A: Heap>(
+    alloc: A,
+    members: Vec<BoundExpr<A>, A>,
+) -> Result<Box<BoundExpr<A>, A>, AllocError>
+    ensures { IfOk result (λ b. bound_expr_of b.value ≡ bound.Or 0 (bound_exprs members.items)) }
+{
+    boxed(alloc, BoundExpr::Or { offset: 0, members })
+}
+
+// The guard of members that are joined by AND and are movable.
+fn conjunction<A: Heap>(alloc: A, members: Vec<BoundExpr<A>, A>) -> Result<Guard<A>, AllocError>
+    requires { all_movable (bound_exprs members.items) ≡ true }
+    ensures { IfOk result (λ g. guard_of g ≡ spec.Expr (bound.And 0 (bound_exprs members.items))) }
+{
+    match boxed(alloc, BoundExpr::And { offset: 0, members }) {
+        Ok(whole) => match MovableExpr::new(whole) {
+            Some(predicate) => Ok(Guard::Expr(predicate)),
+            // It cannot occur: the members are movable.
+            None => Ok(Guard::None),
+        },
+        Err(error) => Err(error),
+    }
+}
+
+// The guard of one of the permissive predicates and all restrictive ones.
+fn combined<A: Heap>(
+    alloc: A,
+    permissive: Vec<BoundExpr<A>, A>,
+    catalog: &Catalog<A>,
+    role: &str,
+    policies: &[Policy<A>],
+) -> Result<Guard<A>, AllocError>
+    requires { all_movable (bound_exprs permissive.items) ≡ true }
+    ensures { IfOk result (λ g. guard_of g ≡ spec.Expr (bound.And 0 (one_expr (bound.Or 0 (bound_exprs permissive.items)) (bound_exprs_of (predicates (filter (restricts catalog.now role.now) (map (λ p. policy_of p) policies.now))))))) }
+{
+    let first = match disjunction(alloc, permissive) {
+        Ok(first) => first,
+        Err(error) => return Err(error),
+    };
+    match with_restrictive(alloc, first, catalog, role, policies) {
+        Ok(members) => conjunction(alloc, members),
+        Err(error) => Err(error),
+    }
+}
+
+// The guard by the policies that apply to the role.
+fn guard_by<A: Heap>(
+    alloc: A,
+    catalog: &Catalog<A>,
+    role: &str,
+    policies: &[Policy<A>],
+) -> Result<Guard<A>, AllocError>
+    ensures value { IfOk result (λ g. guard_of g ≡ spec.guard_by (filter (permits catalog.now role.now) (map (λ p. policy_of p) policies.now)) (filter (restricts catalog.now role.now) (map (λ p. policy_of p) policies.now))) }
+    ensures movable { OnOk result (all_movable (bound_exprs_of (predicates (filter (permits catalog.now role.now) (map (λ p. policy_of p) policies.now)))) ≡ true) }
+{
+    match permissive(alloc, catalog, role, policies) {
+        Ok(permissive) => {
+            if permissive.is_empty() {
+                Ok(Guard::None)
+            } else {
+                combined(alloc, permissive, catalog, role, policies)
+            }
+        }
+        Err(error) => Err(error),
+    }
+}
+
+// Whether the policies of the table do not act on the role.
+fn is_above<A: Heap>(catalog: &Catalog<A>, role: &str, table: Table<'_, A>) -> bool
+    ensures { result ≡ is_above catalog.now role.now (table_of table.entry) }
+{
+    !table.row_security()
+        || catalog.is_superuser(role)
+        || catalog.bypasses_rls(role)
+        || (catalog.is_member(role, table.owner()) && !table.forced())
+}
+
+/// The guard of a table for a role.
+pub fn table_guard<A: Heap>(
+    alloc: A,
+    catalog: &Catalog<A>,
+    role: &str,
+    table: Table<'_, A>,
+) -> Result<Guard<A>, AllocError>
+    ensures value { IfOk result (λ g. guard_of g ≡ spec.guard catalog.now role.now (table_of table.entry)) }
+    ensures shows { IfOk result (λ g. (row : value.Row) → spec.shows role.now (guard_of g) row ≡ sees catalog.now role.now (table_of table.entry) row) }
+{
+    if is_above(catalog, role, table) {
+        Ok(Guard::All)
+    } else {
+        guard_by(alloc, catalog, role, table.policies())
+    }
+}
+
+/// Whether the guard lets the role see a row. It takes no memory.
+pub fn shows<A: Heap>(alloc: A, guard: &Guard<A>, role: &str, row: &TableRow<'_, A>) -> bool
+    ensures { result ≡ spec.shows role.now (guard_of guard.now) row.now }
+{
+    match guard {
+        Guard::All => true,
+        Guard::None => false,
+        Guard::Expr(predicate) => is_true_on(alloc, predicate.expression(), row, role),
+    }
+}
+
+/// The guard of each entry, in order.
+pub fn frame<'s, A: Heap>(
+    alloc: A,
+    catalog: &Catalog<A>,
+    role: &str,
+    entries: &[Entry<'s, A>],
+) -> Result<Items<Guard<A>, A>, AllocError>
+    ensures { IfOk result (λ guards. map guard_of guards ≡ spec.frame catalog.now role.now (map (λ e. entry_of e) entries.now)) }
+{
+    let mut guards = Items::new(alloc);
+    for entry in entries {
+        match table_guard(alloc, catalog, role, entry.table) {
+            Ok(guard) => guards.push(guard)?,
+            Err(error) => return Err(error),
+        }
+    }
+    Ok(guards)
+}
