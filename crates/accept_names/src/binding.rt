@@ -1,12 +1,10 @@
 //! Queries over the tables of `names`, and what they are with their columns found, or the first fault.
 
 use crate::bound_texts::show_bound_query;
-use crate::names::{catalog, query};
-use binder::bind_query;
+use crate::names::{catalog, fault_as, query};
 use catalog::Catalog;
 use fixtures::Printer;
-use memory::Failure;
-use resolve::{NameFault, entries};
+use resolve::{bind_query, entries};
 use row_ast::Query;
 use std::alloc::{AllocError, Global};
 use std::process::Abort;
@@ -135,13 +133,6 @@ static PLACED: [(&str, &str); 2] = [
         "count: count@7(*), sum: sum@17(0.0), ?column?: CASE@26[OR@46[(0.0 IN@39 [1]), (0.0 BETWEEN@52 1 AND 2)] -> 0.0] FROM 0 HAVING (count@97(*) >@106 0)",
     ),
 ];
-
-fn fault_as(alloc: Global, failure: Failure<NameFault>) -> Result<String, AllocError> {
-    match failure {
-        Failure::Fault(fault) => { format!(in alloc; "{} at {}", fault.code.code(), fault.offset) }
-        Failure::OutOfMemory => format!(in alloc; "out of memory"),
-    }
-}
 
 // The bound query as a text, or its first fault.
 fn bound_as(

@@ -1,10 +1,10 @@
 //! Bound queries written as texts: a column is its numbers, `entry.column`, and all else is as `fixtures` writes it.
 
-use binder::{BoundCondition, BoundItem, BoundQuery};
 use expr::{BoundArm, BoundExpr, ColumnId};
 use fixtures::{
     Printer, aggregate_name, arithmetic_sign, comparison_sign, show_value, show_values, type_name,
 };
+use scope::{BoundCondition, BoundItem, BoundQuery};
 use std::alloc::{AllocError, Global};
 
 fn show_id(id: &ColumnId, out: &mut Printer) -> Result<(), AllocError> {

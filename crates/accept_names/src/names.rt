@@ -3,8 +3,9 @@
 use access::RequiredPrivilege;
 use catalog::Catalog;
 use memory::{Failure, Heap, boxed};
-use resolve::{NameFault, first_name_fault, found_names, needed};
+use resolve::{bind, bind_query, entries, needed};
 use row_ast::{Query, Statement};
+use scope::NameFault;
 use std::alloc::{AllocError, Global};
 use std::process::Abort;
 use std::test::Fail;
@@ -177,6 +178,32 @@ fn shown(alloc: Global, required: &[RequiredPrivilege<'_, Global>]) -> Result<St
     Ok(shown)
 }
 
+/// A fault as a text.
+pub fn fault_as(alloc: Global, failure: Failure<NameFault>) -> Result<String, AllocError> {
+    match failure {
+        Failure::Fault(fault) => { format!(in alloc; "{} at {}", fault.code.code(), fault.offset) }
+        Failure::OutOfMemory => format!(in alloc; "out of memory"),
+    }
+}
+
+// What a query needs to read as a text, or its first fault.
+fn needed_as(
+    alloc: Global,
+    catalog: &Catalog<Global>,
+    query: &Query<Global>,
+) -> Result<String, AllocError> {
+    let entries = match entries(alloc, catalog, query.from.as_slice()) {
+        Ok(entries) => entries,
+        Err(failure) => return fault_as(alloc, failure),
+    };
+    let bound = match bind_query(alloc, entries.as_slice(), query) {
+        Ok(bound) => bound,
+        Err(failure) => return fault_as(alloc, failure),
+    };
+    let required = needed(alloc, entries.as_slice(), &bound)?;
+    shown(alloc, required.as_slice())
+}
+
 fn needs(
     rt: &(impl Abort + AllocGlobal),
     catalog: &Catalog<Global>,
@@ -184,20 +211,8 @@ fn needs(
 ) -> Result<(), AllocError> {
     let (text, want) = row;
     let query = query(rt, text)?;
-    match found_names(rt.alloc(), catalog, &query) {
-        Ok(names) => {
-            let required = needed(rt.alloc(), &names)?;
-            let got = shown(rt.alloc(), required.as_slice())?;
-            assert_eq!(rt; got.as_str(), *want, "{text}");
-        }
-        Err(Failure::Fault(fault)) => panic!(rt; "{text}: {fault:?}"),
-        Err(Failure::OutOfMemory) => panic!(rt; "{text}"),
-    }
-    assert_eq!(rt;
-        first_name_fault(rt.alloc(), catalog, &query)?,
-        None,
-        "{text}"
-    );
+    let got = needed_as(rt.alloc(), catalog, &query)?;
+    assert_eq!(rt; got.as_str(), *want, "{text}");
     Ok(())
 }
 
@@ -212,15 +227,10 @@ fn fails(
         code: *code,
         offset: *offset,
     };
-    match found_names(rt.alloc(), catalog, &query) {
+    match bind(rt.alloc(), catalog, &query) {
         Err(Failure::Fault(fault)) => assert_eq!(rt; fault, want, "{text}"),
         _ => panic!(rt; "{text}"),
     }
-    assert_eq!(rt;
-        first_name_fault(rt.alloc(), catalog, &query)?,
-        Some(want),
-        "{text}"
-    );
     Ok(())
 }
 

@@ -9,7 +9,7 @@ use std::alloc::AllocError;
 use std::process::Abort;
 use value::Refusal;
 
-const TEXT: &str = "SELECT id FROM deal";
+const TEXT: &str = "SELECT id FROM deal WHERE id IN (1, 2) AND NOT owner = 'bob'";
 
 // How many requests the store of the worked rows takes.
 fn requests_of_deals(rt: &(impl Abort + AllocGlobal)) -> u64 {

@@ -50,8 +50,8 @@ static SCHEMAS: [(&str, &str); 5] = [
         "schema statement 1 refused 42P01\n",
     ),
     (
-        "CREATE ROLE a; CREATE POLICY p ON t USING (TRUE);",
-        "schema statement 2 refused 0A000\n",
+        "CREATE TABLE t (a bigint); CREATE POLICY p ON t USING (1 / a = 1);",
+        "schema statement 2 refused 42P17\n",
     ),
 ];
 

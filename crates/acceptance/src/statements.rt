@@ -261,8 +261,8 @@ static REFUSED: [Group; 7] = [
             ),
             (
                 "root",
-                "CREATE POLICY p ON deal USING (id = 1);",
-                Statement(Refusal::FeatureNotSupported),
+                "CREATE POLICY p ON nosuch AS RESTRICTIVE TO nosuch USING (1 = id);",
+                Statement(Refusal::UndefinedTable),
             ),
         ],
     ),
@@ -397,25 +397,122 @@ static REFUSED: [Group; 7] = [
     ),
 ];
 
-// What is not supported yet is refused before all else: names that nothing has, and an actor that may not.
-static NOT_SERVED: [&str; 9] = [
-    "CREATE POLICY p ON nosuch USING (id > 1);",
-    "CREATE POLICY p ON nosuch AS RESTRICTIVE USING (id = 1);",
-    "CREATE POLICY p ON nosuch TO nosuch USING (1 = id);",
-    "CREATE POLICY p ON deal USING (id = 1 AND owner = 'x');",
-    "CREATE POLICY p ON deal USING (TRUE);",
-    "CREATE POLICY p ON deal USING (id = id);",
-    "CREATE POLICY p ON deal USING (id = 1 IS NULL);",
-    "CREATE POLICY p ON deal USING (id + 1 = 2);",
-    "CREATE POLICY p ON deal USING (NOT id = 1);",
+static REFUSED_POLICIES: [Group; 2] = [
+    (
+        "the_first_refusal_of_a_policy",
+        "",
+        &[
+            (
+                "zed",
+                "CREATE POLICY own ON nosuch TO nosuch USING (nosuch);",
+                Statement(Refusal::UndefinedObject),
+            ),
+            (
+                "alice",
+                "CREATE POLICY own ON nosuch TO nosuch USING (nosuch);",
+                Statement(Refusal::UndefinedTable),
+            ),
+            (
+                "alice",
+                "CREATE POLICY own ON deal TO nosuch USING (nosuch);",
+                Statement(Refusal::InsufficientPrivilege),
+            ),
+            (
+                "boss",
+                "CREATE POLICY own ON deal TO alice, nosuch USING (nosuch);",
+                Statement(Refusal::UndefinedObject),
+            ),
+            (
+                "boss",
+                "CREATE POLICY own ON deal TO alice USING (nosuch);",
+                Statement(Refusal::DuplicateObject),
+            ),
+            (
+                "boss",
+                "CREATE POLICY p ON deal USING (nosuch = count(*));",
+                Statement(Refusal::UndefinedColumn),
+            ),
+            (
+                "boss",
+                "CREATE POLICY p ON deal USING (other.id = count(*));",
+                Statement(Refusal::UndefinedTable),
+            ),
+            (
+                "boss",
+                "CREATE POLICY p ON deal USING (count(*) = 'x');",
+                Statement(Refusal::GroupingError),
+            ),
+            (
+                "boss",
+                "CREATE POLICY p ON deal USING (id = 1 AND max(id));",
+                Statement(Refusal::GroupingError),
+            ),
+            (
+                "boss",
+                "CREATE POLICY p ON deal USING (id + 1);",
+                Statement(Refusal::DatatypeMismatch),
+            ),
+        ],
+    ),
+    (
+        "conditions_that_no_policy_has",
+        "",
+        &[
+            (
+                "boss",
+                "CREATE POLICY p ON deal USING (id);",
+                Statement(Refusal::DatatypeMismatch),
+            ),
+            (
+                "boss",
+                "CREATE POLICY p ON deal USING ('x');",
+                Statement(Refusal::DatatypeMismatch),
+            ),
+            (
+                "boss",
+                "CREATE POLICY p ON deal USING (id IN (1, 'x'));",
+                Statement(Refusal::DatatypeMismatch),
+            ),
+            (
+                "boss",
+                "CREATE POLICY p ON deal USING (CASE WHEN id = 1 THEN 1 ELSE owner END = 1);",
+                Statement(Refusal::DatatypeMismatch),
+            ),
+            (
+                "boss",
+                "CREATE POLICY p ON deal USING (id + 1 = 2);",
+                Statement(Refusal::InvalidObjectDefinition),
+            ),
+            (
+                "boss",
+                "CREATE POLICY p ON deal USING (id = 1 OR id / id > 1);",
+                Statement(Refusal::InvalidObjectDefinition),
+            ),
+            (
+                "boss",
+                "CREATE POLICY p ON deal USING (- id < 0);",
+                Statement(Refusal::InvalidObjectDefinition),
+            ),
+            (
+                "boss",
+                "CREATE POLICY p ON deal USING (CAST(owner AS bigint) = 1);",
+                Statement(Refusal::InvalidObjectDefinition),
+            ),
+            (
+                "boss",
+                "CREATE POLICY p ON deal AS RESTRICTIVE USING (CASE WHEN TRUE THEN TRUE ELSE id % 2 = 0 END);",
+                Statement(Refusal::InvalidObjectDefinition),
+            ),
+        ],
+    ),
 ];
 
 fn refused() -> &'static [Group] {
     &REFUSED
 }
 
-fn not_supported() -> &'static [&'static str] {
-    &NOT_SERVED
+fn refused_policies() -> &'static [Group] {
+    &REFUSED_POLICIES
 }
 
 // The store of the deals, after what root applies.
@@ -461,28 +558,17 @@ fn refused_statements_and_schemas(rt: HostRuntime) {
     }
 }
 
-fn served_to_nobody(rt: &(impl Abort + AllocGlobal), text: &str) {
-    for actor in ["root", "lone", "zed"] {
-        let mut store = made(rt, deals(rt.alloc()));
-        let done = apply(rt.alloc(), &mut store, actor, text);
-        let want = Err(Failure::Fault(Statement(Refusal::FeatureNotSupported)));
-        assert_eq!(rt; done, want, "{actor}: {text}");
-        assert_eq!(rt; store.catalog().roles(), 4, "{actor}: {text}");
-        assert_eq!(rt; store.catalog().tables(), 1, "{actor}: {text}");
-    }
-}
-
 #[test]
-fn statements_not_supported_yet_are_refused_before_all_else(rt: HostRuntime) {
-    for text in not_supported() {
-        served_to_nobody(&rt, text);
+fn policies_are_refused_in_order(rt: HostRuntime) {
+    for group in refused_policies() {
+        are_refused(&rt, group);
     }
 }
 
 // A name, the texts that actors apply in turn, and the number of tables after them.
 type Accepted = (&'static str, &'static [(&'static str, &'static str)], usize);
 
-static ACCEPTED: [Accepted; 5] = [
+static ACCEPTED: [Accepted; 6] = [
     (
         "served_with_all_words",
         &[
@@ -534,6 +620,22 @@ static ACCEPTED: [Accepted; 5] = [
             "CREATE INDEX i ON deal (id); CREATE INDEX j ON deal (owner); DROP POLICY own ON deal;
         CREATE POLICY own ON deal USING (id = 1); ALTER TABLE deal NO FORCE ROW LEVEL SECURITY;",
         )],
+        1,
+    ),
+    (
+        "policies_of_any_condition_that_cannot_fault",
+        &[
+            (
+                "boss",
+                "CREATE POLICY p ON deal USING (id = 1 AND owner = 'x'); CREATE POLICY q ON deal USING (TRUE);
+        CREATE POLICY r ON deal USING (id = deal.id); CREATE POLICY s ON deal USING (NOT id = 1 IS NULL);",
+            ),
+            (
+                "root",
+                "CREATE POLICY t ON deal AS RESTRICTIVE FOR ALL TO alice USING (CASE WHEN id IN (1, NULL) THEN owner < 'b' END);
+        CREATE POLICY u ON deal USING (NULL); CREATE POLICY v ON deal USING (id NOT BETWEEN 1 AND 2 OR CURRENT_USER = owner);",
+            ),
+        ],
         1,
     ),
     ("empty_schema_is_accepted", &[("root", " \n")], 1),
@@ -596,5 +698,41 @@ fn limits_of_roles_and_tables(rt: HostRuntime) -> Result<(), Fail> {
     past_limit(&rt, &mut store, "CREATE TABLE more (a text);");
     assert_eq!(rt; store.catalog().roles(), 256);
     assert_eq!(rt; store.catalog().tables(), 64);
+    Ok(())
+}
+
+// The store of the deals with 256 policies, on its table and another one.
+fn all_policies(rt: &(impl Abort + AllocGlobal)) -> Result<Box<Store<Global>>, AllocError> {
+    let mut store = store_after(
+        rt,
+        "CREATE TABLE t (a bigint); CREATE POLICY p ON t USING (a = 1);",
+    );
+    applied_times(
+        rt,
+        &mut store,
+        ("CREATE POLICY p", " ON t USING (TRUE);"),
+        150,
+    )?;
+    applied_times(
+        rt,
+        &mut store,
+        ("CREATE POLICY q", " ON deal USING (id = 1);"),
+        104,
+    )?;
+    Ok(store)
+}
+
+fn policy_after_a_dropped_one(rt: &(impl Abort + AllocGlobal), store: &mut Store<Global>) {
+    let text = "DROP POLICY p7 ON t; CREATE POLICY more ON deal USING (TRUE);";
+    assert_eq!(rt; apply(rt.alloc(), store, "root", text), Ok(()), "{text}");
+}
+
+#[test]
+fn limit_of_policies(rt: HostRuntime) -> Result<(), Fail> {
+    let mut store = all_policies(&rt)?;
+    past_limit(&rt, &mut store, "CREATE POLICY more ON t USING (TRUE);");
+    past_limit(&rt, &mut store, "CREATE POLICY more ON deal USING (TRUE);");
+    policy_after_a_dropped_one(&rt, &mut store);
+    past_limit(&rt, &mut store, "CREATE POLICY last ON t USING (TRUE);");
     Ok(())
 }
