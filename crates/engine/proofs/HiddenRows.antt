@@ -4,7 +4,8 @@ use Rattle.std.specs.Prelude.{slice_get}
 use Rattle.std.specs.List.{flat_map, list_all, list_any}
 use Rattle.std.proofs.lemmas.Bool.Decides.{nat_tests}
 use Rattle.std.proofs.lemmas.List.Elements.{Contains-append_left, Contains-append_right}
-use Rattle.bags.proofs.Order.{SameSums, sorted_by-SameSums}
+use Rattle.bags.specs.Sorting.{sorted_by}
+use Rattle.bags.proofs.Order.{sorted_by-SameSums}
 use Rattle.bags.proofs.Sums.{SameSums-kept}
 use Rattle.value.specs.Datum.{Row}
 use Rattle.value.specs.Orders.{row_cmp}
@@ -55,7 +56,7 @@ or_later false b h = h
 place_among : (ids : List ColumnId) (id : ColumnId) → Contains ids id → list_any (λ c. c == id.column) (map (λ id. id.column) ids) ≡ true
 place_among [] id c = absurd (none c)
   where
-    none : Contains ([] : List ColumnId) id → ⊥
+    none : Contains {X = ColumnId} [] id → ⊥
     none c = omega (arith, c.1)
 place_among (x ∷ ids) id (zero, less, is) = rw (← is, itself x.column)
 place_among (x ∷ ids) id (suc k, less, is) = or_later (x.column == id.column) _ (place_among ids id (k, omega (arith, less), is))
@@ -122,13 +123,10 @@ same_answer : (cat : Catalog) (role : Name) (q : BoundQuery) (e : Entry) (one ot
     IsPermutation (map (restricted (named_places q)) (visible cat role e.table (one e.table.name))) (map (restricted (named_places q)) (visible cat role e.table (other e.table.name))) →
     answer cat one role q e ≡ answer cat other role q e
 same_answer cat role q e one other same =
-    ap (sorted_by-of) (sym (seen_rows (visible cat role e.table (one e.table.name))))
+    ap (sorted_by row_cmp) (sym (seen_rows (visible cat role e.table (one e.table.name))))
     ∙ sorted_by-SameSums row_cmp row_cmp_total row_cmp_exact _ _ (SameSums-kept (passes role q.filter) (values_of role q.items) _ _ same)
-    ∙ ap (sorted_by-of) (seen_rows (visible cat role e.table (other e.table.name)))
+    ∙ ap (sorted_by row_cmp) (seen_rows (visible cat role e.table (other e.table.name)))
   where
-    abbrev sorted_by-of : List Row → List Row
-    sorted_by-of = Rattle.bags.specs.Sorting.sorted_by row_cmp
-
     seen_rows : (rows : List Row) → map (values_of role q.items) (filter (passes role q.filter) (map (restricted (named_places q)) rows)) ≡ map (values_of role q.items) (filter (passes role q.filter) rows)
     seen_rows = rows_kept (restricted (named_places q)) (passes role q.filter) (values_of role q.items)
         (λ row. same_passes (named_columns q) row role q.filter (λ id c. Contains-append_right (flat_map item_columns q.items) (condition_columns q.filter) id c))

@@ -1,12 +1,14 @@
 -- How walks over members, items and rows continue.
-use Rattle.std.proofs.Common.{◌≡◌, ℕ, suc, ◌+◌, ◌<◌, Bool, true, false, ◌&&◌, cond, List, [], ◌∷◌, ◌++◌, length, map, filter, get_or, drop, drop-cons, refl, sym, ap, ◌∙◌, append_assoc, arith}
+use Rattle.std.proofs.Common.{◌≡◌, ℕ, suc, ◌+◌, ◌<◌, Bool, true, false, ◌&&◌, cond, List, [], ◌∷◌, ◌++◌, length, map, filter, get_or, drop, drop-cons, refl, sym, ap, ◌∙◌, append_assoc, arith, Ok}
 use Rattle.std.specs.List.{list_all}
-use Rattle.expr.specs.Bound as bound
+use Rattle.value.specs.Datum.{Datum}
+use Rattle.eval.specs.Meaning.{Outcome}
 use Rattle.expr.specs.Movable.{movable, all_movable}
 use Rattle.expr.specs.View.{bound_expr_of, bound_exprs}
 use Rattle.expr.specs.declared.bound.BoundExpr.{BoundExpr}
 use Rattle.expr.proofs.Walks.{exprs_step}
 use Rattle.resolve.specs.Conjuncts.{members}
+use Rattle.engine.specs.Answer.{value_in}
 
 pub and_left : (a b : Bool) → (a && b) ≡ true → a ≡ true
 and_left true b h = refl
@@ -42,8 +44,16 @@ module _ {X W : Type 0} (p : W → Bool) (v : X → W) (xs : List X) (k : ℕ) (
   pub all_here : list_all p (map v (drop k xs)) ≡ true → p (v x) ≡ true
   all_here h = and_left _ _ (sym all_step ∙ h)
 
+  pub all_goes_on : {whole : Bool} → list_all p (map v (drop k xs)) ≡ whole → p (v x) ≡ true → list_all p (map v (drop (k + 1) xs)) ≡ whole
+  all_goes_on so_far h = ap (λ b. b && list_all p (map v (drop (k + 1) xs))) (sym h) ∙ sym all_step ∙ so_far
+
   pub all_after : list_all p (map v (drop k xs)) ≡ true → list_all p (map v (drop (k + 1) xs)) ≡ true
   all_after h = and_right _ _ (sym all_step ∙ h)
+
+-- ---- values
+
+pub value_is : (d : Datum) (m : Outcome) → Ok d ≡ m → d ≡ value_in m
+value_is d m e = ap value_in e
 
 -- ---- rows
 

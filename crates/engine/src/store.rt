@@ -43,6 +43,7 @@ impl<A: Heap> Model for Store<A> {
 
     ghost Value = { Database };
 
+    ghost use Rattle.std.specs.Prelude.{ℕ};
     ghost use Rattle.std.specs.Coded.{codes, coded_ℕ};
     ghost use Rattle.expr.specs.declared.movable_expr.MovableExpr as movable_expr;
 
