@@ -87,22 +87,22 @@ module _ (ids : List ColumnId) (row : Row) where
     one_alone e within = ap (λ b. b && true) (same_holds (cells_of kept_row) (cells_of row) role e (agree (columns e) within))
 
     same_conjuncts : (e : BoundExpr) → ((id : ColumnId) → Contains (columns e) id → Contains ids id) → list_all (holds (cells_of kept_row) role) (conjuncts_of e) ≡ list_all (holds (cells_of row) role) (conjuncts_of e)
-    same_conjuncts (bound.Column id) within = one_alone _ within
-    same_conjuncts (bound.Literal d) within = one_alone _ within
-    same_conjuncts bound.CurrentUser within = one_alone _ within
-    same_conjuncts (bound.Negate offset e) within = one_alone _ within
-    same_conjuncts (bound.Arithmetic op offset e f) within = one_alone _ within
-    same_conjuncts (bound.Comparison op offset e f) within = one_alone _ within
-    same_conjuncts (bound.Between negated offset e low high) within = one_alone _ within
-    same_conjuncts (bound.In negated offset values e) within = one_alone _ within
-    same_conjuncts (bound.IsNull negated offset e) within = one_alone _ within
-    same_conjuncts (bound.Not offset e) within = one_alone _ within
+    same_conjuncts (bound.Column id) within = one_alone (bound.Column id) within
+    same_conjuncts (bound.Literal d) within = one_alone (bound.Literal d) within
+    same_conjuncts bound.CurrentUser within = one_alone bound.CurrentUser within
+    same_conjuncts (bound.Negate offset e) within = one_alone (bound.Negate offset e) within
+    same_conjuncts (bound.Arithmetic op offset e f) within = one_alone (bound.Arithmetic op offset e f) within
+    same_conjuncts (bound.Comparison op offset e f) within = one_alone (bound.Comparison op offset e f) within
+    same_conjuncts (bound.Between negated offset e low high) within = one_alone (bound.Between negated offset e low high) within
+    same_conjuncts (bound.In negated offset values e) within = one_alone (bound.In negated offset values e) within
+    same_conjuncts (bound.IsNull negated offset e) within = one_alone (bound.IsNull negated offset e) within
+    same_conjuncts (bound.Not offset e) within = one_alone (bound.Not offset e) within
     same_conjuncts (bound.And offset es) within = same_members es within
-    same_conjuncts (bound.Or offset es) within = one_alone _ within
-    same_conjuncts (bound.Cast offset to e) within = one_alone _ within
-    same_conjuncts (bound.Case offset as_ o) within = one_alone _ within
-    same_conjuncts (bound.CountStar offset) within = one_alone _ within
-    same_conjuncts (bound.Call f offset e) within = one_alone _ within
+    same_conjuncts (bound.Or offset es) within = one_alone (bound.Or offset es) within
+    same_conjuncts (bound.Cast offset to e) within = one_alone (bound.Cast offset to e) within
+    same_conjuncts (bound.Case offset as_ o) within = one_alone (bound.Case offset as_ o) within
+    same_conjuncts (bound.CountStar offset) within = one_alone (bound.CountStar offset) within
+    same_conjuncts (bound.Call f offset e) within = one_alone (bound.Call f offset e) within
 
     same_passes : (condition : Option BoundExpr) → ((id : ColumnId) → Contains (condition_columns condition) id → Contains ids id) → passes role condition kept_row ≡ passes role condition row
     same_passes None within = refl
@@ -119,18 +119,25 @@ rows_kept f p g same_p same_g (row ∷ rows) = ap (λ b. map g (cond b (f row �
     go true h = ap₂ ◌∷◌ (same_g row) h
     go false h = h
 
+module _ (role : Name) (q : BoundQuery) where
+  abbrev of_rows : List Row → List Row
+  of_rows rows = map (values_of role q.items) (filter (passes role q.filter) rows)
+
+  seen_rows : (rows : List Row) → of_rows (map (restricted (named_places q)) rows) ≡ of_rows rows
+  seen_rows = rows_kept (restricted (named_places q)) (passes role q.filter) (values_of role q.items)
+      (λ row. same_passes (named_columns q) row role q.filter (λ id c. Contains-append_right (flat_map item_columns q.items) (condition_columns q.filter) id c))
+      (λ row. same_items (named_columns q) row role q.items (λ id c. Contains-append_left (flat_map item_columns q.items) (condition_columns q.filter) id c))
+
 same_answer : (cat : Catalog) (role : Name) (q : BoundQuery) (e : Entry) (one other : Rows) →
     IsPermutation (map (restricted (named_places q)) (visible cat role e.table (one e.table.name))) (map (restricted (named_places q)) (visible cat role e.table (other e.table.name))) →
     answer cat one role q e ≡ answer cat other role q e
 same_answer cat role q e one other same =
-    ap (sorted_by row_cmp) (sym (seen_rows (visible cat role e.table (one e.table.name))))
-    ∙ sorted_by-SameSums row_cmp row_cmp_total row_cmp_exact _ _ (SameSums-kept (passes role q.filter) (values_of role q.items) _ _ same)
-    ∙ ap (sorted_by row_cmp) (seen_rows (visible cat role e.table (other e.table.name)))
-  where
-    seen_rows : (rows : List Row) → map (values_of role q.items) (filter (passes role q.filter) (map (restricted (named_places q)) rows)) ≡ map (values_of role q.items) (filter (passes role q.filter) rows)
-    seen_rows = rows_kept (restricted (named_places q)) (passes role q.filter) (values_of role q.items)
-        (λ row. same_passes (named_columns q) row role q.filter (λ id c. Contains-append_right (flat_map item_columns q.items) (condition_columns q.filter) id c))
-        (λ row. same_items (named_columns q) row role q.items (λ id c. Contains-append_left (flat_map item_columns q.items) (condition_columns q.filter) id c))
+    let seen : List Row = visible cat role e.table (one e.table.name) in
+    let seen' : List Row = visible cat role e.table (other e.table.name) in
+    ap (sorted_by row_cmp) (sym (seen_rows role q seen))
+    ∙ sorted_by-SameSums row_cmp row_cmp_total row_cmp_exact (of_rows role q (map (restricted (named_places q)) seen)) (of_rows role q (map (restricted (named_places q)) seen'))
+    (SameSums-kept (passes role q.filter) (values_of role q.items) (map (restricted (named_places q)) seen) (map (restricted (named_places q)) seen') same)
+    ∙ ap (sorted_by row_cmp) (seen_rows role q seen')
 
 -- ---- the reply
 

@@ -1,5 +1,6 @@
 -- How walks over members, items and rows continue.
-use Rattle.std.proofs.Common.{◌≡◌, ℕ, suc, ◌+◌, ◌<◌, Bool, true, false, ◌&&◌, cond, List, [], ◌∷◌, ◌++◌, length, map, filter, get_or, drop, drop-cons, refl, sym, ap, ◌∙◌, append_assoc, arith, Ok}
+use Rattle.std.proofs.Common.{◌≡◌, ℕ, suc, ◌+◌, ◌<◌, Bool, true, false, ◌&&◌, cond, List, [], ◌∷◌, ◌++◌, length, map, filter, get_or, drop, drop-cons, refl, sym, ap, ◌∙◌, append_assoc, arith, Ok, Err, Result, None}
+use Rattle.std.specs.Prelude.{IfOk, slice_get}
 use Rattle.std.specs.List.{list_all}
 use Rattle.value.specs.Datum.{Datum}
 use Rattle.eval.specs.Meaning.{Outcome}
@@ -8,7 +9,14 @@ use Rattle.expr.specs.View.{bound_expr_of, bound_exprs}
 use Rattle.expr.specs.declared.bound.BoundExpr.{BoundExpr}
 use Rattle.expr.proofs.Walks.{exprs_step}
 use Rattle.resolve.specs.Conjuncts.{members}
-use Rattle.engine.specs.Answer.{value_in}
+use Rattle.resolve.specs.Resolved.{Bound}
+use Rattle.resolve.specs.Served.{is_served}
+use Rattle.catalog.specs.Catalog.{Catalog}
+use Rattle.row_ast.specs.Ast.{Name, Query}
+use Rattle.report.specs.Reply.{Refused}
+use Rattle.value.specs.declared.refusal.Refusal.TheVariants.{FeatureNotSupported}
+use Rattle.engine.specs.Database.{Rows}
+use Rattle.engine.specs.Answer.{first_reply, served_reply, value_in}
 
 pub and_left : (a b : Bool) → (a && b) ≡ true → a ≡ true
 and_left true b h = refl
@@ -89,3 +97,13 @@ module _ {X Z : Type 0} (p q : X → Bool) (g : X → Z) where
 pub filter_same : {X : Type 0} (p q : X → Bool) → ((x : X) → p x ≡ q x) → (xs : List X) → filter p xs ≡ filter q xs
 filter_same p q same [] = refl
 filter_same p q same (x ∷ xs) = ap (λ b. cond b (x ∷ filter p xs) (filter p xs)) (same x) ∙ ap (λ l. cond (q x) (x ∷ l) l) (filter_same p q same xs)
+
+-- ---- replies
+
+-- a result of which one thing is said, and the same thing
+pub same_due : {X Y E : Type 0} (v : X → Y) (r : Result X E) (a b : Y) → a ≡ b → IfOk r (λ x. v x ≡ a) → IfOk r (λ x. v x ≡ b)
+same_due v (Ok x) a b e h = h ∙ e
+same_due v (Err f) a b e h = tt
+
+pub is_first : (cat : Catalog) (rows : Rows) (role : Name) (q : Query) (b : Bound) → is_served q b.query ≡ true → first_reply cat rows role b.query (slice_get b.entries 0) ≡ served_reply cat rows role q b
+is_first cat rows role q b h = sym (ap (λ s. cond s (first_reply cat rows role b.query (slice_get b.entries 0)) (Refused FeatureNotSupported None)) h)

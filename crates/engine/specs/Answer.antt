@@ -43,9 +43,12 @@ values_of role items row = map (value_of role row) items
 abbrev pub passes : Name → Option BoundExpr → Row → Bool
 passes role condition row = list_all (holds (cells_of row) role) (conjuncts condition)
 
--- the items of each row of the table that the role sees and that passes WHERE, in order
+-- of rows of a table the items of each that the role sees and that passes WHERE, in order
+abbrev pub answered_rows : Catalog → Name → BoundQuery → Entry → List Row → List Row
+answered_rows cat role q e rows = sorted_by row_cmp (map (values_of role q.items) (filter (passes role q.filter) (visible cat role e.table rows)))
+
 abbrev pub answer : Catalog → Rows → Name → BoundQuery → Entry → List Row
-answer cat rows role q e = sorted_by row_cmp (map (values_of role q.items) (filter (passes role q.filter) (visible cat role e.table (rows e.table.name))))
+answer cat rows role q e = answered_rows cat role q e (rows e.table.name)
 
 -- ---- replies
 

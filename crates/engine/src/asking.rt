@@ -1,26 +1,27 @@
 //! Asking.
 
-ghost use Rattle.std.specs.Prelude.{◌≡◌, IfOk, Ok, None, Some, map, filter, option_map, slice_get, true};
-ghost use Rattle.bags.specs.Sorting.{sorted_by};
+ghost use Rattle.std.specs.Prelude.{◌≡◌, IfOk, Ok, None, map, option_map, slice_get, true};
 ghost use Rattle.value.specs.Datum.{row_of};
-ghost use Rattle.value.specs.Orders.{row_cmp};
 ghost use Rattle.row_ast.specs.View.{query_of};
 ghost use Rattle.syntax.specs.Parsing.{parsed_query};
 ghost use Rattle.scope.specs.View.{bound_item_of, bound_query_of, entry_of};
+ghost use Rattle.access.specs.Access.{denial};
 ghost use Rattle.access.specs.View.{privilege_of};
+ghost use Rattle.resolve.specs.Needed.{needed};
 ghost use Rattle.resolve.specs.Served.{are_served_parts};
 ghost use Rattle.resolve.specs.View.{bound_of};
 ghost use Rattle.report.specs.Reply as reply;
 ghost use Rattle.value.specs.declared.refusal.Refusal.TheVariants as codes;
 ghost use Rattle.report.specs.View.{reply_of};
-ghost use Rattle.engine.specs.Database.{rows_of};
+ghost use Rattle.engine.specs.Database.{rows_held, rows_of};
 ghost use Rattle.engine.specs.Answer as spec;
 ghost use Rattle.engine.specs.Answer.{reply_to, parsed_reply, query_reply, resolved_reply, served_reply, denied_reply, first_reply, rows_reply, fault_reply};
 ghost use Rattle.engine.specs.Serving.{IsReply};
 
 use crate::answer::answer_rows;
-use crate::store::{Store, contents_of};
+use crate::store::Store;
 use access::{RequiredPrivilege, denied};
+use catalog::Catalog;
 use memory::{Failure, Heap};
 use report::Reply;
 use resolve::{Bound, bind, is_served, needed};
@@ -28,8 +29,27 @@ use row_ast::Query;
 use scope::{BoundItem, BoundQuery, Entry};
 use std::alloc::AllocError;
 use syntax::{ParseError, parse_query};
+use tables::Table;
 use text::{Items, Text};
 use value::{Refusal, Value};
+
+// The items of those rows of an entry that the role sees and that pass WHERE, in order.
+fn rows_in<A: Heap>(
+    alloc: A,
+    catalog: &Catalog<A>,
+    role: &str,
+    query: &BoundQuery<A>,
+    entry: &Entry<'_, A>,
+    contents: Option<&Table<A>>,
+) -> Result<Items<Items<Value<A>, A>, A>, AllocError>
+    requires { are_served_parts (bound_query_of query.now) ≡ true }
+    ensures { IfOk result (λ rows. map (λ r. row_of r) rows ≡ spec.answered_rows catalog.now role.now (bound_query_of query.now) (entry_of entry.now) (rows_held (option_map (λ t. t.now) contents.entry))) }
+{
+    match contents {
+        Some(rows) => answer_rows(alloc, catalog, role, entry, query, rows),
+        None => Ok(Items::new(alloc)),
+    }
+}
 
 // The items of the rows of an entry that the role sees and that pass WHERE, in order.
 fn rows_seen<A: Heap>(
@@ -42,10 +62,8 @@ fn rows_seen<A: Heap>(
     requires { are_served_parts (bound_query_of query.now) ≡ true }
     ensures { IfOk result (λ rows. map (λ r. row_of r) rows ≡ spec.answer store.now.catalog (rows_of store.now) role.now (bound_query_of query.now) (entry_of entry.now)) }
 {
-    match contents_of(&store.tables, entry.table.name()) {
-        Some(rows) => answer_rows(alloc, &store.catalog, role, entry, query, rows),
-        None => Ok(Items::new(alloc)),
-    }
+    let contents = store.contents(entry.table.name());
+    rows_in(alloc, store.catalog(), role, query, entry, contents)
 }
 
 fn headings<A: Heap>(alloc: A, items: &[BoundItem<A>]) -> Result<Items<Text<A>, A>, AllocError>
@@ -83,6 +101,12 @@ fn not_supported<A: Heap>() -> Reply<A>
     }
 }
 
+fn first_entry<'a, 's, A: Heap>(entries: &'a [Entry<'s, A>]) -> Option<&'a Entry<'s, A>>
+    ensures { option_map (λ e. entry_of e.now) result ≡ slice_get (map (λ e. entry_of e) entries.now) 0 }
+{
+    entries.get(0)
+}
+
 // The rows of a supported query over the first of its entries.
 fn answer_first<A: Heap>(
     alloc: A,
@@ -94,7 +118,7 @@ fn answer_first<A: Heap>(
     requires { are_served_parts (bound_query_of query.now) ≡ true }
     ensures { IfOk result (λ reply. reply_of reply ≡ first_reply store.now.catalog (rows_of store.now) role.now (bound_query_of query.now) (slice_get (map (λ e. entry_of e) entries.now) 0)) }
 {
-    match entries.get(0) {
+    match first_entry(entries) {
         Some(entry) => answer_entry(alloc, store, role, query, entry),
         None => Ok(not_supported()),
     }
@@ -136,6 +160,19 @@ fn answer_denied<A: Heap>(
     Ok(Reply::Denied { column, table })
 }
 
+// The first privilege that the role needs and lacks.
+fn first_missing<'s, A: Heap>(
+    alloc: A,
+    catalog: &Catalog<A>,
+    role: &str,
+    bound: &Bound<'s, A>,
+) -> Result<Option<RequiredPrivilege<'s, A>>, AllocError>
+    ensures { IfOk result (λ missing. option_map (λ p. privilege_of p) missing ≡ denial catalog.now role.now (needed (bound_of bound.now).entries (bound_of bound.now).query)) }
+{
+    let needed = needed(alloc, bound.entries.as_slice(), &bound.query)?;
+    Ok(denied(catalog, role, needed.as_slice()))
+}
+
 // The denial of a query that is bound, or its rows.
 fn answer_bound<A: Heap>(
     alloc: A,
@@ -146,8 +183,7 @@ fn answer_bound<A: Heap>(
 ) -> Result<Reply<A>, AllocError>
     ensures { IfOk result (λ reply. reply_of reply ≡ resolved_reply store.now.catalog (rows_of store.now) role.now (query_of query.now) (Ok (bound_of bound.now))) }
 {
-    let needed = needed(alloc, bound.entries.as_slice(), &bound.query)?;
-    match denied(&store.catalog, role, needed.as_slice()) {
+    match first_missing(alloc, store.catalog(), role, bound)? {
         Some(privilege) => answer_denied(alloc, privilege),
         None => answer_granted(alloc, store, role, query, bound),
     }

@@ -170,6 +170,13 @@ impl<A: Heap> Store<A> {
         }
     }
 
+    // The contents of the table of that name.
+    pub(crate) fn contents(&self, name: &str) -> Option<&Table<A>>
+        ensures { option_map (λ t. t.now) result ≡ contents_named self.now.tables name.now }
+    {
+        contents_of(&self.tables, name)
+    }
+
     /// The columns of the table of that name; none where it is not there.
     pub fn columns(&self, table: &str) -> &[Column<A>]
         ensures { map (λ c. column_of c) result.now ≡ columns_in self.now.tables table.now }
