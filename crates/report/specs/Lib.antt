@@ -1,3 +1,5 @@
 pub mod Reply
 pub mod ReplyText
 pub mod View
+pub mod Answer
+pub mod Restricted

@@ -4,9 +4,10 @@ use Rattle.std.specs.List.{list_any}
 use Rattle.std.specs.Fmt.{decimal, signed_decimal}
 use Rattle.value.specs.Datum.{Datum, null, int, text, bool, Row}
 use Rattle.value.specs.Codes.{code_of}
+use Rattle.value.specs.Faults.{kind_code}
 use Rattle.value.specs.Texts.{IsNoNullMark, is_of, null_mark}
 use Rattle.value.specs.declared.types.ColType.{ColType}
-use Rattle.report.specs.Reply.{Reply, Refused, Denied, Rows}
+use Rattle.report.specs.Reply.{Reply, Refused, Denied, Faulted, Rows}
 
 -- comma, quote, LF, CR
 abbrev pub is_special : ℕ → Bool
@@ -52,4 +53,5 @@ column_text (Some column) = codes "column " ++ column ++ codes " of "
 abbrev pub reply_text : Reply → List ℕ
 reply_text (Refused code offset) = codes "refused " ++ code_of code ++ offset_text offset ++ 10 ∷ []
 reply_text (Denied column table) = codes "denied 42501 " ++ column_text column ++ codes "table " ++ table ++ 10 ∷ []
+reply_text (Faulted fault) = codes "fault " ++ kind_code fault.kind ++ codes " at " ++ decimal fault.offset ++ 10 ∷ []
 reply_text (Rows headings rows) = line_text (map text headings) ++ flat_map line_text rows

@@ -1,0 +1,3 @@
+pub mod Combinations
+pub mod World
+pub mod View
