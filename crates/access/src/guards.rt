@@ -193,14 +193,15 @@ pub fn guard<A: Heap>(
     }
 }
 
-/// The guard of each entry, in order.
+/// The guard of each entry, in order; it shows exactly the rows of the entry that the role sees.
 pub fn frame<'s, A: Heap>(
     alloc: A,
     catalog: &Catalog<A>,
     role: &str,
     entries: &[Entry<'s, A>],
 ) -> Result<Items<Guard<A>, A>, AllocError>
-    ensures { IfOk result (λ guards. map guard_of guards ≡ spec.frame catalog.now role.now (map (λ e. entry_of e) entries.now)) }
+    ensures value { IfOk result (λ guards. map guard_of guards ≡ spec.frame catalog.now role.now (map (λ e. entry_of e) entries.now)) }
+    ensures shows { IfOk result (λ guards. (row : value.Row) → map (λ g. spec.shows role.now (guard_of g) row) guards ≡ map (λ e. sees catalog.now role.now (table_of e.table) row) entries.now) }
 {
     let mut guards = Items::new(alloc);
     for entry in entries {
