@@ -279,26 +279,14 @@ fn worked_rows_are_answered(rt: HostRuntime) {
 }
 
 // What the grammar has and the engine does not support yet, with the denial that comes first where nothing is granted.
-static NOT_SERVED: [(&str, &str); 15] = [
+static NOT_SERVED: [(&str, &str); 11] = [
     (
-        "SELECT -id FROM deal",
+        "SELECT -id FROM deal LIMIT 0",
         "denied 42501 column id of table deal\n",
     ),
     (
-        "SELECT owner, id + 1 FROM deal",
+        "SELECT owner, id + 1 FROM deal ORDER BY 2, 1",
         "denied 42501 column owner of table deal\n",
-    ),
-    (
-        "SELECT CAST(id AS text) FROM deal",
-        "denied 42501 column id of table deal\n",
-    ),
-    (
-        "SELECT owner FROM deal WHERE id / 2 > 1",
-        "denied 42501 column owner of table deal\n",
-    ),
-    (
-        "SELECT 1 FROM deal WHERE CASE WHEN id = 1 THEN CAST(owner AS bigint) = 1 END",
-        "denied 42501 column id of table deal\n",
     ),
     ("SELECT count(*) FROM deal", "denied 42501 table deal\n"),
     (
@@ -306,16 +294,12 @@ static NOT_SERVED: [(&str, &str); 15] = [
         "denied 42501 column id of table deal\n",
     ),
     (
-        "SELECT * FROM deal CROSS JOIN deal e",
+        "SELECT * FROM deal CROSS JOIN deal e ORDER BY owner DESC",
         "denied 42501 column id of table deal\n",
     ),
     (
-        "SELECT 1 FROM deal JOIN deal e ON e.owner = deal.owner",
+        "SELECT 1 FROM deal JOIN deal e ON e.owner = deal.owner HAVING count(*) > 1",
         "denied 42501 column owner of table deal\n",
-    ),
-    (
-        "SELECT d.id FROM deal, deal AS d",
-        "denied 42501 column id of table deal\n",
     ),
     (
         "SELECT id FROM deal GROUP BY id",
