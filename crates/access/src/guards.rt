@@ -1,6 +1,6 @@
 //! The guard of a table: which of its rows a role sees (PostgreSQL: Row Security Policies).
 
-ghost use Rattle.std.specs.Prelude.{◌≡◌, ◌∷◌, ◌++◌, [], true, IfOk, OnOk, filter, map};
+ghost use Rattle.std.specs.Prelude.{◌≡◌, ◌∷◌, ◌++◌, [], true, IfOk, IsOk, OnOk, filter, map};
 ghost use Rattle.value.specs.Datum as value;
 ghost use Rattle.expr.specs.Bound as bound;
 ghost use Rattle.expr.specs.Bound.{bound_exprs_of, one_expr};
@@ -176,7 +176,7 @@ fn is_above<A: Heap>(catalog: &Catalog<A>, role: &str, table: Table<'_, A>) -> b
         || (catalog.is_member(role, table.owner()) && !table.forced())
 }
 
-/// The guard of a table for a role.
+/// The guard of a table for a role. It takes memory only where the policies act on the role.
 pub fn guard<A: Heap>(
     alloc: A,
     catalog: &Catalog<A>,
@@ -185,6 +185,8 @@ pub fn guard<A: Heap>(
 ) -> Result<Guard<A>, AllocError>
     ensures value { IfOk result (λ g. guard_of g ≡ spec.guard catalog.now role.now (table_of table.entry)) }
     ensures shows { IfOk result (λ g. (row : value.Row) → spec.shows role.now (guard_of g) row ≡ sees catalog.now role.now (table_of table.entry) row) }
+    // Above the policies no memory is taken.
+    ensures exact { is_above catalog.now role.now (table_of table.entry) ≡ true → IsOk result }
 {
     if is_above(catalog, role, table) {
         Ok(Guard::All)
