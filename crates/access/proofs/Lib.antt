@@ -1,3 +1,4 @@
 pub mod Passed
 pub mod Decided
 pub mod Chosen
+pub mod Frames
