@@ -1,5 +1,5 @@
 -- What a query without groups answers over the combinations that pass its movable conjuncts: stage WHERE, then stage items.
-use Rattle.std.specs.Prelude.{ℕ, Bool, true, false, List, [], ◌∷◌, map, filter, Option, Some, None, Result, Ok, Err, if◌then◌else◌}
+use Rattle.std.specs.Prelude.{Bool, true, false, List, [], ◌∷◌, map, filter, Option, Some, None, Result, Ok, Err, if◌then◌else◌}
 use Rattle.std.specs.List.{filter_map}
 use Rattle.std.specs.declared.cmp.Ordering.{Ordering}
 use Rattle.std.specs.Ordering.{nat_cmp, on, then_cmp, is_gt}
@@ -14,6 +14,7 @@ use Rattle.expr.specs.Bound.{BoundExpr}
 use Rattle.eval.specs.Meaning.{Cells, Outcome, meaning, ◌>>=◌}
 use Rattle.scope.specs.BoundQuery.{BoundItem, BoundQuery}
 use Rattle.resolve.specs.Conjuncts.{fragile_conjuncts, movable_conjuncts}
+use Rattle.resolve.specs.Resolved.{unless_fault}
 use Rattle.operators.specs.Combinations.{Combination, combinations, joined_cells, passing}
 
 -- ---- one combination
@@ -71,11 +72,6 @@ least_fault (o ∷ os) = lesser (fault_in o) (least_fault os)
 
 -- ---- stages
 
--- a stage in which something faults reports its least fault
-abbrev pub unless_fault : {X : Type 0} → Option Fault → X → Result X Fault
-unless_fault None x = Ok x
-unless_fault (Some fault) x = Err fault
-
 abbrev pub is_kept : Result Bool Fault → Bool
 is_kept (Ok keep) = keep
 is_kept (Err fault) = false
@@ -84,11 +80,11 @@ abbrev pub value_in : {X : Type 0} → Result X Fault → Option X
 value_in (Ok x) = Some x
 value_in (Err fault) = None
 
--- stage WHERE: the combinations that the fragile conjuncts keep
+-- stage WHERE: the combinations that the fragile conjuncts keep, or the least fault
 abbrev pub kept : Name → BoundQuery → List Combination → Result (List Combination) Fault
 kept role q these = unless_fault (least_fault (map (fate_of role q) these)) (filter (λ c. is_kept (fate_of role q c)) these)
 
--- a stage in which each gives a value
+-- a stage in which each gives a value: the values, or the least fault
 abbrev pub gathered : {X : Type 0} → List (Result X Fault) → Result (List X) Fault
 gathered outcomes = unless_fault (least_fault outcomes) (filter_map value_in outcomes)
 

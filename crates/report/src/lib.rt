@@ -1,10 +1,17 @@
-//! Replies, their texts and their exit statuses.
+//! Replies, their texts and their exit statuses; the answer over combinations.
 #![tactic(auto)]
 
+mod faults;
+mod finishing;
+mod laws;
+mod outcomes;
 mod reply;
+mod stages;
 mod status;
 mod writing;
 
+pub use finishing::{answer_over, finish};
+pub use laws::{law_hidden_rows, law_order_of_combinations};
 pub use reply::{Reply, law_null_field};
 pub use status::reply_status;
 pub use writing::reply_text;

@@ -4,7 +4,7 @@ ghost use Rattle.report.specs.ReplyText.{NullFieldIsNull};
 
 use memory::Heap;
 use text::{Items, Text};
-use value::{Refusal, Value};
+use value::{Fault, Refusal, Value};
 
 /// The reply to a role's text.
 #[derive(Debug, Drop)]
@@ -20,6 +20,11 @@ pub enum Reply<A: Heap> {
     Denied {
         column: Option<Text<A>>,
         table: Text<A>,
+    },
+    /// The evaluation of an expression failed.
+    Faulted {
+        /// Where, and by what.
+        fault: Fault,
     },
     /// The headings, and the rows in order.
     Rows {

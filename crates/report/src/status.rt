@@ -19,7 +19,7 @@ fn refusal_status(code: Refusal) -> u8
     }
 }
 
-/// The exit status of a reply: 0 rows, 3 a refused text, 4 a denial, 6 an unknown role, 7 out of memory.
+/// The exit status of a reply: 0 rows, 3 a refused text, 4 a denial, 5 a fault, 6 an unknown role, 7 out of memory.
 pub fn reply_status<A: Heap>(reply: &Reply<A>) -> u8
     ensures status { result ≡ reply_status (reply_of reply.now) }
     ensures few { result < 8 }
@@ -31,6 +31,7 @@ pub fn reply_status<A: Heap>(reply: &Reply<A>) -> u8
         } => 3,
         Reply::Refused { code, offset: None } => refusal_status(*code),
         Reply::Denied { .. } => 4,
+        Reply::Faulted { .. } => 5,
         Reply::Rows { .. } => 0,
     }
 }

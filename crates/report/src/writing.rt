@@ -3,7 +3,7 @@
 ghost use Rattle.std.specs.Prelude.{◌≡◌, ◌++◌, ◌∷◌, IfOk, OnOk, map, flat_map};
 ghost use Rattle.std.specs.List.{list_any};
 ghost use Rattle.value.specs.Datum.{datum, row_of, text as text_datum};
-ghost use Rattle.report.specs.Reply.{Refused as refused, Denied as denied, Rows as answered};
+ghost use Rattle.report.specs.Reply.{Refused as refused, Denied as denied, Faulted as faulted, Rows as answered};
 ghost use Rattle.report.specs.ReplyText.{is_special, needs_quotes, quoted_text, field_text, line_text, offset_text, column_text, reply_text};
 ghost use Rattle.report.specs.View.{reply_of};
 
@@ -12,7 +12,7 @@ use itoa::Buffer;
 use memory::Heap;
 use std::alloc::AllocError;
 use text::{Items, Text};
-use value::{Refusal, Value};
+use value::{Fault, Refusal, Value};
 
 fn special(b: u8) -> bool
     ensures { result ≡ is_special b }
@@ -173,6 +173,16 @@ fn push_denial<A: Heap>(
     Ok(())
 }
 
+fn push_fault<A: Heap>(out: &mut Vec<u8, A>, fault: Fault) -> Result<(), AllocError>
+    ensures { OnOk result (out.new.items ≡ out.old.items ++ reply_text (faulted fault)) }
+{
+    push_str(out, "fault ")?;
+    push_str(out, fault.kind.code())?;
+    push_offset(out, Some(fault.offset))?;
+    push_str(out, "\n")?;
+    Ok(())
+}
+
 fn push_answer<A: Heap>(
     out: &mut Vec<u8, A>,
     headings: &[Text<A>],
@@ -191,6 +201,7 @@ fn push_reply<A: Heap>(out: &mut Vec<u8, A>, reply: &Reply<A>) -> Result<(), All
     match reply {
         Reply::Refused { code, offset } => push_refusal(out, *code, *offset),
         Reply::Denied { column, table } => push_denial(out, column, table.as_str()),
+        Reply::Faulted { fault } => push_fault(out, *fault),
         Reply::Rows { headings, rows } => push_answer(out, headings.as_slice(), rows.as_slice()),
     }
 }

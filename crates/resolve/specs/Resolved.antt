@@ -14,7 +14,7 @@ pub record Bound : Type 0 where
   pub query : BoundQuery
 
 -- the fault, if there is one
-abbrev pub unless_fault : {X : Type 0} → Option NameFault → X → Result X NameFault
+abbrev pub unless_fault : {X E : Type 0} → Option E → X → Result X E
 unless_fault None x = Ok x
 unless_fault (Some e) x = Err e
 
