@@ -1,25 +1,12 @@
 //! Worked rows: a schema, texts of rows, and what a role is answered.
 
-use crate::stores::{DEALS, SCHEMA, apply, deals, load, made, served, store_of};
+use crate::stores::made;
 use engine::Store;
+use fixture_stores::Step::{Apply, Ask, Load};
+use fixture_stores::{DEALS, Row, SCHEMA, Step, apply, deals, load, served, store_of};
 use std::alloc::{AllocError, Global};
 use std::process::Abort;
 use std::test::Fail;
-
-/// A step of a row.
-pub enum Step {
-    /// Root applies a schema text.
-    Apply(&'static str),
-    /// The rows of a text are added to a table.
-    Load(&'static str, &'static str),
-    /// A role asks a query, and is answered a text with a status.
-    Ask(&'static str, &'static str, &'static str, u8),
-}
-
-use Step::{Apply, Ask, Load};
-
-/// A name, the schema of the store, and the steps on it.
-pub type Row = (&'static str, &'static str, &'static [Step]);
 
 /// A role asks a query, and is answered a text with a status.
 pub fn answered(

@@ -1,10 +1,10 @@
 //! Worked rows of WHERE and of items over one table, on the store of `sales`.
 
-use crate::answers::Step::{Ask, Load};
-use crate::answers::{FLAGS, OPEN, Row, answered, walk};
-use crate::sales::sales;
+use crate::answers::{FLAGS, OPEN, answered, walk};
 use crate::stores::made;
 use engine::Store;
+use fixture_stores::Step::{Ask, Load};
+use fixture_stores::{Row, sales};
 use std::alloc::Global;
 use std::process::Abort;
 

@@ -1,10 +1,11 @@
 //! Texts of rows for a store, and their first fault.
 
 use crate::answers::{FLAGS, answered};
-use crate::stores::{DEALS, SCHEMA, StoreFault, deals, load, made, store_of};
+use crate::stores::made;
 use csv_records::Records;
 use engine::StoreError::Data;
 use engine::{Store, StoreError};
+use fixture_stores::{DEALS, SCHEMA, StoreFault, deals, load, store_of};
 use fixtures::in_pieces;
 use memory::Failure;
 use std::alloc::Global;

@@ -2,7 +2,8 @@
 
 use crate::opening::open_or_out_of_memory;
 use crate::sales;
-use crate::stores::{DEALS, SCHEMA, StoreFault, deals, load, made, served, store_of};
+use crate::stores::made;
+use fixture_stores::{DEALS, SCHEMA, StoreFault, deals, load, served, store_of};
 use memory::{Failure, Heap};
 use metered::Metered;
 use std::alloc::AllocError;

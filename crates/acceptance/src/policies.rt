@@ -1,9 +1,9 @@
 //! Worked rows of policies, on the store of `sales`: who is held by row security, which policies apply, and what their
 //! conditions show.
 
-use crate::answers::Step::{Apply, Ask, Load};
-use crate::answers::{FLAGS, OPEN, Row, walk};
-use crate::sales::{DEALS, REGIONS, SCHEMA};
+use crate::answers::{FLAGS, OPEN, walk};
+use fixture_stores::Step::{Apply, Ask, Load};
+use fixture_stores::{Row, SALES as SCHEMA, SALES_DEALS as DEALS, SALES_REGIONS as REGIONS};
 use std::process::Abort;
 
 // The owner, FORCE, BYPASSRLS and superusers.

@@ -1,21 +1,9 @@
 //! Worked rows of the store of crates/rowplan/data/sales: roles, memberships, column grants, and the first denial.
 
-use crate::answers::Step::{Apply, Ask, Load};
-use crate::answers::{Row, walk};
-use crate::stores;
-use crate::stores::{StoreFault, load, store_of};
-use engine::Store;
-use memory::{Failure, Heap};
-
-/// The text of schema.sql there.
-pub const SCHEMA: &str = "CREATE ROLE boss; CREATE ROLE audit BYPASSRLS; CREATE ROLE sales;
-CREATE ROLE alice; CREATE ROLE bob; CREATE ROLE guest; CREATE ROLE lone;
-GRANT sales TO alice; GRANT sales TO bob;
-CREATE TABLE deal (id bigint, owner text, region bigint, amount bigint, parts bigint);
-ALTER TABLE deal OWNER TO boss; ALTER TABLE deal ENABLE ROW LEVEL SECURITY;
-CREATE POLICY own ON deal FOR SELECT TO sales USING (owner = CURRENT_USER);
-GRANT SELECT ON deal TO sales; GRANT SELECT ON deal TO audit; GRANT SELECT (id) ON deal TO guest;
-CREATE TABLE region (id bigint, name text); GRANT SELECT ON region TO PUBLIC;";
+use crate::answers::walk;
+use fixture_stores as stores;
+use fixture_stores::Step::{Apply, Ask, Load};
+use fixture_stores::{Row, SALES as SCHEMA, SALES_DEALS as DEALS, SALES_REGIONS as REGIONS};
 
 /// A schema with each statement that takes or gives back memory.
 pub const INDEXED: &str = "CREATE ROLE audit BYPASSRLS; CREATE ROLE sales; CREATE ROLE alice;
@@ -24,21 +12,6 @@ ALTER TABLE deal FORCE ROW LEVEL SECURITY; GRANT SELECT (id, owner) ON deal TO s
 CREATE INDEX i ON deal (id); CREATE POLICY own ON deal TO sales USING (owner = 'x'); DROP POLICY own ON deal;
 CREATE POLICY near ON deal AS RESTRICTIVE USING (CASE WHEN id IN (1, NULL) THEN NOT owner < 'm' ELSE id BETWEEN 1 AND 9 OR owner IS NULL END);
 REVOKE SELECT (id) ON deal FROM sales; REVOKE sales FROM alice;";
-
-/// The rows of the table of deals there.
-pub const DEALS: &str =
-    "id,owner,region,amount,parts\n1,alice,1,100,4\n2,alice,2,50,0\n3,bob,1,70,7\n4,bob,2,\\N,0\n5,alice,\\N,100,5\n";
-
-/// The rows of the table of regions there.
-pub const REGIONS: &str = "id,name\n1,north\n2,south\n\\N,none\n";
-
-/// The store of the worked rows of sales.
-pub fn sales<A: Heap>(alloc: A) -> Result<Box<Store<A>, A>, Failure<StoreFault>> {
-    let mut store = store_of(alloc, SCHEMA)?;
-    load(&mut store, "deal", DEALS)?;
-    load(&mut store, "region", REGIONS)?;
-    Ok(store)
-}
 
 static WORKED: [Row; 18] = [
     (

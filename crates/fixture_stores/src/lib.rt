@@ -1,0 +1,11 @@
+//! The stores of the worked rows, how a store is made and asked, and the steps of a row: what the crates of worked rows
+//! share. It has no contracts; the tests compare what it gives with expected values.
+#![tactic(auto)]
+
+mod rows;
+mod sales;
+mod stores;
+
+pub use rows::{Row, Step};
+pub use sales::{SALES, SALES_DEALS, SALES_REGIONS, sales};
+pub use stores::{DEALS, SCHEMA, StoreFault, apply, deals, load, served, store_of};

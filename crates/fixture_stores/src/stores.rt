@@ -1,0 +1,98 @@
+//! The store of the worked rows, and how stores are made and asked.
+
+use engine::{Store, StoreError, serve};
+use memory::{Failure, Heap, boxed};
+use output::Output;
+use row_ast::Statement;
+use syntax::{ParseError, parse_schema};
+use value::Refusal;
+
+/// Three roles, a table of deals that each sees the own of, and a grant for one of them.
+pub const SCHEMA: &str = "CREATE ROLE boss; CREATE ROLE alice; CREATE ROLE lone;
+CREATE TABLE deal (id bigint, owner text);
+ALTER TABLE deal OWNER TO boss; ALTER TABLE deal ENABLE ROW LEVEL SECURITY;
+CREATE POLICY own ON deal USING (owner = CURRENT_USER);
+GRANT SELECT ON deal TO alice;";
+
+/// The rows of the table of deals.
+pub const DEALS: &str = "id,owner\n2,alice\n1,alice\n3,bob\n";
+
+/// Why a store is not made.
+#[derive(Clone, Copy, Debug, Drop, PartialEq, Eq)]
+pub enum StoreFault {
+    Parse(ParseError),
+    Statement(Refusal),
+    Data(StoreError),
+}
+
+// Each statement in turn, by an actor.
+fn change<A: Heap>(
+    store: &mut Store<A>,
+    actor: &str,
+    statements: &[Statement<A>],
+) -> Result<(), Failure<StoreFault>> {
+    for statement in statements {
+        match store.change(actor, statement) {
+            Ok(()) => {}
+            Err(code) => return Err(Failure::Fault(StoreFault::Statement(code))),
+        }
+    }
+    Ok(())
+}
+
+/// Applies a schema text to a store, by an actor.
+pub fn apply<A: Heap>(
+    alloc: A,
+    store: &mut Store<A>,
+    actor: &str,
+    schema: &str,
+) -> Result<(), Failure<StoreFault>> {
+    match parse_schema(alloc, schema) {
+        Ok(statements) => change(store, actor, statements.as_slice()),
+        Err(Failure::Fault(error)) => Err(Failure::Fault(StoreFault::Parse(error))),
+        Err(Failure::OutOfMemory) => Err(Failure::OutOfMemory),
+    }
+}
+
+/// The store of a schema text. It is boxed, since the whole drop of a store is part of the proof of each function that
+/// has one.
+pub fn store_of<A: Heap>(alloc: A, schema: &str) -> Result<Box<Store<A>, A>, Failure<StoreFault>> {
+    let mut store = boxed(alloc, Store::new(alloc)?)?;
+    apply(alloc, &mut store, "root", schema)?;
+    Ok(store)
+}
+
+/// Adds the rows of a text to a table.
+pub fn load<A: Heap>(
+    store: &mut Store<A>,
+    table: &str,
+    text: &str,
+) -> Result<(), Failure<StoreFault>> {
+    match store.load(table, text.as_bytes()) {
+        Ok(()) => Ok(()),
+        Err(Failure::Fault(error)) => Err(Failure::Fault(StoreFault::Data(error))),
+        Err(Failure::OutOfMemory) => Err(Failure::OutOfMemory),
+    }
+}
+
+/// The store of the worked rows.
+pub fn deals<A: Heap>(alloc: A) -> Result<Box<Store<A>, A>, Failure<StoreFault>> {
+    let mut store = store_of(alloc, SCHEMA)?;
+    load(&mut store, "deal", DEALS)?;
+    Ok(store)
+}
+
+/// The status of the reply to a role's text, and what was written.
+pub fn served<A: Heap>(
+    alloc: A,
+    store: &Store<A>,
+    role: &str,
+    text: &str,
+) -> (u8, Output<Vec<u8>>) {
+    let mut out = Output {
+        inner: Vec::new(alloc.global()),
+        failed: 0,
+    };
+    let status = serve(alloc, store, role, text, &mut out);
+    (status, out)
+}
