@@ -1,0 +1,925 @@
+//! Worked rows of arithmetic, casts and faults, on the store of `sales` and on tables of their own.
+
+use crate::rows::{Question, are_answered, walk};
+use fixture_stores::Step::{Apply, Ask, Load};
+use fixture_stores::{Row, SALES, SALES_DEALS};
+
+// Arithmetic and casts without a fault.
+static VALUES: [Question; 16] = [
+    (
+        "a_quotient",
+        "bob",
+        "SELECT amount/parts FROM deal",
+        "?column?\n10\n\\N\n",
+        0,
+    ),
+    (
+        "operations_on_two_columns",
+        "boss",
+        "SELECT id, amount + parts, amount - parts, amount * parts, amount % 7 FROM deal",
+        "id,?column?,?column?,?column?,?column?\n1,104,96,400,2\n2,50,50,0,1\n3,77,63,490,0\n4,\\N,\\N,\\N,\\N\n5,105,95,500,2\n",
+        0,
+    ),
+    (
+        "a_minus_before_an_operand",
+        "bob",
+        "SELECT -amount, - -id, -(id - 3) FROM deal",
+        "?column?,?column?,?column?\n-70,3,0\n\\N,4,-1\n",
+        0,
+    ),
+    (
+        "products_bind_tighter_and_from_the_left",
+        "lone",
+        "SELECT 2 + 3 * 4 AS a, (2 + 3) * 4 AS b, 20 / 2 / 5 AS c, 7 - 4 - 2 AS d FROM region WHERE id = 1",
+        "a,b,c,d\n14,20,2,1\n",
+        0,
+    ),
+    (
+        "quotients_are_cut_toward_zero",
+        "lone",
+        "SELECT -7 % 2 AS a, -7 / 2 AS b, 7 / -2 AS c, 7 % -2 AS d, -7 % -2 AS e, -7 / -2 AS f FROM region WHERE id = 1",
+        "a,b,c,d,e,f\n-1,-3,-3,1,-1,3\n",
+        0,
+    ),
+    (
+        "the_least_number_by_minus_one_leaves_nothing",
+        "lone",
+        "SELECT -9223372036854775808 % -1 AS a, -9223372036854775808 % 1 AS b FROM region",
+        "a,b\n0,0\n0,0\n0,0\n",
+        0,
+    ),
+    (
+        "the_greatest_and_the_least_number",
+        "lone",
+        "SELECT 9223372036854775806 + 1 AS a, -9223372036854775807 - 1 AS b, -4611686018427387904 * 2 AS c FROM region WHERE id = 2",
+        "a,b,c\n9223372036854775807,-9223372036854775808,-9223372036854775808\n",
+        0,
+    ),
+    (
+        "null_by_zero_is_null",
+        "boss",
+        "SELECT id, amount / 0, NULL % 0, 0 / amount FROM deal WHERE amount IS NULL",
+        "id,?column?,?column?,?column?\n4,\\N,\\N,\\N\n",
+        0,
+    ),
+    (
+        "casts",
+        "bob",
+        "SELECT CAST(id AS text) AS t, CAST(owner AS text) AS o, CAST(id AS bigint) AS n, CAST(-amount AS text) AS m FROM deal",
+        "t,o,n,m\n3,bob,3,-70\n4,bob,4,\\N\n",
+        0,
+    ),
+    (
+        "texts_of_numbers",
+        "lone",
+        "SELECT CAST('-5' AS bigint) AS a, CAST('9223372036854775807' AS bigint) AS b, CAST('-9223372036854775808' AS bigint) AS c, CAST('0' AS bigint) AS d FROM region WHERE id = 1",
+        "a,b,c,d\n-5,9223372036854775807,-9223372036854775808,0\n",
+        0,
+    ),
+    (
+        "a_cast_of_null",
+        "boss",
+        "SELECT CAST(amount AS text) AS t, CAST(NULL AS bigint) AS n, CAST(NULL AS text) AS m FROM deal WHERE id = 4",
+        "t,n,m\n\\N,\\N,\\N\n",
+        0,
+    ),
+    (
+        "a_cast_is_ordered_as_a_text",
+        "boss",
+        "SELECT CAST(amount AS text) AS t FROM deal",
+        "t\n100\n100\n50\n70\n\\N\n",
+        0,
+    ),
+    (
+        "an_operation_on_two_entries",
+        "alice",
+        "SELECT d.amount/d.parts FROM deal d, region r WHERE d.region = r.id AND r.name = 'north'",
+        "?column?\n25\n",
+        0,
+    ),
+    (
+        "a_sum_in_an_on",
+        "boss",
+        "SELECT a.id, b.id AS after FROM deal a JOIN deal b ON b.id = a.id + 1",
+        "id,after\n1,2\n2,3\n3,4\n4,5\n",
+        0,
+    ),
+    (
+        "a_sum_in_where",
+        "bob",
+        "SELECT a.id, b.id AS other FROM deal a, deal b WHERE a.id + b.id = 7",
+        "id,other\n3,4\n4,3\n",
+        0,
+    ),
+    (
+        "a_condition_with_a_null_sum",
+        "boss",
+        "SELECT id FROM deal WHERE amount + id > 0",
+        "id\n1\n2\n3\n5\n",
+        0,
+    ),
+];
+
+fn values() -> &'static [Question] {
+    &VALUES
+}
+
+// What faults: division by zero, a number out of range, a text that is no number.
+static FAULTS: [Question; 15] = [
+    (
+        "a_quotient_by_zero",
+        "alice",
+        "SELECT amount/parts FROM deal",
+        "fault 22012 at 13\n",
+        5,
+    ),
+    (
+        "a_remainder_by_zero",
+        "lone",
+        "SELECT 7 % (id - 1) FROM region",
+        "fault 22012 at 9\n",
+        5,
+    ),
+    (
+        "the_least_number_by_minus_one",
+        "lone",
+        "SELECT -9223372036854775808 / -1 FROM region",
+        "fault 22003 at 28\n",
+        5,
+    ),
+    (
+        "a_sum_out_of_range",
+        "lone",
+        "SELECT 9223372036854775807 + id FROM region",
+        "fault 22003 at 27\n",
+        5,
+    ),
+    (
+        "a_difference_out_of_range",
+        "lone",
+        "SELECT -9223372036854775807 - 2 FROM region",
+        "fault 22003 at 28\n",
+        5,
+    ),
+    (
+        "a_product_out_of_range",
+        "lone",
+        "SELECT 4611686018427387904 * 2 FROM region",
+        "fault 22003 at 27\n",
+        5,
+    ),
+    (
+        "the_negated_least_number",
+        "lone",
+        "SELECT - -9223372036854775808 FROM region",
+        "fault 22003 at 7\n",
+        5,
+    ),
+    (
+        "a_name_is_no_number",
+        "boss",
+        "SELECT CAST(owner AS bigint) FROM deal",
+        "fault 22P02 at 7\n",
+        5,
+    ),
+    (
+        "the_first_of_an_expression_on_the_left",
+        "lone",
+        "SELECT 1 / 0 + 9223372036854775807 * 2 FROM region",
+        "fault 22012 at 9\n",
+        5,
+    ),
+    (
+        "the_first_of_an_expression_on_the_right",
+        "lone",
+        "SELECT 9223372036854775807 * 2 + 1 / 0 FROM region",
+        "fault 22003 at 27\n",
+        5,
+    ),
+    (
+        "an_operand_before_its_operation",
+        "lone",
+        "SELECT -(1 / 0) FROM region",
+        "fault 22012 at 11\n",
+        5,
+    ),
+    (
+        "a_cast_in_a_cast",
+        "lone",
+        "SELECT CAST(CAST(name AS bigint) AS text) FROM region",
+        "fault 22P02 at 12\n",
+        5,
+    ),
+    (
+        "types_before_faults",
+        "boss",
+        "SELECT owner / 0 FROM deal",
+        "refused 42804 at 13\n",
+        3,
+    ),
+    (
+        "grants_before_faults",
+        "guest",
+        "SELECT amount / 0 FROM deal",
+        "denied 42501 column amount of table deal\n",
+        4,
+    ),
+    (
+        "names_before_faults",
+        "alice",
+        "SELECT 1 / 0, nosuch FROM deal",
+        "refused 42703 at 14\n",
+        3,
+    ),
+];
+
+fn faults() -> &'static [Question] {
+    &FAULTS
+}
+
+// Texts of numbers that no number is written as.
+static TEXTS: [Question; 10] = [
+    (
+        "leading_zeros",
+        "lone",
+        "SELECT CAST('007' AS bigint) FROM region",
+        "fault 22P02 at 7\n",
+        5,
+    ),
+    (
+        "an_empty_text",
+        "lone",
+        "SELECT CAST('' AS bigint) FROM region",
+        "fault 22P02 at 7\n",
+        5,
+    ),
+    (
+        "minus_zero",
+        "lone",
+        "SELECT CAST('-0' AS bigint) FROM region",
+        "fault 22P02 at 7\n",
+        5,
+    ),
+    (
+        "a_minus_alone",
+        "lone",
+        "SELECT CAST('-' AS bigint) FROM region",
+        "fault 22P02 at 7\n",
+        5,
+    ),
+    (
+        "a_plus",
+        "lone",
+        "SELECT CAST('+1' AS bigint) FROM region",
+        "fault 22P02 at 7\n",
+        5,
+    ),
+    (
+        "a_space_before_a_number",
+        "lone",
+        "SELECT CAST(' 1' AS bigint) FROM region",
+        "fault 22P02 at 7\n",
+        5,
+    ),
+    (
+        "a_letter_after_a_number",
+        "lone",
+        "SELECT CAST('1x' AS bigint) FROM region",
+        "fault 22P02 at 7\n",
+        5,
+    ),
+    (
+        "one_more_than_the_greatest",
+        "lone",
+        "SELECT CAST('9223372036854775808' AS bigint) FROM region",
+        "fault 22003 at 7\n",
+        5,
+    ),
+    (
+        "one_less_than_the_least",
+        "lone",
+        "SELECT CAST('-9223372036854775809' AS bigint) FROM region",
+        "fault 22003 at 7\n",
+        5,
+    ),
+    (
+        "many_digits",
+        "lone",
+        "SELECT CAST('100000000000000000000000000000000000000000' AS bigint) FROM region",
+        "fault 22003 at 7\n",
+        5,
+    ),
+];
+
+fn texts() -> &'static [Question] {
+    &TEXTS
+}
+
+// A fault of a row that a role does not see is none, nor is one of a combination that is dropped.
+static HIDDEN: [Question; 13] = [
+    (
+        "a_row_of_others_does_not_fault",
+        "alice",
+        "SELECT 1 / (id - 3) FROM deal",
+        "?column?\n-1\n0\n0\n",
+        0,
+    ),
+    (
+        "the_same_row_faults_where_it_is_seen",
+        "bob",
+        "SELECT 1 / (id - 3) FROM deal",
+        "fault 22012 at 9\n",
+        5,
+    ),
+    (
+        "no_row_no_fault",
+        "guest",
+        "SELECT id / 0 FROM deal",
+        "?column?\n",
+        0,
+    ),
+    (
+        "no_row_of_the_other_entry_no_fault",
+        "guest",
+        "SELECT r.id / 0 FROM region r, deal d WHERE CAST(r.name AS bigint) = d.id",
+        "?column?\n",
+        0,
+    ),
+    (
+        "items_of_dropped_rows_do_not_fault",
+        "alice",
+        "SELECT amount/parts FROM deal WHERE parts <> 0",
+        "?column?\n20\n25\n",
+        0,
+    ),
+    (
+        "items_of_rows_dropped_by_arithmetic_do_not_fault",
+        "alice",
+        "SELECT amount/parts FROM deal WHERE parts + 0 > 0",
+        "?column?\n20\n25\n",
+        0,
+    ),
+    (
+        "a_condition_that_is_never_true",
+        "lone",
+        "SELECT 1 / 0 FROM region WHERE FALSE",
+        "?column?\n",
+        0,
+    ),
+    (
+        "a_null_condition",
+        "lone",
+        "SELECT 1 / 0 FROM region WHERE id = NULL AND CAST(name AS bigint) = 1",
+        "?column?\n",
+        0,
+    ),
+    (
+        "items_of_combinations_that_are_kept_fault",
+        "alice",
+        "SELECT d.amount / d.parts FROM deal d, region r WHERE d.region = r.id",
+        "fault 22012 at 16\n",
+        5,
+    ),
+    (
+        "own_rows_in_both_entries_do_not_fault",
+        "bob",
+        "SELECT a.id / (a.id - b.id) FROM deal a, deal b WHERE a.id <> b.id",
+        "?column?\n-3\n4\n",
+        0,
+    ),
+    (
+        "a_row_beside_itself_faults",
+        "bob",
+        "SELECT a.id / (a.id - b.id) FROM deal a, deal b",
+        "fault 22012 at 12\n",
+        5,
+    ),
+    (
+        "rows_of_others_in_one_entry_do_not_fault",
+        "alice",
+        "SELECT a.id / (b.id - 3) FROM deal a, deal b WHERE a.id = 1",
+        "?column?\n-1\n0\n0\n",
+        0,
+    ),
+    (
+        "an_arithmetic_condition_on_rows_of_others_does_not_fault",
+        "alice",
+        "SELECT id FROM deal WHERE 1 / (id - 3) < 0",
+        "id\n2\n",
+        0,
+    ),
+];
+
+fn hidden() -> &'static [Question] {
+    &HIDDEN
+}
+
+// The conjuncts that cannot fault decide first, in whatever place; the others are taken in written order.
+static CONJUNCTS: [Question; 16] = [
+    (
+        "a_later_condition_keeps_a_row_from_faulting",
+        "alice",
+        "SELECT id FROM deal WHERE amount/parts > 10 AND parts <> 0",
+        "id\n1\n5\n",
+        0,
+    ),
+    (
+        "an_earlier_condition_keeps_a_row_from_faulting",
+        "alice",
+        "SELECT id FROM deal WHERE parts <> 0 AND amount/parts > 20",
+        "id\n1\n",
+        0,
+    ),
+    (
+        "a_condition_in_parentheses_keeps_a_row_from_faulting",
+        "alice",
+        "SELECT id FROM deal WHERE (amount/parts > 10 AND id > 0) AND (TRUE AND parts <> 0)",
+        "id\n1\n5\n",
+        0,
+    ),
+    (
+        "a_condition_of_where_keeps_an_on_from_faulting",
+        "alice",
+        "SELECT d.id, r.id AS place FROM deal d JOIN region r ON d.amount / d.parts = 25 WHERE d.parts > 0 AND r.id = 1",
+        "id,place\n1,1\n",
+        0,
+    ),
+    (
+        "a_condition_of_a_later_entry_keeps_an_on_from_faulting",
+        "alice",
+        "SELECT d.id FROM deal d JOIN region r ON d.amount / d.parts > 1, region s WHERE s.name = 'nosuch'",
+        "id\n",
+        0,
+    ),
+    (
+        "a_condition_faults",
+        "alice",
+        "SELECT id FROM deal WHERE amount/parts > 10",
+        "fault 22012 at 32\n",
+        5,
+    ),
+    (
+        "an_on_faults",
+        "alice",
+        "SELECT d.id FROM deal d JOIN region r ON d.amount / d.parts > 1",
+        "fault 22012 at 50\n",
+        5,
+    ),
+    (
+        "a_fault_before_a_condition_that_would_drop_the_row",
+        "alice",
+        "SELECT id FROM deal WHERE amount/parts > 10 AND parts + 0 > 0",
+        "fault 22012 at 32\n",
+        5,
+    ),
+    (
+        "a_condition_that_drops_the_row_before_a_fault",
+        "alice",
+        "SELECT id FROM deal WHERE parts + 0 > 0 AND amount/parts > 10",
+        "id\n1\n5\n",
+        0,
+    ),
+    (
+        "a_null_condition_drops_the_row_before_a_fault",
+        "alice",
+        "SELECT id FROM deal WHERE parts + NULL > 0 AND amount/parts > 10",
+        "id\n",
+        0,
+    ),
+    (
+        "an_on_drops_a_combination_before_where_faults",
+        "alice",
+        "SELECT d.id FROM deal d JOIN region r ON d.parts + r.id > 3 WHERE d.amount / d.parts > 10",
+        "id\n1\n1\n5\n5\n",
+        0,
+    ),
+    (
+        "an_or_is_one_conjunct",
+        "alice",
+        "SELECT id FROM deal WHERE amount/parts > 10 OR parts = 0",
+        "fault 22012 at 32\n",
+        5,
+    ),
+    (
+        "an_or_stops_where_it_is_true",
+        "alice",
+        "SELECT id FROM deal WHERE parts = 0 OR amount/parts > 20",
+        "id\n1\n2\n",
+        0,
+    ),
+    (
+        "a_negated_or_is_one_conjunct",
+        "alice",
+        "SELECT id FROM deal WHERE NOT (parts = 0 OR amount/parts <= 20)",
+        "id\n1\n",
+        0,
+    ),
+    (
+        "where_faults_before_items",
+        "alice",
+        "SELECT CAST(owner AS bigint) FROM deal WHERE amount/parts > 0",
+        "fault 22012 at 51\n",
+        5,
+    ),
+    (
+        "where_of_one_row_faults_before_items_of_another",
+        "alice",
+        "SELECT 1 / (id - 1) FROM deal WHERE 1 / (id - 5) < 9",
+        "fault 22012 at 38\n",
+        5,
+    ),
+];
+
+fn conjuncts() -> &'static [Question] {
+    &CONJUNCTS
+}
+
+// What an operator does not evaluate does not fault.
+static SKIPPED: [Question; 14] = [
+    (
+        "a_case_evaluates_what_it_chooses",
+        "alice",
+        "SELECT id, CASE WHEN parts = 0 THEN NULL ELSE amount / parts END AS share FROM deal",
+        "id,share\n1,25\n2,\\N\n5,20\n",
+        0,
+    ),
+    (
+        "a_case_evaluates_no_later_condition",
+        "lone",
+        "SELECT CASE WHEN TRUE THEN 1 WHEN 1 / 0 = 1 THEN 2 ELSE 1 % 0 END AS n FROM region",
+        "n\n1\n1\n1\n",
+        0,
+    ),
+    (
+        "a_case_evaluates_its_conditions_in_order",
+        "alice",
+        "SELECT CASE WHEN amount / parts > 1 THEN 1 WHEN parts = 0 THEN 2 END FROM deal",
+        "fault 22012 at 24\n",
+        5,
+    ),
+    (
+        "an_and_stops_at_false",
+        "alice",
+        "SELECT id, parts <> 0 AND amount / parts > 20 AS dear FROM deal",
+        "id,dear\n1,t\n2,f\n5,f\n",
+        0,
+    ),
+    (
+        "an_and_that_faults_first",
+        "alice",
+        "SELECT id, amount / parts > 20 AND parts <> 0 AS dear FROM deal",
+        "fault 22012 at 18\n",
+        5,
+    ),
+    (
+        "an_or_stops_at_true",
+        "alice",
+        "SELECT id, parts = 0 OR amount / parts > 20 AS dear FROM deal",
+        "id,dear\n1,t\n2,t\n5,f\n",
+        0,
+    ),
+    (
+        "an_and_does_not_stop_at_null",
+        "lone",
+        "SELECT NULL AND 1 / 0 = 1 FROM region",
+        "fault 22012 at 18\n",
+        5,
+    ),
+    (
+        "an_or_does_not_stop_at_null",
+        "lone",
+        "SELECT id = NULL OR 1 / 0 = 1 FROM region",
+        "fault 22012 at 22\n",
+        5,
+    ),
+    (
+        "an_and_stops_at_a_later_false",
+        "lone",
+        "SELECT NULL AND FALSE AND 1 / 0 = 1 AS no FROM region WHERE id = 1",
+        "no\nf\n",
+        0,
+    ),
+    (
+        "between_evaluates_all_operands",
+        "lone",
+        "SELECT 1 BETWEEN 2 AND 1 / 0 FROM region",
+        "fault 22012 at 25\n",
+        5,
+    ),
+    (
+        "a_comparison_with_null_evaluates_the_other_operand",
+        "lone",
+        "SELECT NULL = 1 / 0 FROM region",
+        "fault 22012 at 16\n",
+        5,
+    ),
+    (
+        "a_sum_with_null_evaluates_the_other_operand",
+        "lone",
+        "SELECT NULL + 1 / 0 FROM region",
+        "fault 22012 at 16\n",
+        5,
+    ),
+    (
+        "a_test_for_null_evaluates_its_operand",
+        "lone",
+        "SELECT 1 / 0 IS NULL FROM region",
+        "fault 22012 at 9\n",
+        5,
+    ),
+    (
+        "a_member_of_a_list_is_evaluated",
+        "lone",
+        "SELECT 1 / 0 IN (1, NULL) FROM region",
+        "fault 22012 at 9\n",
+        5,
+    ),
+];
+
+fn skipped() -> &'static [Question] {
+    &SKIPPED
+}
+
+// Of several faults the one at the least offset is reported, of whichever row it is.
+static LEAST: [Question; 8] = [
+    (
+        "an_earlier_offset_in_a_later_row",
+        "boss",
+        "SELECT 1 / (id - 2), 1 / (id - 1) FROM deal",
+        "fault 22012 at 9\n",
+        5,
+    ),
+    (
+        "an_earlier_offset_in_an_earlier_row",
+        "boss",
+        "SELECT 1 / (id - 1), 1 / (id - 2) FROM deal",
+        "fault 22012 at 9\n",
+        5,
+    ),
+    (
+        "an_offset_decides_before_the_kind",
+        "boss",
+        "SELECT CASE WHEN id = 2 THEN CAST(owner AS bigint) ELSE 1 END, 1 / (id - 1) FROM deal",
+        "fault 22P02 at 29\n",
+        5,
+    ),
+    (
+        "the_least_offset_of_the_rows_that_are_seen",
+        "alice",
+        "SELECT 1 / (id - 3), 1 / (id - 1) FROM deal",
+        "fault 22012 at 23\n",
+        5,
+    ),
+    (
+        "the_least_offset_of_conditions",
+        "boss",
+        "SELECT id FROM deal WHERE 1 / (id - 2) < 9 AND 1 / (id - 1) < 9",
+        "fault 22012 at 28\n",
+        5,
+    ),
+    (
+        "an_earlier_offset_of_conditions_in_the_last_row",
+        "boss",
+        "SELECT id FROM deal WHERE 1 / (id - 5) < 9 AND 1 / (id - 1) < 9",
+        "fault 22012 at 28\n",
+        5,
+    ),
+    (
+        "the_least_offset_of_combinations",
+        "lone",
+        "SELECT 1 / (b.id - 2), 1 / (a.id - 1) FROM region a, region b",
+        "fault 22012 at 9\n",
+        5,
+    ),
+    (
+        "of_an_on_and_where",
+        "boss",
+        "SELECT a.id FROM deal a JOIN deal b ON 1 / (b.id - 5) < 9 WHERE 1 / (a.id - 1) < 9",
+        "fault 22012 at 41\n",
+        5,
+    ),
+];
+
+fn least() -> &'static [Question] {
+    &LEAST
+}
+
+// Two kinds of fault at one operator, and tables without rows.
+static KINDS: [Row; 7] = [
+    (
+        "division_by_zero_before_range",
+        "CREATE TABLE t (n bigint, d bigint);",
+        &[
+            Load("t", "n,d\n1,1\n-9223372036854775808,-1\n5,0\n"),
+            Ask("root", "SELECT n / d FROM t", "fault 22012 at 9\n", 5),
+            Ask(
+                "root",
+                "SELECT n / d FROM t WHERE d <> 0",
+                "fault 22003 at 9\n",
+                5,
+            ),
+            Ask(
+                "root",
+                "SELECT n / d FROM t WHERE d <> -1",
+                "fault 22012 at 9\n",
+                5,
+            ),
+            Ask(
+                "root",
+                "SELECT n / d FROM t WHERE d > 0",
+                "?column?\n1\n",
+                0,
+            ),
+            Ask(
+                "root",
+                "SELECT n FROM t WHERE n / d = 1",
+                "fault 22012 at 24\n",
+                5,
+            ),
+        ],
+    ),
+    (
+        "division_by_zero_before_range_in_the_other_order",
+        "CREATE TABLE t (n bigint, d bigint);",
+        &[
+            Load("t", "n,d\n5,0\n-9223372036854775808,-1\n1,1\n"),
+            Ask("root", "SELECT n / d FROM t", "fault 22012 at 9\n", 5),
+            Ask(
+                "root",
+                "SELECT n FROM t WHERE n / d = 1",
+                "fault 22012 at 24\n",
+                5,
+            ),
+        ],
+    ),
+    (
+        "range_before_a_bad_text",
+        "CREATE TABLE u (a text);",
+        &[
+            Load("u", "a\n7\nx\n9223372036854775808\n"),
+            Ask(
+                "root",
+                "SELECT CAST(a AS bigint) FROM u",
+                "fault 22003 at 7\n",
+                5,
+            ),
+            Ask(
+                "root",
+                "SELECT CAST(a AS bigint) AS n FROM u WHERE a = '7'",
+                "n\n7\n",
+                0,
+            ),
+            Ask(
+                "root",
+                "SELECT CAST(a AS bigint) FROM u WHERE a < '8' OR a = 'x'",
+                "fault 22P02 at 7\n",
+                5,
+            ),
+        ],
+    ),
+    (
+        "range_before_a_bad_text_in_the_other_order",
+        "CREATE TABLE u (a text);",
+        &[
+            Load("u", "a\n9223372036854775808\nx\n"),
+            Ask(
+                "root",
+                "SELECT CAST(a AS bigint) FROM u",
+                "fault 22003 at 7\n",
+                5,
+            ),
+        ],
+    ),
+    (
+        "kinds_of_combinations",
+        "CREATE TABLE t (n bigint); CREATE TABLE u (d bigint);",
+        &[
+            Load("t", "n\n-9223372036854775808\n3\n"),
+            Load("u", "d\n-1\n3\n"),
+            Ask("root", "SELECT n / d FROM t, u", "fault 22003 at 9\n", 5),
+            Load("u", "d\n0\n"),
+            Ask("root", "SELECT n / d FROM t, u", "fault 22012 at 9\n", 5),
+            Ask(
+                "root",
+                "SELECT n / d AS q FROM t, u WHERE n = d",
+                "q\n1\n",
+                0,
+            ),
+        ],
+    ),
+    (
+        "a_table_without_rows_does_not_fault",
+        SALES,
+        &[
+            Load("deal", SALES_DEALS),
+            Ask(
+                "alice",
+                "SELECT d.amount / d.parts FROM deal d, region r",
+                "?column?\n",
+                0,
+            ),
+            Ask("alice", "SELECT 1 / 0 FROM region", "?column?\n", 0),
+            Ask(
+                "alice",
+                "SELECT d.id FROM region r, deal d WHERE d.amount / d.parts > 1 AND CAST('x' AS bigint) = 1",
+                "id\n",
+                0,
+            ),
+        ],
+    ),
+    (
+        "a_role_that_sees_a_row_has_its_fault",
+        SALES,
+        &[
+            Load("deal", SALES_DEALS),
+            Ask("guest", "SELECT 1 / (id - 4) AS n FROM deal", "n\n", 0),
+            Apply("CREATE POLICY few ON deal TO guest USING (id < 4);"),
+            Ask(
+                "guest",
+                "SELECT 1 / (id - 4) AS n FROM deal",
+                "n\n-1\n0\n0\n",
+                0,
+            ),
+            Apply("CREATE POLICY more ON deal TO guest USING (id = 4);"),
+            Ask(
+                "guest",
+                "SELECT 1 / (id - 4) AS n FROM deal",
+                "fault 22012 at 9\n",
+                5,
+            ),
+        ],
+    ),
+];
+
+fn kinds() -> &'static [Row] {
+    &KINDS
+}
+
+// As many parentheses as may be open, and one more.
+static NESTED: [Question; 2] = [
+    (
+        "sixty_four_parentheses",
+        "lone",
+        "SELECT((((((((((((((((((((((((((((((((((((((((((((((((((((((((((((((((1)))))))))))))))))))))))))))))))))))))))))))))))))))))))))))))))) FROM region",
+        "?column?\n1\n1\n1\n",
+        0,
+    ),
+    (
+        "sixty_five_parentheses",
+        "lone",
+        "SELECT(((((((((((((((((((((((((((((((((((((((((((((((((((((((((((((((((1))))))))))))))))))))))))))))))))))))))))))))))))))))))))))))))))) FROM region",
+        "refused 54000\n",
+        3,
+    ),
+];
+
+fn nested() -> &'static [Question] {
+    &NESTED
+}
+
+#[test]
+fn arithmetic_and_casts_have_values(rt: HostRuntime) {
+    are_answered(&rt, values());
+}
+
+#[test]
+fn operations_fault_at_their_offset(rt: HostRuntime) {
+    are_answered(&rt, faults());
+}
+
+#[test]
+fn texts_that_are_no_numbers_fault(rt: HostRuntime) {
+    are_answered(&rt, texts());
+}
+
+#[test]
+fn rows_that_are_not_seen_or_not_kept_do_not_fault(rt: HostRuntime) {
+    are_answered(&rt, hidden());
+}
+
+#[test]
+fn conditions_that_cannot_fault_decide_first(rt: HostRuntime) {
+    are_answered(&rt, conjuncts());
+}
+
+#[test]
+fn what_is_not_evaluated_does_not_fault(rt: HostRuntime) {
+    are_answered(&rt, skipped());
+}
+
+#[test]
+fn the_least_fault_of_all_rows_is_reported(rt: HostRuntime) {
+    are_answered(&rt, least());
+}
+
+#[test]
+fn the_kind_decides_at_one_offset(rt: HostRuntime) {
+    for row in kinds() {
+        walk(&rt, row);
+    }
+}
+
+#[test]
+fn parentheses_are_limited(rt: HostRuntime) {
+    are_answered(&rt, nested());
+}

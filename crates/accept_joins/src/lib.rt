@@ -1,0 +1,9 @@
+//! Worked rows of joins, arithmetic and faults: tables of rows, each run by one test. docs/ACCEPTANCE.md lists them.
+#![tactic(auto)]
+
+#[cfg(test)]
+mod faults;
+#[cfg(test)]
+mod joins;
+#[cfg(test)]
+mod rows;
