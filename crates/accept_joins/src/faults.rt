@@ -4,8 +4,8 @@ use crate::rows::{Question, are_answered, walk};
 use fixture_stores::Step::{Apply, Ask, Load};
 use fixture_stores::{Row, SALES, SALES_DEALS};
 
-// Arithmetic and casts without a fault.
-static VALUES: [Question; 16] = [
+// Arithmetic without a fault.
+static VALUES: [Question; 9] = [
     (
         "a_quotient",
         "bob",
@@ -63,6 +63,21 @@ static VALUES: [Question; 16] = [
         0,
     ),
     (
+        "an_operation_on_two_entries",
+        "alice",
+        "SELECT d.amount/d.parts FROM deal d, region r WHERE d.region = r.id AND r.name = 'north'",
+        "?column?\n25\n",
+        0,
+    ),
+];
+
+fn values() -> &'static [Question] {
+    &VALUES
+}
+
+// Casts, and sums in conditions, without a fault.
+static CASTS: [Question; 7] = [
+    (
         "casts",
         "bob",
         "SELECT CAST(id AS text) AS t, CAST(owner AS text) AS o, CAST(id AS bigint) AS n, CAST(-amount AS text) AS m FROM deal",
@@ -91,13 +106,6 @@ static VALUES: [Question; 16] = [
         0,
     ),
     (
-        "an_operation_on_two_entries",
-        "alice",
-        "SELECT d.amount/d.parts FROM deal d, region r WHERE d.region = r.id AND r.name = 'north'",
-        "?column?\n25\n",
-        0,
-    ),
-    (
         "a_sum_in_an_on",
         "boss",
         "SELECT a.id, b.id AS after FROM deal a JOIN deal b ON b.id = a.id + 1",
@@ -120,12 +128,12 @@ static VALUES: [Question; 16] = [
     ),
 ];
 
-fn values() -> &'static [Question] {
-    &VALUES
+fn casts() -> &'static [Question] {
+    &CASTS
 }
 
 // What faults: division by zero, a number out of range, a text that is no number.
-static FAULTS: [Question; 15] = [
+static FAULTS: [Question; 12] = [
     (
         "a_quotient_by_zero",
         "alice",
@@ -210,6 +218,21 @@ static FAULTS: [Question; 15] = [
         "fault 22P02 at 12\n",
         5,
     ),
+];
+
+fn faults() -> &'static [Question] {
+    &FAULTS
+}
+
+// What comes before a fault: the names, the types and the grants of a query.
+static BEFORE: [Question; 3] = [
+    (
+        "names_before_faults",
+        "alice",
+        "SELECT 1 / 0, nosuch FROM deal",
+        "refused 42703 at 14\n",
+        3,
+    ),
     (
         "types_before_faults",
         "boss",
@@ -224,17 +247,10 @@ static FAULTS: [Question; 15] = [
         "denied 42501 column amount of table deal\n",
         4,
     ),
-    (
-        "names_before_faults",
-        "alice",
-        "SELECT 1 / 0, nosuch FROM deal",
-        "refused 42703 at 14\n",
-        3,
-    ),
 ];
 
-fn faults() -> &'static [Question] {
-    &FAULTS
+fn before() -> &'static [Question] {
+    &BEFORE
 }
 
 // Texts of numbers that no number is written as.
@@ -414,8 +430,8 @@ fn hidden() -> &'static [Question] {
     &HIDDEN
 }
 
-// The conjuncts that cannot fault decide first, in whatever place; the others are taken in written order.
-static CONJUNCTS: [Question; 16] = [
+// The conjuncts that cannot fault decide first, in whatever place.
+static CONJUNCTS: [Question; 7] = [
     (
         "a_later_condition_keeps_a_row_from_faulting",
         "alice",
@@ -465,6 +481,14 @@ static CONJUNCTS: [Question; 16] = [
         "fault 22012 at 50\n",
         5,
     ),
+];
+
+fn conjuncts() -> &'static [Question] {
+    &CONJUNCTS
+}
+
+// The conjuncts that may fault are taken in written order, and all of them before the items.
+static IN_ORDER: [Question; 9] = [
     (
         "a_fault_before_a_condition_that_would_drop_the_row",
         "alice",
@@ -530,8 +554,8 @@ static CONJUNCTS: [Question; 16] = [
     ),
 ];
 
-fn conjuncts() -> &'static [Question] {
-    &CONJUNCTS
+fn in_order() -> &'static [Question] {
+    &IN_ORDER
 }
 
 // What an operator does not evaluate does not fault.
@@ -704,8 +728,8 @@ fn least() -> &'static [Question] {
     &LEAST
 }
 
-// Two kinds of fault at one operator, and tables without rows.
-static KINDS: [Row; 7] = [
+// Two kinds of fault at one operator.
+static KINDS: [Row; 5] = [
     (
         "division_by_zero_before_range",
         "CREATE TABLE t (n bigint, d bigint);",
@@ -807,6 +831,14 @@ static KINDS: [Row; 7] = [
             ),
         ],
     ),
+];
+
+fn kinds() -> &'static [Row] {
+    &KINDS
+}
+
+// Tables without rows, and rows that become visible.
+static SHOWN: [Row; 2] = [
     (
         "a_table_without_rows_does_not_fault",
         SALES,
@@ -851,8 +883,8 @@ static KINDS: [Row; 7] = [
     ),
 ];
 
-fn kinds() -> &'static [Row] {
-    &KINDS
+fn shown() -> &'static [Row] {
+    &SHOWN
 }
 
 // As many parentheses as may be open, and one more.
@@ -878,13 +910,23 @@ fn nested() -> &'static [Question] {
 }
 
 #[test]
-fn arithmetic_and_casts_have_values(rt: HostRuntime) {
+fn arithmetic_has_values(rt: HostRuntime) {
     are_answered(&rt, values());
+}
+
+#[test]
+fn casts_and_conditions_have_values(rt: HostRuntime) {
+    are_answered(&rt, casts());
 }
 
 #[test]
 fn operations_fault_at_their_offset(rt: HostRuntime) {
     are_answered(&rt, faults());
+}
+
+#[test]
+fn names_types_and_grants_come_before_faults(rt: HostRuntime) {
+    are_answered(&rt, before());
 }
 
 #[test]
@@ -903,6 +945,11 @@ fn conditions_that_cannot_fault_decide_first(rt: HostRuntime) {
 }
 
 #[test]
+fn conditions_that_may_fault_decide_in_order(rt: HostRuntime) {
+    are_answered(&rt, in_order());
+}
+
+#[test]
 fn what_is_not_evaluated_does_not_fault(rt: HostRuntime) {
     are_answered(&rt, skipped());
 }
@@ -915,6 +962,13 @@ fn the_least_fault_of_all_rows_is_reported(rt: HostRuntime) {
 #[test]
 fn the_kind_decides_at_one_offset(rt: HostRuntime) {
     for row in kinds() {
+        walk(&rt, row);
+    }
+}
+
+#[test]
+fn faults_come_with_the_rows_that_are_seen(rt: HostRuntime) {
+    for row in shown() {
         walk(&rt, row);
     }
 }
