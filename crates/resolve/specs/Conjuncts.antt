@@ -1,5 +1,5 @@
 -- The conjuncts of a query.
-use Rattle.std.specs.Prelude.{Bool, not, List, [], ◌∷◌, ◌++◌, filter, Option, Some, None}
+use Rattle.std.specs.Prelude.{Bool, true, false, not, List, [], ◌∷◌, ◌++◌, filter, Option, Some, None}
 use Rattle.std.specs.List.{flat_map}
 use Rattle.expr.specs.Bound as bound
 use Rattle.expr.specs.Bound.{BoundExpr, BoundExprs}
@@ -26,6 +26,11 @@ conjuncts q = flat_map conjuncts_in q.ons ++ conjuncts_in q.filter
 -- it may fault
 abbrev pub fragile : BoundExpr → Bool
 fragile e = not (movable e)
+
+-- it cannot fault, or it may, as is asked
+abbrev pub is_in_part : Bool → BoundExpr → Bool
+is_in_part true e = movable e
+is_in_part false e = fragile e
 
 -- the conjuncts that cannot fault, in written order
 abbrev pub movable_conjuncts : BoundQuery → List BoundExpr

@@ -1,6 +1,7 @@
 //! What a query stands for in a catalogue.
 #![tactic(auto)]
 
+mod conjuncts;
 mod from;
 mod marks;
 mod privileges;
@@ -8,6 +9,7 @@ mod queries;
 mod resolved;
 mod served;
 
+pub use conjuncts::{fragile_conjuncts, movable_conjuncts};
 pub use from::entries;
 pub use privileges::needed;
 pub use queries::{bind_condition, bind_query};
