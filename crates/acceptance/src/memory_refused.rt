@@ -12,6 +12,25 @@ use value::Refusal;
 
 const TEXT: &str = "SELECT id FROM deal WHERE id IN (1, 2) AND NOT owner = 'bob'";
 
+// Texts of alice with their replies and statuses: of one table, of a join with a cast and a fragile condition, and a fault.
+static TEXTS: [(&str, &str, u8); 3] = [
+    (TEXT, "id\n1\n2\n", 0),
+    (
+        "SELECT CAST(d.id AS text) AS t, e.id + 1 AS n FROM deal d JOIN deal e ON d.id = e.id WHERE e.id * 1 > 0",
+        "t,n\n1,2\n2,3\n",
+        0,
+    ),
+    (
+        "SELECT 1 / (d.id - 1) FROM deal d, deal e WHERE d.id = e.id",
+        "fault 22012 at 9\n",
+        5,
+    ),
+];
+
+fn texts() -> &'static [(&'static str, &'static str, u8)] {
+    &TEXTS
+}
+
 // How many requests the store of the worked rows takes.
 fn requests_of_deals(rt: &(impl Abort + AllocGlobal)) -> u64 {
     let counting = Metered::counting(rt.alloc());
@@ -27,33 +46,38 @@ fn requests_of_schema(rt: &(impl Abort + AllocGlobal)) -> u64 {
 }
 
 // A reply where the nth request after the store is refused: out of memory, or there are fewer requests and it is whole.
-fn replies_without(rt: &(impl Abort + AllocGlobal), built: u64, n: u64) -> bool {
+fn replies_without(
+    rt: &(impl Abort + AllocGlobal),
+    built: u64,
+    (asked, reply, whole): (&str, &str, u8),
+    n: u64,
+) -> bool {
     let nth = built.saturating_add(n);
     let heap = Metered::refusing(rt.alloc(), nth);
     let store = made(rt, deals(&heap));
-    let (status, out) = served(&heap, &store, "alice", TEXT);
+    let (status, out) = served(&heap, &store, "alice", asked);
     let text = out.inner.as_slice();
     if heap.requests(nth) < nth {
-        assert_eq!(rt; status, 0, "at {n}");
-        assert_eq!(rt; text, b"id\n1\n2\n".as_slice(), "at {n}");
+        assert_eq!(rt; status, whole, "{asked} at {n}");
+        assert_eq!(rt; text, reply.as_bytes(), "{asked} at {n}");
         return true;
     }
-    assert_eq!(rt; status, 7, "at {n}");
-    assert_eq!(rt; text, b"refused 53200\n".as_slice(), "at {n}");
+    assert_eq!(rt; status, 7, "{asked} at {n}");
+    assert_eq!(rt; text, b"refused 53200\n".as_slice(), "{asked} at {n}");
     false
 }
 
-fn reply_or_refusal_of_memory(rt: &(impl Abort + AllocGlobal)) {
+fn reply_or_refusal_of_memory(rt: &(impl Abort + AllocGlobal), asked: (&str, &str, u8)) {
     let built = requests_of_deals(rt);
     let mut refused = 0u64;
     for n in 1..1000u64 {
-        if replies_without(rt, built, n) {
+        if replies_without(rt, built, asked, n) {
             break;
         }
         refused = n;
     }
     assert!(rt; refused > 5, "{refused}");
-    assert!(rt; refused < 100, "{refused}");
+    assert!(rt; refused < 200, "{refused}");
 }
 
 // What a refused request gives where a store is made.
@@ -120,7 +144,9 @@ fn refused_load_adds_nothing(rt: &(impl Abort + AllocGlobal)) {
 
 #[test]
 fn refused_memory_of_stores_and_answers_is_reported(rt: HostRuntime) {
-    reply_or_refusal_of_memory(&rt);
+    for asked in texts() {
+        reply_or_refusal_of_memory(&rt, *asked);
+    }
     for schema in schemas() {
         store_or_refusal_of_memory(&rt, schema);
     }
