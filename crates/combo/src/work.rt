@@ -6,7 +6,7 @@ ghost use Rattle.combo.specs.Places.{ticked};
 use std::marker::Model;
 
 /// How much work was done, in steps of a cost model (Selinger et al. 1979, section 4). It stops at the greatest number.
-#[derive(Debug)]
+#[derive(Debug, Drop)]
 pub struct Work {
     count: u128,
 }

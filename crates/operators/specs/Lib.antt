@@ -1,3 +1,4 @@
 pub mod Combinations
 pub mod World
 pub mod View
+pub mod Pushdown

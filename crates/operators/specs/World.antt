@@ -1,5 +1,5 @@
 -- What a query is run over.
-use Rattle.std.specs.Prelude.{ℕ, List, [], ◌∷◌, map, filter, slice_index_or}
+use Rattle.std.specs.Prelude.{List, [], ◌∷◌, map, filter, slice_index_or}
 use Rattle.value.specs.Datum.{Row}
 use Rattle.row_ast.specs.Ast.{Name}
 use Rattle.scope.specs.BoundQuery.{BoundQuery}

@@ -1,0 +1,4 @@
+pub mod Standing
+pub mod Pruning
+pub mod Nesting
+pub mod Walks
