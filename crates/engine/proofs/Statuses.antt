@@ -2,7 +2,7 @@
 use Rattle.std.proofs.Common.{◌≡◌, Some, None, refl, ap, arith}
 use Rattle.value.specs.declared.refusal.Refusal.{Refusal}
 use Rattle.value.specs.declared.refusal.Refusal.TheVariants as r
-use Rattle.report.specs.Reply.{Reply, Refused, Denied, Rows, no_memory, refusal_status, reply_status}
+use Rattle.report.specs.Reply.{Reply, Refused, Denied, Faulted, Rows, no_memory, refusal_status, reply_status}
 
 only_out_of_memory : (code : Refusal) → refusal_status code ≡ 7 → code ≡ r.OutOfMemory
 only_out_of_memory r.OutOfMemory is = refl
@@ -14,4 +14,5 @@ pub only_no_memory : (reply : Reply) → reply_status reply ≡ 7 → reply ≡ 
 only_no_memory (Refused code (Some offset)) is = absurd (omega arith)
 only_no_memory (Refused code None) is = ap (λ (c : Refusal). Refused c None) (only_out_of_memory code is)
 only_no_memory (Denied column table) is = absurd (omega arith)
+only_no_memory (Faulted fault) is = absurd (omega arith)
 only_no_memory (Rows headings rows) is = absurd (omega arith)

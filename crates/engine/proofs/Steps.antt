@@ -1,109 +1,78 @@
--- How walks over members, items and rows continue.
-use Rattle.std.proofs.Common.{◌≡◌, ℕ, suc, ◌+◌, ◌<◌, Bool, true, false, ◌&&◌, cond, List, [], ◌∷◌, ◌++◌, length, map, filter, get_or, drop, drop-cons, refl, sym, ap, ◌∙◌, append_assoc, arith, Ok, Err, Result, None}
-use Rattle.std.specs.Prelude.{IfOk, slice_get}
-use Rattle.std.specs.List.{list_all}
-use Rattle.value.specs.Datum.{Datum}
-use Rattle.eval.specs.Meaning.{Outcome}
-use Rattle.expr.specs.Movable.{movable, all_movable}
-use Rattle.expr.specs.View.{bound_expr_of, bound_exprs}
-use Rattle.expr.specs.declared.bound.BoundExpr.{BoundExpr}
-use Rattle.expr.proofs.Walks.{exprs_step}
-use Rattle.resolve.specs.Conjuncts.{members}
+-- The tables of a world are what the role sees of each entry; and how replies follow.
+use Rattle.std.proofs.Common.{◌≡◌, ◌⊎◌, inl, inr, ℕ, Bool, true, false, cond, List, [], ◌∷◌, ◌++◌, map, filter, refl, sym, ap, ap₂, ◌∙◌, append_assoc, append-nil, Ok, Err, Result, None}
+use Rattle.std.proofs.lemmas.List.{map-append}
+use Rattle.std.specs.Prelude.{IfOk}
+use Rattle.value.specs.Datum.{Row}
+use Rattle.value.specs.declared.refusal.Refusal.TheVariants.{FeatureNotSupported}
+use Rattle.row_ast.specs.Ast.{Name, Query}
+use Rattle.scope.specs.Entry.{Entry}
+use Rattle.catalog.specs.Catalog.{Catalog}
+use Rattle.access.specs.Access.{sees}
+use Rattle.access.specs.Guards.{Guard, shows}
 use Rattle.resolve.specs.Resolved.{Bound}
 use Rattle.resolve.specs.Served.{is_served}
-use Rattle.catalog.specs.Catalog.{Catalog}
-use Rattle.row_ast.specs.Ast.{Name, Query}
 use Rattle.report.specs.Reply.{Refused}
-use Rattle.value.specs.declared.refusal.Refusal.TheVariants.{FeatureNotSupported}
+use Rattle.operators.specs.World.{GuardedTable, seen_rows}
 use Rattle.engine.specs.Database.{Rows}
-use Rattle.engine.specs.Answer.{first_reply, served_reply, value_in}
-
-pub and_left : (a b : Bool) → (a && b) ≡ true → a ≡ true
-and_left true b h = refl
-and_left false b h = h
-
-pub and_right : (a b : Bool) → (a && b) ≡ true → b ≡ true
-and_right true b h = h
-and_right false b h = absurd (Rattle.std.proofs.Common.true≢false (sym h))
-
--- ---- members
-
-module _ {A : Type 0} where
-  pub members_are : (es : List (BoundExpr A)) → members (bound_exprs es) ≡ map bound_expr_of es
-  members_are [] = refl
-  members_are (e ∷ es) = ap (λ xs. bound_expr_of e ∷ xs) (members_are es)
-
-  module _ (es : List (BoundExpr A)) (k : ℕ) (e : BoundExpr A) (more : k < length es) (is : e ≡ get_or es k e) (still : all_movable (bound_exprs (drop k es)) ≡ true) where
-    here : (movable (bound_expr_of e) && all_movable (bound_exprs (drop (k + 1) es))) ≡ true
-    here = ap all_movable (sym (exprs_step es k e more is)) ∙ still
-
-    pub member_movable : movable (bound_expr_of e) ≡ true
-    member_movable = and_left _ _ here
-
-    pub members_movable : all_movable (bound_exprs (drop (k + 1) es)) ≡ true
-    members_movable = and_right _ _ here
-
--- ---- a test of all
-
-module _ {X W : Type 0} (p : W → Bool) (v : X → W) (xs : List X) (k : ℕ) (x : X) (more : k < length xs) (is : x ≡ get_or xs k x) where
-  pub all_step : list_all p (map v (drop k xs)) ≡ (p (v x) && list_all p (map v (drop (k + 1) xs)))
-  all_step = let n : k + 1 ≡ suc k = omega arith in rw (n, drop-cons xs k x more, ← is) refl
-
-  pub all_here : list_all p (map v (drop k xs)) ≡ true → p (v x) ≡ true
-  all_here h = and_left _ _ (sym all_step ∙ h)
-
-  pub all_goes_on : {whole : Bool} → list_all p (map v (drop k xs)) ≡ whole → p (v x) ≡ true → list_all p (map v (drop (k + 1) xs)) ≡ whole
-  all_goes_on so_far h = ap (λ b. b && list_all p (map v (drop (k + 1) xs))) (sym h) ∙ sym all_step ∙ so_far
-
-  pub all_after : list_all p (map v (drop k xs)) ≡ true → list_all p (map v (drop (k + 1) xs)) ≡ true
-  all_after h = and_right _ _ (sym all_step ∙ h)
-
--- ---- values
-
-pub value_is : (d : Datum) (m : Outcome) → Ok d ≡ m → d ≡ value_in m
-value_is d m e = ap value_in e
-
--- ---- rows
-
-module _ {X Z : Type 0} (p q : X → Bool) (g : X → Z) where
-  abbrev kept : List X → List Z
-  kept xs = map g (filter p (filter q xs))
-
-  kept_cons : (x : X) (xs : List X) → kept (x ∷ xs) ≡ cond (q x && p x) (g x ∷ kept xs) (kept xs)
-  kept_cons x xs = go (q x) (p x) refl
-    where
-      go : (b c : Bool) → p x ≡ c → map g (filter p (cond b (x ∷ filter q xs) (filter q xs))) ≡ cond (b && c) (g x ∷ kept xs) (kept xs)
-      go true c h = inner c h
-        where
-          inner : (c : Bool) → p x ≡ c → map g (cond (p x) (x ∷ filter p (filter q xs)) (filter p (filter q xs))) ≡ cond c (g x ∷ kept xs) (kept xs)
-          inner true h = rw h refl
-          inner false h = rw h refl
-      go false c h = refl
-
-  module _ (xs : List X) (k : ℕ) (d : X) (more : k < length xs) (known whole : List Z) (so_far : known ++ kept (drop k xs) ≡ whole) where
-    opened : known ++ cond (q (get_or xs k d) && p (get_or xs k d)) (g (get_or xs k d) ∷ kept (drop (k + 1) xs)) (kept (drop (k + 1) xs)) ≡ whole
-    opened =
-        let n : k + 1 ≡ suc k = omega arith in
-        let s : drop k xs ≡ get_or xs k d ∷ drop (k + 1) xs = rw (n, drop-cons xs k d more) refl in
-        ap (λ l. known ++ l) (sym (kept_cons (get_or xs k d) (drop (k + 1) xs))) ∙ ap (λ l. known ++ kept l) (sym s) ∙ so_far
-
-    pub row_kept : (q (get_or xs k d) && p (get_or xs k d)) ≡ true → (new : List Z) → new ≡ known ++ g (get_or xs k d) ∷ [] → new ++ kept (drop (k + 1) xs) ≡ whole
-    row_kept h new n = rw n (append_assoc known (g (get_or xs k d) ∷ []) (kept (drop (k + 1) xs)) ∙ (rw h at opened))
-
-    pub row_left : (q (get_or xs k d) && p (get_or xs k d)) ≡ false → known ++ kept (drop (k + 1) xs) ≡ whole
-    row_left h = rw h at opened
+use Rattle.engine.specs.Answer.{answer_reply, seen, served_reply}
+use Rattle.engine.specs.Guarded.{guarded_tables}
 
 -- what is kept by a test is what is kept by one that is the same
-pub filter_same : {X : Type 0} (p q : X → Bool) → ((x : X) → p x ≡ q x) → (xs : List X) → filter p xs ≡ filter q xs
+filter_same : {X : Type 0} (p q : X → Bool) → ((x : X) → p x ≡ q x) → (xs : List X) → filter p xs ≡ filter q xs
 filter_same p q same [] = refl
 filter_same p q same (x ∷ xs) = ap (λ b. cond b (x ∷ filter p xs) (filter p xs)) (same x) ∙ ap (λ l. cond (q x) (x ∷ l) l) (filter_same p q same xs)
 
--- ---- replies
+none_is_not_one : (b : Bool) (bs : List Bool) → ◌≡◌ {A = List Bool} [] (b ∷ bs) → ⊥
+none_is_not_one b bs e = cc
+
+first_is : (b c : Bool) (bs cs : List Bool) → b ∷ bs ≡ c ∷ cs → b ≡ c
+first_is b c bs cs e = cc
+
+others_are : (b c : Bool) (bs cs : List Bool) → b ∷ bs ≡ c ∷ cs → bs ≡ cs
+others_are b c bs cs e = cc
+
+-- guards that show what the role sees of each entry leave the rows that it sees
+module _ {E G : Type 0} (entry : E → Entry) (guard : G → Guard) (cat : Catalog) (rows : Rows) (role : Name) where
+  pub seen_are : (es : List E) (gs : List G) → ((row : Row) → map (λ g. shows role (guard g) row) gs ≡ map (λ e. sees cat role (entry e).table row) es) →
+      map (seen_rows role) (guarded_tables rows (map entry es) (map guard gs)) ≡ seen cat rows role (map entry es)
+  seen_are [] gs same = refl
+  seen_are (e ∷ es) [] same = absurd (none_is_not_one _ _ (same []))
+  seen_are (e ∷ es) (g ∷ gs) same =
+      ap₂ ◌∷◌ (filter_same (shows role (guard g)) (sees cat role (entry e).table) (λ row. first_is _ _ _ _ (same row)) (rows (entry e).table.name))
+      (seen_are es gs (λ row. others_are _ _ _ _ (same row)))
 
 -- a result of which one thing is said, and the same thing
 pub same_due : {X Y E : Type 0} (v : X → Y) (r : Result X E) (a b : Y) → a ≡ b → IfOk r (λ x. v x ≡ a) → IfOk r (λ x. v x ≡ b)
 same_due v (Ok x) a b e h = h ∙ e
 same_due v (Err f) a b e h = tt
 
-pub is_first : (cat : Catalog) (rows : Rows) (role : Name) (q : Query) (b : Bound) → is_served q b.query ≡ true → first_reply cat rows role b.query (slice_get b.entries 0) ≡ served_reply cat rows role q b
-is_first cat rows role q b h = sym (ap (λ s. cond s (first_reply cat rows role b.query (slice_get b.entries 0)) (Refused FeatureNotSupported None)) h)
+-- ---- the walk that guards tables
+
+no_guards : (rows : Rows) (es : List Entry) → guarded_tables rows es [] ≡ []
+no_guards rows [] = refl
+no_guards rows (e ∷ es) = refl
+
+module _ {E G T : Type 0} (entry : E → Entry) (guard : G → Guard) (table : T → GuardedTable) (rows : Rows) where
+  abbrev to_come : List E → List G → List GuardedTable
+  to_come es gs = guarded_tables rows (map entry es) (map guard gs)
+
+  pub next_table : (ts : List T) (es es' : List E) (gs gs' : List G) (e : E) (g : G) (t : T) (new : List T) {whole : List GuardedTable} → es ≡ e ∷ es' → gs ≡ g ∷ gs' → new ≡ ts ++ t ∷ [] →
+      (table t).rows ≡ rows (entry e).table.name → (table t).guard ≡ guard g → map table ts ++ to_come es gs ≡ whole → map table new ++ to_come es' gs' ≡ whole
+  next_table ts es es' gs gs' e g t new of_es of_gs made same_rows same_guard so_far =
+      let next : GuardedTable = record { rows = rows (entry e).table.name; guard = guard g } in
+      let same : table t ≡ next = ap₂ (λ r g'. record { rows = r; guard = g' }) same_rows same_guard in
+      ap (λ l. map table l ++ to_come es' gs') made
+      ∙ ap (λ l. l ++ to_come es' gs') (map-append table ts (t ∷ []))
+      ∙ append_assoc (map table ts) (table t ∷ []) (to_come es' gs')
+      ∙ ap (λ x. map table ts ++ x ∷ to_come es' gs') same
+      ∙ ap₂ (λ xs ys. map table ts ++ to_come xs ys) (sym of_es) (sym of_gs)
+      ∙ so_far
+
+  pub no_more_tables : (ts : List T) (es : List E) (gs : List G) {whole : List GuardedTable} → (es ≡ []) ⊎ (gs ≡ []) → map table ts ++ to_come es gs ≡ whole → map table ts ≡ whole
+  no_more_tables ts es gs (inl none) so_far = sym (append-nil (map table ts)) ∙ ap (λ xs. map table ts ++ to_come xs gs) (sym none) ∙ so_far
+  no_more_tables ts es gs (inr none) so_far = sym (append-nil (map table ts)) ∙ ap (λ l. map table ts ++ l) (sym (no_guards rows (map entry es))) ∙ ap (λ ys. map table ts ++ to_come es ys) (sym none) ∙ so_far
+
+-- ---- replies
+
+pub is_answer : (cat : Catalog) (rows : Rows) (role : Name) (q : Query) (b : Bound) → is_served b.entries q ≡ true → answer_reply cat rows role b ≡ served_reply cat rows role q b
+is_answer cat rows role q b h = sym (ap (λ s. cond s (answer_reply cat rows role b) (Refused FeatureNotSupported None)) h)

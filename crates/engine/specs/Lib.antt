@@ -4,3 +4,4 @@ pub mod View
 pub mod Answer
 pub mod Serving
 pub mod Hidden
+pub mod Guarded

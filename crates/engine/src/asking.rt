@@ -1,21 +1,19 @@
 //! Asking.
 
-ghost use Rattle.std.specs.Prelude.{◌≡◌, IfOk, Ok, None, map, option_map, slice_get, true};
-ghost use Rattle.value.specs.Datum.{row_of};
+ghost use Rattle.std.specs.Prelude.{◌≡◌, IfOk, Ok, None, map, option_map};
 ghost use Rattle.row_ast.specs.View.{query_of};
 ghost use Rattle.syntax.specs.Parsing.{parsed_query};
-ghost use Rattle.scope.specs.View.{bound_item_of, bound_query_of, entry_of};
+ghost use Rattle.scope.specs.View.{bound_item_of};
 ghost use Rattle.access.specs.Access.{denial};
 ghost use Rattle.access.specs.View.{privilege_of};
 ghost use Rattle.resolve.specs.Needed.{needed};
-ghost use Rattle.resolve.specs.Served.{are_served_parts};
 ghost use Rattle.resolve.specs.View.{bound_of};
 ghost use Rattle.report.specs.Reply as reply;
 ghost use Rattle.value.specs.declared.refusal.Refusal.TheVariants as codes;
 ghost use Rattle.report.specs.View.{reply_of};
-ghost use Rattle.engine.specs.Database.{rows_held, rows_of};
+ghost use Rattle.engine.specs.Database.{rows_of};
 ghost use Rattle.engine.specs.Answer as spec;
-ghost use Rattle.engine.specs.Answer.{reply_to, parsed_reply, query_reply, resolved_reply, served_reply, denied_reply, first_reply, rows_reply, fault_reply};
+ghost use Rattle.engine.specs.Answer.{reply_to, parsed_reply, query_reply, resolved_reply, served_reply, denied_reply, answer_reply, fault_reply};
 ghost use Rattle.engine.specs.Serving.{IsReply};
 
 use crate::answer::answer_rows;
@@ -26,45 +24,11 @@ use memory::{Failure, Heap};
 use report::Reply;
 use resolve::{Bound, bind, is_served, needed};
 use row_ast::Query;
-use scope::{BoundItem, BoundQuery, Entry};
+use scope::BoundItem;
 use std::alloc::AllocError;
 use syntax::{ParseError, parse_query};
-use tables::Table;
 use text::{Items, Text};
-use value::{Refusal, Value};
-
-// The items of those rows of an entry that the role sees and that pass WHERE, in order.
-fn rows_in<A: Heap>(
-    alloc: A,
-    catalog: &Catalog<A>,
-    role: &str,
-    query: &BoundQuery<A>,
-    entry: &Entry<'_, A>,
-    contents: Option<&Table<A>>,
-) -> Result<Items<Items<Value<A>, A>, A>, AllocError>
-    requires { are_served_parts (bound_query_of query.now) ≡ true }
-    ensures { IfOk result (λ rows. map (λ r. row_of r) rows ≡ spec.answered_rows catalog.now role.now (bound_query_of query.now) (entry_of entry.now) (rows_held (option_map (λ t. t.now) contents.entry))) }
-{
-    match contents {
-        Some(rows) => answer_rows(alloc, catalog, role, entry, query, rows),
-        None => Ok(Items::new(alloc)),
-    }
-}
-
-// The items of the rows of an entry that the role sees and that pass WHERE, in order.
-fn rows_seen<A: Heap>(
-    alloc: A,
-    store: &Store<A>,
-    role: &str,
-    query: &BoundQuery<A>,
-    entry: &Entry<'_, A>,
-) -> Result<Items<Items<Value<A>, A>, A>, AllocError>
-    requires { are_served_parts (bound_query_of query.now) ≡ true }
-    ensures { IfOk result (λ rows. map (λ r. row_of r) rows ≡ spec.answer store.now.catalog (rows_of store.now) role.now (bound_query_of query.now) (entry_of entry.now)) }
-{
-    let contents = store.contents(entry.table.name());
-    rows_in(alloc, store.catalog(), role, query, entry, contents)
-}
+use value::Refusal;
 
 fn headings<A: Heap>(alloc: A, items: &[BoundItem<A>]) -> Result<Items<Text<A>, A>, AllocError>
     ensures { IfOk result (λ headings. headings ≡ spec.headings (map (λ i. bound_item_of i) items.now)) }
@@ -76,20 +40,23 @@ fn headings<A: Heap>(alloc: A, items: &[BoundItem<A>]) -> Result<Items<Text<A>, 
     Ok(headings)
 }
 
-// The rows of a supported query over an entry.
-fn answer_entry<A: Heap>(
+// The rows of a bound query with their headings, or its first fault.
+fn answer_rows_or_fault<A: Heap>(
     alloc: A,
     store: &Store<A>,
     role: &str,
-    query: &BoundQuery<A>,
-    entry: &Entry<'_, A>,
+    bound: &Bound<'_, A>,
 ) -> Result<Reply<A>, AllocError>
-    requires { are_served_parts (bound_query_of query.now) ≡ true }
-    ensures { IfOk result (λ reply. reply_of reply ≡ rows_reply store.now.catalog (rows_of store.now) role.now (bound_query_of query.now) (entry_of entry.now)) }
+    ensures { IfOk result (λ reply. reply_of reply ≡ answer_reply store.now.catalog (rows_of store.now) role.now (bound_of bound.now)) }
 {
-    let rows = rows_seen(alloc, store, role, query, entry)?;
-    let headings = headings(alloc, query.items.as_slice())?;
-    Ok(Reply::Rows { headings, rows })
+    match answer_rows(alloc, store, role, bound) {
+        Ok(rows) => {
+            let headings = headings(alloc, bound.query.items.as_slice())?;
+            Ok(Reply::Rows { headings, rows })
+        }
+        Err(Failure::Fault(fault)) => Ok(Reply::Faulted { fault }),
+        Err(Failure::OutOfMemory) => Err(AllocError),
+    }
 }
 
 fn not_supported<A: Heap>() -> Reply<A>
@@ -101,30 +68,7 @@ fn not_supported<A: Heap>() -> Reply<A>
     }
 }
 
-fn first_entry<'a, 's, A: Heap>(entries: &'a [Entry<'s, A>]) -> Option<&'a Entry<'s, A>>
-    ensures { option_map (λ e. entry_of e.now) result ≡ slice_get (map (λ e. entry_of e) entries.now) 0 }
-{
-    entries.get(0)
-}
-
-// The rows of a supported query over the first of its entries.
-fn answer_first<A: Heap>(
-    alloc: A,
-    store: &Store<A>,
-    role: &str,
-    query: &BoundQuery<A>,
-    entries: &[Entry<'_, A>],
-) -> Result<Reply<A>, AllocError>
-    requires { are_served_parts (bound_query_of query.now) ≡ true }
-    ensures { IfOk result (λ reply. reply_of reply ≡ first_reply store.now.catalog (rows_of store.now) role.now (bound_query_of query.now) (slice_get (map (λ e. entry_of e) entries.now) 0)) }
-{
-    match first_entry(entries) {
-        Some(entry) => answer_entry(alloc, store, role, query, entry),
-        None => Ok(not_supported()),
-    }
-}
-
-// The rows of a query whose privileges are granted; what is not supported yet is refused.
+// The rows or the fault of a query whose privileges are granted; what is not supported yet is refused.
 fn answer_granted<A: Heap>(
     alloc: A,
     store: &Store<A>,
@@ -134,10 +78,10 @@ fn answer_granted<A: Heap>(
 ) -> Result<Reply<A>, AllocError>
     ensures { IfOk result (λ reply. reply_of reply ≡ served_reply store.now.catalog (rows_of store.now) role.now (query_of query.now) (bound_of bound.now)) }
 {
-    if !is_served(query, &bound.query) {
+    if !is_served(bound.entries.as_slice(), query) {
         return Ok(not_supported());
     }
-    answer_first(alloc, store, role, &bound.query, bound.entries.as_slice())
+    answer_rows_or_fault(alloc, store, role, bound)
 }
 
 fn copy_name<A: Heap>(alloc: A, name: Option<&Text<A>>) -> Result<Option<Text<A>>, AllocError>
@@ -263,7 +207,7 @@ fn answer<A: Heap>(
     }
 }
 
-/// The reply to a role's text: a refusal, a denial, or the rows. Where memory runs out it is the refusal 53200.
+/// The reply to a role's text: a refusal, a denial, the rows, or the first fault of their evaluation. Where memory runs out it is the refusal 53200.
 pub fn ask<A: Heap>(alloc: A, store: &Store<A>, role: &str, text: &str) -> Reply<A>
     ensures { IsReply (reply_of result) (reply_to store.now.catalog (rows_of store.now) role.now text.now) }
 {

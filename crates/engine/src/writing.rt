@@ -56,8 +56,8 @@ fn write_reply<A: Heap, W: Out>(
     }
 }
 
-/// Writes the reply to a role's text, and gives its status: 0 rows, 3 a refused text, 4 a denial, 6 an unknown role,
-/// 7 out of memory, 8 a writer that failed. Nothing is written before the reply is whole.
+/// Writes the reply to a role's text, and gives its status: 0 rows, 3 a refused text, 4 a denial, 5 a fault, 6 an unknown
+/// role, 7 out of memory, 8 a writer that failed. Nothing is written before the reply is whole.
 pub fn serve<A: Heap, W: Out>(alloc: A, store: &Store<A>, role: &str, text: &str, out: &mut W) -> u8
     // The whole reply, and its status.
     ensures answered { result ≢ 7 → result ≢ 8 → IsWhole (W.taken out.old) (W.taken out.new) result (reply_to store.now.catalog (rows_of store.now) role.now text.now) }
@@ -76,8 +76,9 @@ pub fn serve<A: Heap, W: Out>(alloc: A, store: &Store<A>, role: &str, text: &str
     write_reply(alloc, store, role, text, out)
 }
 
-/// Rows that a role does not see make no difference to its replies: two contents whose rows that it sees, restricted to the
-/// columns that the text names, are the same bag give the same reply, and so equal bytes and statuses.
+/// Rows that a role does not see make no difference to its replies: two contents whose rows that it sees, entry by entry and
+/// restricted to the columns that the text names, are the same bags give the same reply, rows or fault, and so equal bytes
+/// and statuses.
 #[tactic(auto, using(crate::proofs::HiddenRows::same_reply))]
 pub fn law_hidden_rows()
     ensures { (cat : Catalog) (role : Name) (text : List ℕ) (one other : Rows) → SeesSame cat role text one other → reply_to cat one role text ≡ reply_to cat other role text }
