@@ -3,9 +3,9 @@
 #![tactic(auto)]
 
 mod rows;
-mod sales;
+mod sales_store;
 mod stores;
 
 pub use rows::{Row, Step};
-pub use sales::{SALES, SALES_DEALS, SALES_REGIONS, sales};
+pub use sales_store::{SALES, SALES_DEALS, SALES_REGIONS, sales};
 pub use stores::{DEALS, SCHEMA, StoreFault, apply, deals, load, served, store_of};
