@@ -2,6 +2,8 @@
 #![tactic(auto)]
 
 #[cfg(test)]
+mod arithmetic;
+#[cfg(test)]
 mod faults;
 #[cfg(test)]
 mod joins;
