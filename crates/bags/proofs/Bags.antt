@@ -1,5 +1,5 @@
 -- What may be done to lists that are the same bag.
-use Rattle.std.proofs.Common.{◌≡◌, ℕ, ◌+◌, Bool, true, false, cond, List, [], ◌∷◌, map, filter, flat_map, filter_map, refl, sym, ap, ◌∙◌, arith, Option, Some, None, sum_by}
+use Rattle.std.proofs.Common.{◌≡◌, ℕ, ◌+◌, Bool, true, false, cond, List, [], ◌∷◌, map, filter, flat_map, filter_map, length, refl, sym, ap, ◌∙◌, arith, Option, Some, None, sum_by}
 use Rattle.std.specs.List.{cons_option}
 use Rattle.std.proofs.lemmas.List.Sums.{sum_by-cons, sum_by-append}
 use Rattle.bags.proofs.Order.{SameSums}
@@ -39,9 +39,16 @@ sum_by-filter : {X : Type 0} (f : X → ℕ) (p : X → Bool) (xs : List X) → 
 sum_by-filter f p [] = refl
 sum_by-filter f p (x ∷ xs) = sum_by-cond f (p x) x (filter p xs) ∙ ap (λ n. cond (p x) (f x) 0 + n) (sum_by-filter f p xs) ∙ sym (sum_by-cons (λ y. cond (p y) (f y) 0) x xs)
 
+ones : {X : Type 0} (xs : List X) → length xs ≡ sum_by (λ x. 1) xs
+ones [] = refl
+ones (x ∷ xs) = omega (arith, ones xs, sum_by-cons (λ y. 1) x xs)
+
 -- ---- bags
 
 module _ {X : Type 0} (xs ys : List X) (same : SameSums xs ys) where
+  pub SameSums-length : length xs ≡ length ys
+  SameSums-length = ones xs ∙ same (λ x. 1) ∙ sym (ones ys)
+
   pub SameSums-map : {Y : Type 0} (g : X → Y) → SameSums (map g xs) (map g ys)
   SameSums-map g f = sum_by-map f g xs ∙ same (λ x. f (g x)) ∙ sym (sum_by-map f g ys)
 
