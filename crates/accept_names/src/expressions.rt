@@ -173,7 +173,7 @@ static FAULTS: [(&str, &str); 24] = [
 struct Seven;
 
 impl Row<Global> for Seven {
-    ghost cells = { λ r id. if nat_eq id.column 0 then int (pos 7) else null };
+    ghost cells = { λ r. record { column = λ id. if nat_eq id.column 0 then int (pos 7) else null; aggregate = no_aggregate } };
 
     fn cell(&self, id: ColumnId) -> Val<'_, Global> {
         if id.column == 0 {
@@ -181,6 +181,10 @@ impl Row<Global> for Seven {
         } else {
             Val::Null
         }
+    }
+
+    fn aggregate(&self, _offset: u32) -> Val<'_, Global> {
+        Val::Null
     }
 }
 

@@ -5,7 +5,7 @@ use Rattle.std.specs.List.{list_all, list_any, find}
 use Rattle.value.specs.Datum.{Datum, null, Row}
 use Rattle.row_ast.specs.Ast.{Name, everyone}
 use Rattle.row_objects.specs.Objects.{Policy, Table}
-use Rattle.eval.specs.Meaning.{Cells, holds}
+use Rattle.eval.specs.Meaning.{Cells, no_aggregate, holds}
 use Rattle.catalog.specs.Catalog.{Catalog, belongs, bypasses_rls, is_superuser, owns}
 
 -- r is among the roles that the name stands for
@@ -49,7 +49,7 @@ cell row place = slice_index_or row place null
 
 -- a row of a table as the cells of its columns; a policy is bound to its table alone, whatever the number of the entry
 abbrev pub cells_of : Row → Cells
-cells_of row id = cell row id.column
+cells_of row = record { column = λ id. cell row id.column; aggregate = no_aggregate }
 
 -- the policy applies to the role
 abbrev pub applies : Catalog → Name → Policy → Bool

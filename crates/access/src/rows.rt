@@ -60,4 +60,8 @@ impl<'t, A: Heap> Row<A> for TableRow<'t, A> {
     fn cell(&self, id: ColumnId) -> Val<'_, A> {
         cell(self.rows, self.number, id.column)
     }
+
+    fn aggregate(&self, _offset: u32) -> Val<'_, A> {
+        Val::Null
+    }
 }

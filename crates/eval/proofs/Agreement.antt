@@ -1,4 +1,4 @@
--- The outcome of an expression depends only on the columns that it names.
+-- The outcome of an expression depends only on the columns that it names and on the aggregates.
 use Rattle.std.proofs.Common.{◌≡◌, ℕ, List, [], ◌∷◌, ◌++◌, Ok, Contains, refl, ap, ap₂, ◌∙◌, arith}
 use Rattle.std.proofs.lemmas.List.Elements.{Contains-append_left, Contains-append_right}
 use Rattle.expr.specs.declared.bound.ColumnId.{ColumnId}
@@ -11,16 +11,16 @@ contains_first : (id : ColumnId) (ids : List ColumnId) → Contains (id ∷ ids)
 contains_first id ids = (0, omega arith, refl)
 
 module _ (one other : Cells) where
-  agree_left : (xs ys : List ColumnId) → AgreeOn (xs ++ ys) one other → AgreeOn xs one other
-  agree_left xs ys h id c = h id (Contains-append_left xs ys id c)
+  pub agree_left : (xs ys : List ColumnId) → AgreeOn (xs ++ ys) one other → AgreeOn xs one other
+  agree_left xs ys h = record { columns = λ id c. h.columns id (Contains-append_left xs ys id c); aggregates = h.aggregates }
 
-  agree_right : (xs ys : List ColumnId) → AgreeOn (xs ++ ys) one other → AgreeOn ys one other
-  agree_right xs ys h id c = h id (Contains-append_right xs ys id c)
+  pub agree_right : (xs ys : List ColumnId) → AgreeOn (xs ++ ys) one other → AgreeOn ys one other
+  agree_right xs ys h = record { columns = λ id c. h.columns id (Contains-append_right xs ys id c); aggregates = h.aggregates }
 
   module _ (role : List ℕ) where
     mutual
       pub same_meaning : (e : BoundExpr) → AgreeOn (columns e) one other → meaning one role e ≡ meaning other role e
-      same_meaning (Column id) h = ap Ok (h id (contains_first id []))
+      same_meaning (Column id) h = ap Ok (h.columns id (contains_first id []))
       same_meaning (Literal d) h = refl
       same_meaning CurrentUser h = refl
       same_meaning (Negate offset e) h = ap (negation offset) (same_meaning e h)
@@ -40,8 +40,8 @@ module _ (one other : Cells) where
       same_meaning (Cast offset to e) h = ap (cast_at to offset) (same_meaning e h)
       same_meaning (Case offset as_ o) h =
           same_chosen as_ _ _ (agree_left (arms_columns as_) (otherwise_columns o) h) (same_otherwise o (agree_right (arms_columns as_) (otherwise_columns o) h))
-      same_meaning (CountStar offset) h = refl
-      same_meaning (Call aggregate offset e) h = refl
+      same_meaning (CountStar offset) h = ap Ok (h.aggregates offset)
+      same_meaning (Call aggregate offset e) h = ap Ok (h.aggregates offset)
 
       same_conjunction : (es : BoundExprs) → AgreeOn (all_columns es) one other → conjunction one role es ≡ conjunction other role es
       same_conjunction no_expr h = refl

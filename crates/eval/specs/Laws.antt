@@ -10,10 +10,11 @@ use Rattle.eval.specs.Meaning.{Cells, meaning}
 abbrev pub MovableNeverFaults : Type 0
 MovableNeverFaults = (cells : Cells) (role : List ℕ) (e : BoundExpr) → movable e ≡ true → IsOk (meaning cells role e)
 
--- two rows have the same cells in the columns
-abbrev pub AgreeOn : List ColumnId → Cells → Cells → Type 0
-AgreeOn ids one other = (id : ColumnId) → Contains ids id → one id ≡ other id
+-- the same cells in the columns, and the same aggregates
+pub record AgreeOn (ids : List ColumnId) (one other : Cells) : Type 0 where
+  pub columns : (id : ColumnId) → Contains ids id → one.column id ≡ other.column id
+  pub aggregates : (offset : ℕ) → one.aggregate offset ≡ other.aggregate offset
 
--- an expression has the same outcome on rows that agree on the columns that it names
+-- an expression has the same outcome where the columns that it names, and the aggregates, are the same
 abbrev pub ReadsItsColumns : Type 0
 ReadsItsColumns = (one other : Cells) (role : List ℕ) (e : BoundExpr) → AgreeOn (columns e) one other → meaning one role e ≡ meaning other role e

@@ -17,9 +17,14 @@ use Rattle.expr.specs.declared.bound.ColumnId.{ColumnId}
 use Rattle.expr.specs.Bound.{BoundExpr, Column, Literal, CurrentUser, Negate, Arithmetic, Comparison, Between, In, IsNull, Not, And, Or, Cast, Case, CountStar, Call, BoundExprs, no_expr, one_expr, BoundArms, no_arm, one_arm, BoundOtherwise, Nothing, Value}
 use Rattle.eval.specs.Operators.{arithmetic_of, comparison_of, between_of, in_of, null_test, negated_if}
 
--- the cell in a column
-abbrev pub Cells : Type 0
-Cells = ColumnId → Datum
+-- what an expression reads: the cell in a column, and the value of the aggregate whose name starts at an offset of the text
+pub record Cells : Type 0 where
+  pub column : ColumnId → Datum
+  pub aggregate : ℕ → Datum
+
+-- a row has no aggregates, and no expression that is evaluated on one has; so null is never in place of one
+abbrev pub no_aggregate : ℕ → Datum
+no_aggregate offset = null
 
 -- a value, or a fault
 abbrev pub Outcome : Type 0
@@ -110,7 +115,7 @@ is_true_outcome (Err fault) = false
 module _ (cells : Cells) (role : List ℕ) where
   abbrev mutual
     pub meaning : BoundExpr → Outcome
-    meaning (Column id) = Ok (cells id)
+    meaning (Column id) = Ok (cells.column id)
     meaning (Literal d) = Ok d
     meaning CurrentUser = Ok (text role)
     meaning (Negate offset e) = negation offset (meaning e)
@@ -124,9 +129,8 @@ module _ (cells : Cells) (role : List ℕ) where
     meaning (Or offset es) = as_datum (disjunction es)
     meaning (Cast offset to e) = cast_at to offset (meaning e)
     meaning (Case offset as_ o) = chosen as_ (otherwise o)
-    -- an aggregate is taken out before its expression is evaluated on a row, so this case does not occur
-    meaning (CountStar offset) = Ok null
-    meaning (Call aggregate offset e) = Ok null
+    meaning (CountStar offset) = Ok (cells.aggregate offset)
+    meaning (Call aggregate offset e) = Ok (cells.aggregate offset)
 
     pub conjunction : BoundExprs → Result Truth Fault
     conjunction no_expr = Ok True

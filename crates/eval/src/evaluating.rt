@@ -19,8 +19,7 @@ use memory::{Failure, Heap};
 use std::borrow::CowStr;
 use value::{Fault, Truth, Val, and3, or3};
 
-/// The value on a row, for a role, or the first fault from left to right. An aggregate is null: it is taken out before
-/// its expression is evaluated on a row.
+/// The value on a row or on a group, for a role, or the first fault from left to right.
 #[cycle(eval)]
 #[tactic(auto, using(crate::proofs::Movables::eval_lemmas))]
 pub fn eval<'a, A: Heap, R: Row<A>>(
@@ -97,7 +96,9 @@ pub fn eval<'a, A: Heap, R: Row<A>>(
                 None => Ok(Val::Null),
             },
         },
-        BoundExpr::CountStar { .. } | BoundExpr::Call { .. } => Ok(Val::Null),
+        BoundExpr::CountStar { offset } | BoundExpr::Call { offset, .. } => {
+            Ok(row.aggregate(*offset))
+        }
     }
 }
 

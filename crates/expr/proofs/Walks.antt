@@ -1,13 +1,11 @@
 -- How a walk over the members of an expression continues.
 use Rattle.std.proofs.Common.{◌≡◌, Bool, true, false, ◌&&◌, ℕ, suc, ◌+◌, ◌<◌, ◌≤◌, List, [], ◌++◌, append_assoc, append-nil, length, get_or, drop, drop-cons, Option, Some, None, Vec, Box, refl, sym, ap, ◌∙◌, arith}
 use Rattle.std.proofs.Math.ListN.{drop_of_length-le}
-use Rattle.expr.specs.declared.bound.ColumnId.{ColumnId}
 use Rattle.expr.specs.Bound as bound
 use Rattle.expr.specs.View.{bound_expr_of, bound_exprs, bound_arms}
 use Rattle.expr.specs.declared.bound.BoundExpr.{BoundExpr, And, Or, Case}
 use Rattle.expr.specs.declared.bound.BoundArm.{BoundArm}
 use Rattle.expr.proofs.Trees.{bound_exprs_hidden, bound_arms_hidden}
-use Rattle.expr.specs.Columns.{columns, all_columns, arms_columns}
 use Rattle.expr.specs.Weights.{weight, all_weight, arms_weight}
 
 -- ---- what a node with members is
@@ -79,36 +77,48 @@ module _ {A : Type 0} (as_ : List (BoundArm A)) (k : ℕ) where
     pub arms_still : arms_weight (bound_arms (drop k as_)) ≤ arms_weight (bound_arms as_) → arms_weight (bound_arms (drop (k + 1) as_)) ≤ arms_weight (bound_arms as_)
     arms_still h = let s = ap arms_weight arms_step in omega arith
 
--- ---- columns, after those that are known
+-- ---- what parts an expression has, in written order, after those that are known
 
-module _ {A : Type 0} (known whole : List ColumnId) where
-  pub columns_step : (es : List (BoundExpr A)) (k : ℕ) (e : BoundExpr A) → k < length es → e ≡ get_or es k e → (new : List ColumnId)
-      → known ++ all_columns (bound_exprs (drop k es)) ≡ whole → new ≡ known ++ columns (bound_expr_of e) → new ++ all_columns (bound_exprs (drop (k + 1) es)) ≡ whole
-  columns_step es k e more is new so_far n =
-      rw n (append_assoc known (columns (bound_expr_of e)) (all_columns (bound_exprs (drop (k + 1) es))) ∙ ap (λ es. known ++ all_columns es) (sym (exprs_step es k e more is)) ∙ so_far)
+module _ {X : Type 0} (of : bound.BoundExpr → List X) (of_all : bound.BoundExprs → List X) (of_arms : bound.BoundArms → List X) where
+  -- how the parts of members and of arms are those of each
+  pub record Gathers : Type 0 where
+    pub none : of_all bound.no_expr ≡ []
+    pub one : (e : bound.BoundExpr) (es : bound.BoundExprs) → of_all (bound.one_expr e es) ≡ of e ++ of_all es
+    pub no_arm : of_arms bound.no_arm ≡ []
+    pub one_arm : (when result : bound.BoundExpr) (as_ : bound.BoundArms) → of_arms (bound.one_arm when result as_) ≡ of when ++ (of result ++ of_arms as_)
+    pub otherwise_none : (offset : ℕ) (as_ : bound.BoundArms) → of (bound.Case offset as_ bound.Nothing) ≡ of_arms as_ ++ []
+    pub otherwise_some : (offset : ℕ) (as_ : bound.BoundArms) (o : bound.BoundExpr) → of (bound.Case offset as_ (bound.Value o)) ≡ of_arms as_ ++ of o
 
-  pub columns_over : (es : List (BoundExpr A)) (k : ℕ) → known ++ all_columns (bound_exprs (drop k es)) ≡ whole → length es ≤ k → known ≡ whole
-  columns_over es k so_far l = sym (append-nil known) ∙ ap (λ es. known ++ all_columns es) (sym (exprs_over es k l)) ∙ so_far
+  module _ (h : Gathers) (known whole : List X) where
+    pub parts_step : {A : Type 0} (es : List (BoundExpr A)) (k : ℕ) (e : BoundExpr A) → k < length es → e ≡ get_or es k e → (new : List X)
+        → known ++ of_all (bound_exprs (drop k es)) ≡ whole → new ≡ known ++ of (bound_expr_of e) → new ++ of_all (bound_exprs (drop (k + 1) es)) ≡ whole
+    parts_step es k e more is new so_far n =
+        rw n (append_assoc known (of (bound_expr_of e)) (of_all (bound_exprs (drop (k + 1) es))) ∙ ap (λ l. known ++ l) (sym (h.one (bound_expr_of e) (bound_exprs (drop (k + 1) es)))) ∙ ap (λ es. known ++ of_all es) (sym (exprs_step es k e more is)) ∙ so_far)
 
-  pub arm_columns_step : (as_ : List (BoundArm A)) (k : ℕ) (a : BoundArm A) → k < length as_ → a ≡ get_or as_ k a → (mid new : List ColumnId)
-      → known ++ arms_columns (bound_arms (drop k as_)) ≡ whole → mid ≡ known ++ columns (bound_expr_of a.when) → new ≡ mid ++ columns (bound_expr_of a.result) → new ++ arms_columns (bound_arms (drop (k + 1) as_)) ≡ whole
-  arm_columns_step as_ k a more is mid new so_far m n =
-      rw (n, m)
-      (append_assoc (known ++ columns (bound_expr_of a.when)) (columns (bound_expr_of a.result)) (arms_columns (bound_arms (drop (k + 1) as_)))
-      ∙ append_assoc known (columns (bound_expr_of a.when)) (columns (bound_expr_of a.result) ++ arms_columns (bound_arms (drop (k + 1) as_)))
-      ∙ ap (λ as_. known ++ arms_columns as_) (sym (arms_step as_ k a more is)) ∙ so_far)
+    pub parts_over : {A : Type 0} (es : List (BoundExpr A)) (k : ℕ) → known ++ of_all (bound_exprs (drop k es)) ≡ whole → length es ≤ k → known ≡ whole
+    parts_over es k so_far l = sym (append-nil known) ∙ ap (λ l. known ++ l) (sym h.none) ∙ ap (λ es. known ++ of_all es) (sym (exprs_over es k l)) ∙ so_far
 
-  pub arm_columns_over : (as_ : List (BoundArm A)) (k : ℕ) → known ++ arms_columns (bound_arms (drop k as_)) ≡ whole → length as_ ≤ k → known ≡ whole
-  arm_columns_over as_ k so_far l = sym (append-nil known) ∙ ap (λ as_. known ++ arms_columns as_) (sym (arms_over as_ k l)) ∙ so_far
+    pub arm_parts_step : {A : Type 0} (as_ : List (BoundArm A)) (k : ℕ) (a : BoundArm A) → k < length as_ → a ≡ get_or as_ k a → (mid new : List X)
+        → known ++ of_arms (bound_arms (drop k as_)) ≡ whole → mid ≡ known ++ of (bound_expr_of a.when) → new ≡ mid ++ of (bound_expr_of a.result) → new ++ of_arms (bound_arms (drop (k + 1) as_)) ≡ whole
+    arm_parts_step as_ k a more is mid new so_far m n =
+        let rest = of_arms (bound_arms (drop (k + 1) as_)) in
+        rw (n, m)
+        (append_assoc (known ++ of (bound_expr_of a.when)) (of (bound_expr_of a.result)) rest
+        ∙ append_assoc known (of (bound_expr_of a.when)) (of (bound_expr_of a.result) ++ rest)
+        ∙ ap (λ l. known ++ l) (sym (h.one_arm (bound_expr_of a.when) (bound_expr_of a.result) (bound_arms (drop (k + 1) as_))))
+        ∙ ap (λ as_. known ++ of_arms as_) (sym (arms_step as_ k a more is)) ∙ so_far)
 
--- ---- the columns of a CASE, after those that are known
+    pub arm_parts_over : {A : Type 0} (as_ : List (BoundArm A)) (k : ℕ) → known ++ of_arms (bound_arms (drop k as_)) ≡ whole → length as_ ≤ k → known ≡ whole
+    arm_parts_over as_ k so_far l = sym (append-nil known) ∙ ap (λ l. known ++ l) (sym h.no_arm) ∙ ap (λ as_. known ++ of_arms as_) (sym (arms_over as_ k l)) ∙ so_far
 
-pub case_columns_none : (e : bound.BoundExpr) (offset : ℕ) (as_ : bound.BoundArms) (known new : List ColumnId) → e ≡ bound.Case offset as_ bound.Nothing → new ≡ known ++ arms_columns as_ → new ≡ known ++ columns e
-case_columns_none e offset as_ known new is n = rw is (n ∙ ap (λ l. known ++ l) (sym (append-nil (arms_columns as_))))
+  -- ---- the parts of a CASE, after those that are known
 
-pub case_columns_some : (e o : bound.BoundExpr) (offset : ℕ) (as_ : bound.BoundArms) (known mid new : List ColumnId) → e ≡ bound.Case offset as_ (bound.Value o) → mid ≡ known ++ arms_columns as_ → new ≡ mid ++ columns o
-    → new ≡ known ++ columns e
-case_columns_some e o offset as_ known mid new is m n = rw (is, n, m) (append_assoc known (arms_columns as_) (columns o))
+  module _ (h : Gathers) (known : List X) (e : bound.BoundExpr) (offset : ℕ) (as_ : bound.BoundArms) where
+    pub case_parts_none : (new : List X) → e ≡ bound.Case offset as_ bound.Nothing → new ≡ known ++ of_arms as_ → new ≡ known ++ of e
+    case_parts_none new is n = n ∙ ap (λ l. known ++ l) (sym (append-nil (of_arms as_)) ∙ sym (ap of is ∙ h.otherwise_none offset as_))
+
+    pub case_parts_some : (o : bound.BoundExpr) (mid new : List X) → e ≡ bound.Case offset as_ (bound.Value o) → mid ≡ known ++ of_arms as_ → new ≡ mid ++ of o → new ≡ known ++ of e
+    case_parts_some o mid new is m n = n ∙ ap (λ l. l ++ of o) m ∙ append_assoc known (of_arms as_) (of o) ∙ ap (λ l. known ++ l) (sym (ap of is ∙ h.otherwise_some offset as_ o))
 
 -- ---- the arms that are left, after a movable one
 

@@ -4,3 +4,4 @@ pub mod Weights
 pub mod Columns
 pub mod Movable
 pub mod Code
+pub mod Aggregates

@@ -1,9 +1,11 @@
 -- What the bound trees of the program are.
-use Rattle.std.specs.Prelude.{List, map}
+use Rattle.std.specs.Prelude.{List, map, option_map}
 use Rattle.value.specs.Datum.{datum}
 use Rattle.expr.specs.Bound as bound
 use Rattle.expr.specs.declared.bound.BoundExpr.{BoundExpr, Column, Literal, CurrentUser, Negate', Arithmetic', Comparison', Between', In', IsNull', Not', And', Or', Cast', Case', CountStar, Call', Row_of-BoundExpr, end_of-BoundExpr, more_of-BoundExpr, Row_of-BoundArm, end_of-BoundArm, more_of-BoundArm, Held-BoundExpr-Case-2, None', Some'}
 use Rattle.expr.specs.declared.bound.BoundArm.{BoundArm}
+use Rattle.expr.specs.declared.aggregates.AggregateCall as call
+use Rattle.expr.specs.Aggregates.{AggregateCall}
 
 abbrev mutual
   pub bound_expr_of : {A : Type 0} → BoundExpr A → bound.BoundExpr
@@ -44,3 +46,9 @@ bound_arm_pair a = (bound_expr_of a.when, bound_expr_of a.result)
 
 abbrev pub bound_arms : {A : Type 0} → List (BoundArm A) → bound.BoundArms
 bound_arms as_ = bound.bound_arms_of (map bound_arm_pair as_)
+
+abbrev pub aggregate_call_of : {A : Type 0} → call.AggregateCall A → AggregateCall
+aggregate_call_of c = record { aggregate = c.aggregate; offset = c.offset; argument = option_map (λ e. bound_expr_of e.now) c.argument }
+
+abbrev pub aggregate_calls_of : {A : Type 0} → List (call.AggregateCall A) → List AggregateCall
+aggregate_calls_of calls = map (λ c. aggregate_call_of c) calls

@@ -1,12 +1,14 @@
-//! Expressions whose columns are found, the columns that they name, their copies, and those that never fault.
+//! Expressions whose columns are found, the columns and the aggregates in them, their copies, and those that never fault.
 #![tactic(auto)]
 
+mod aggregates;
 mod bound;
 mod columns;
 mod copies;
 mod movable;
 mod movable_expr;
 
+pub use aggregates::{AggregateCall, push_aggregates};
 pub use bound::{BoundArm, BoundExpr, ColumnId};
 pub use columns::push_columns;
 pub use copies::copy_expr;

@@ -87,5 +87,7 @@ to_named q entry = restricted (named_in q entry)
 
 -- what the query names of a combination is as it was
 pub named_kept : (q : BoundQuery) (these : Combination) → AgreeOn (named_columns q) (joined_cells (each_row (to_named q) these)) (joined_cells these)
-named_kept q these id within =
-    cell_of_each (to_named q) these id.entry id.column (λ row. cell_of_restricted (named_in q id.entry) row id.column (place_among (named_columns q) id within))
+named_kept q these = record {
+  columns = λ id within. cell_of_each (to_named q) these id.entry id.column (λ row. cell_of_restricted (named_in q id.entry) row id.column (place_among (named_columns q) id within));
+  aggregates = λ offset. refl;
+}

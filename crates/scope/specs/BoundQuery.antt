@@ -1,8 +1,9 @@
 -- A query with each column found.
-use Rattle.std.specs.Prelude.{List, Option}
+use Rattle.std.specs.Prelude.{ℕ, Bool, List, Option}
 use Rattle.row_ast.specs.Ast.{Name}
 use Rattle.expr.specs.declared.bound.ColumnId.{ColumnId}
 use Rattle.expr.specs.Bound.{BoundExpr}
+use Rattle.scope.specs.declared.query.OutputKey.{OutputKey}
 
 -- an output column
 pub record BoundItem : Type 0 where
@@ -16,3 +17,7 @@ pub record BoundQuery : Type 0 where
   pub filter : Option BoundExpr
   pub group_by : List ColumnId
   pub having : Option BoundExpr
+  -- it has GROUP BY, HAVING, or an aggregate in an item
+  pub is_grouped : Bool
+  pub order_by : List OutputKey
+  pub limit : Option ℕ

@@ -22,4 +22,7 @@ bound_query_of q = record {
   filter = option_map (λ b. bound_expr_of b.value) q.filter;
   group_by = q.group_by;
   having = option_map (λ b. bound_expr_of b.value) q.having;
+  is_grouped = q.is_grouped;
+  order_by = q.order_by;
+  limit = q.limit;
 }

@@ -11,4 +11,4 @@ pub use entry::Entry;
 pub use expressions::{BindResult, bind_expr};
 pub use fault::NameFault;
 pub use lookup::{Reach, everywhere, find_column, on_reach};
-pub use query::{BoundCondition, BoundItem, BoundQuery};
+pub use query::{BoundCondition, BoundItem, BoundQuery, OutputKey};

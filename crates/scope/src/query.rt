@@ -16,6 +16,15 @@ pub struct BoundItem<A: Heap> {
 /// A condition, if there is one.
 pub type BoundCondition<A> = Option<Box<BoundExpr<A>, A>>;
 
+/// A key of ORDER BY.
+#[derive(Clone, Copy, Debug, PartialEq, Eq)]
+pub struct OutputKey {
+    /// The place of its output column, from 0.
+    pub place: usize,
+    /// Whether with DESC.
+    pub descending: bool,
+}
+
 /// A query whose columns are found.
 #[derive(Drop)]
 pub struct BoundQuery<A: Heap> {
@@ -29,4 +38,10 @@ pub struct BoundQuery<A: Heap> {
     pub group_by: Items<ColumnId, A>,
     /// HAVING.
     pub having: BoundCondition<A>,
+    /// Whether its rows are those of groups: it has GROUP BY, HAVING, or an aggregate in an item.
+    pub is_grouped: bool,
+    /// The keys of ORDER BY, none without it.
+    pub order_by: Items<OutputKey, A>,
+    /// LIMIT.
+    pub limit: Option<u64>,
 }

@@ -1,25 +1,29 @@
-use Rattle.std.proofs.Common.{ap, rules, arith}
+use Rattle.std.proofs.Common.{ap, refl, rules, arith}
+use Rattle.expr.specs.Columns.{columns, all_columns, arms_columns}
 use Rattle.expr.specs.Weights.{weight}
-use Rattle.expr.proofs.Walks.{and_is, or_is, case_none, case_some, case_lighter, case_columns_none, case_columns_some, exprs_still, arms_still, columns_step, columns_over, arm_columns_step, arm_columns_over}
+use Rattle.expr.proofs.Walks.{Gathers, parts_step, parts_over, arm_parts_step, arm_parts_over, case_parts_none, case_parts_some, and_is, or_is, case_none, case_some, case_lighter, exprs_still, arms_still}
 use Rattle.expr.proofs.columns.+columns.Goals as goal
+
+gathers : Gathers columns all_columns arms_columns
+gathers = record { none = refl; one = λ e es. refl; no_arm = refl; one_arm = λ when result as_. refl; otherwise_none = λ offset as_. refl; otherwise_some = λ offset as_ o. refl }
 
 pub push_all_columns-loop-member-preserved : goal.push_all_columns-loop-member-preserved
 push_all_columns-loop-member-preserved g t c = record {
-  rest = columns_step _ _ c.args.members.now c.loop-member.member-index c.member-item.result c.loop-member-test.true c.member-item.is _ c.loop-member.invariant.rest c.in_ok-push_columns.ensures;
+  rest = parts_step columns all_columns arms_columns gathers _ _ c.args.members.now c.loop-member.member-index c.member-item.result c.loop-member-test.true c.member-item.is _ c.loop-member.invariant.rest c.in_ok-push_columns.ensures;
   lighter = exprs_still c.args.members.now c.loop-member.member-index c.member-item.result c.loop-member-test.true c.member-item.is c.loop-member.invariant.lighter;
 }
 
 pub push_all_columns-returns : goal.push_all_columns-returns
-push_all_columns-returns g t c = columns_over _ _ c.args.members.now c.loop-member.member-index c.loop-member.invariant.rest (omega (arith, c.loop-member-test.false))
+push_all_columns-returns g t c = parts_over columns all_columns arms_columns gathers _ _ c.args.members.now c.loop-member.member-index c.loop-member.invariant.rest (omega (arith, c.loop-member-test.false))
 
 pub push_arms_columns-loop-arm-preserved : goal.push_arms_columns-loop-arm-preserved
 push_arms_columns-loop-arm-preserved g t c = record {
-  rest = arm_columns_step _ _ c.args.arms.now c.loop-arm.arm-index c.arm-item.result c.loop-arm-test.true c.arm-item.is _ _ c.loop-arm.invariant.rest c.in_ok-push_columns.ensures c.in_ok-push_columns-2.ensures;
+  rest = arm_parts_step columns all_columns arms_columns gathers _ _ c.args.arms.now c.loop-arm.arm-index c.arm-item.result c.loop-arm-test.true c.arm-item.is _ _ c.loop-arm.invariant.rest c.in_ok-push_columns.ensures c.in_ok-push_columns-2.ensures;
   lighter = arms_still c.args.arms.now c.loop-arm.arm-index c.arm-item.result c.loop-arm-test.true c.arm-item.is c.loop-arm.invariant.lighter;
 }
 
 pub push_arms_columns-returns : goal.push_arms_columns-returns
-push_arms_columns-returns g t c = arm_columns_over _ _ c.args.arms.now c.loop-arm.arm-index c.loop-arm.invariant.rest (omega (arith, c.loop-arm-test.false))
+push_arms_columns-returns g t c = arm_parts_over columns all_columns arms_columns gathers _ _ c.args.arms.now c.loop-arm.arm-index c.loop-arm.invariant.rest (omega (arith, c.loop-arm-test.false))
 
 pub push_columns-push_all_columns-requires : goal.push_columns-push_all_columns-requires
 push_columns-push_all_columns-requires g t c κs within = let w = ap weight (and_is c.args.expression.now c.in-And.offset c.in-And.members c.deref-in-And.result.now c.deref-in-And.ensures.value c.in-And.is) in search rules
@@ -38,12 +42,12 @@ push_columns-returns-in-Or g t c = rw (or_is c.args.expression.now c.in-Or.offse
 
 pub push_columns-returns-in_ok-push_columns-in-Some : goal.push_columns-returns-in_ok-push_columns-in-Some
 push_columns-returns-in_ok-push_columns-in-Some g t c =
-    case_columns_some _ _ c.in-Case.offset _ _ _ _
+    case_parts_some columns all_columns arms_columns gathers _ _ c.in-Case.offset _ _ _ _
     (case_some c.args.expression.now c.in-Case.offset c.in-Case.arms c.deref-in-Case.result.now c.deref-in-Case.ensures.value c.in-Case.otherwise c.in-Case.is c.in-Some.value c.in-Some.is)
     c.in_ok-push_arms_columns-in-Case.ensures (rw c.deref-in-Some.ensures at c.in_ok-push_columns-in-Some.ensures)
 
 pub push_columns-returns-in-None : goal.push_columns-returns-in-None
 push_columns-returns-in-None g t c =
-    case_columns_none _ c.in-Case.offset _ _ _
+    case_parts_none columns all_columns arms_columns gathers _ _ c.in-Case.offset _ _
     (case_none c.args.expression.now c.in-Case.offset c.in-Case.arms c.deref-in-Case.result.now c.deref-in-Case.ensures.value c.in-Case.otherwise c.in-Case.is c.in-None.is)
     c.in_ok-push_arms_columns-in-Case.ensures

@@ -1,0 +1,53 @@
+use Rattle.std.proofs.Common.{ap, refl, rules, arith}
+use Rattle.expr.specs.Aggregates.{aggregates, all_aggregates, arms_aggregates}
+use Rattle.expr.specs.Weights.{weight}
+use Rattle.expr.proofs.Walks.{Gathers, parts_step, parts_over, arm_parts_step, arm_parts_over, case_parts_none, case_parts_some, and_is, or_is, case_none, case_some, case_lighter, exprs_still, arms_still}
+use Rattle.expr.proofs.aggregates.+aggregates.Goals as goal
+
+gathers : Gathers aggregates all_aggregates arms_aggregates
+gathers = record { none = refl; one = λ e es. refl; no_arm = refl; one_arm = λ when result as_. refl; otherwise_none = λ offset as_. refl; otherwise_some = λ offset as_ o. refl }
+
+pub push_all_aggregates-loop-member-preserved : goal.push_all_aggregates-loop-member-preserved
+push_all_aggregates-loop-member-preserved g t c = record {
+  rest = parts_step aggregates all_aggregates arms_aggregates gathers _ _ c.args.members.now c.loop-member.member-index c.member-item.result c.loop-member-test.true c.member-item.is _ c.loop-member.invariant.rest c.in_ok-push_aggregates.ensures;
+  lighter = exprs_still c.args.members.now c.loop-member.member-index c.member-item.result c.loop-member-test.true c.member-item.is c.loop-member.invariant.lighter;
+}
+
+pub push_all_aggregates-returns : goal.push_all_aggregates-returns
+push_all_aggregates-returns g t c = parts_over aggregates all_aggregates arms_aggregates gathers _ _ c.args.members.now c.loop-member.member-index c.loop-member.invariant.rest (omega (arith, c.loop-member-test.false))
+
+pub push_arms_aggregates-loop-arm-preserved : goal.push_arms_aggregates-loop-arm-preserved
+push_arms_aggregates-loop-arm-preserved g t c = record {
+  rest = arm_parts_step aggregates all_aggregates arms_aggregates gathers _ _ c.args.arms.now c.loop-arm.arm-index c.arm-item.result c.loop-arm-test.true c.arm-item.is _ _ c.loop-arm.invariant.rest c.in_ok-push_aggregates.ensures c.in_ok-push_aggregates-2.ensures;
+  lighter = arms_still c.args.arms.now c.loop-arm.arm-index c.arm-item.result c.loop-arm-test.true c.arm-item.is c.loop-arm.invariant.lighter;
+}
+
+pub push_arms_aggregates-returns : goal.push_arms_aggregates-returns
+push_arms_aggregates-returns g t c = arm_parts_over aggregates all_aggregates arms_aggregates gathers _ _ c.args.arms.now c.loop-arm.arm-index c.loop-arm.invariant.rest (omega (arith, c.loop-arm-test.false))
+
+pub push_aggregates-push_all_aggregates-requires : goal.push_aggregates-push_all_aggregates-requires
+push_aggregates-push_all_aggregates-requires g t c κs within = let w = ap weight (and_is c.args.expression.now c.in-And.offset c.in-And.members c.deref-in-And.result.now c.deref-in-And.ensures.value c.in-And.is) in search rules
+
+pub push_aggregates-push_all_aggregates-requires-in-Or : goal.push_aggregates-push_all_aggregates-requires-in-Or
+push_aggregates-push_all_aggregates-requires-in-Or g t c κs within = let w = ap weight (or_is c.args.expression.now c.in-Or.offset c.in-Or.members c.deref-in-Or.result.now c.deref-in-Or.ensures.value c.in-Or.is) in search rules
+
+pub push_aggregates-push_arms_aggregates-requires : goal.push_aggregates-push_arms_aggregates-requires
+push_aggregates-push_arms_aggregates-requires g t c κs within = let h = case_lighter c.args.expression.now c.in-Case.offset c.in-Case.arms c.deref-in-Case.result.now c.deref-in-Case.ensures.value c.in-Case.otherwise c.in-Case.is in search rules
+
+pub push_aggregates-returns-in-And : goal.push_aggregates-returns-in-And
+push_aggregates-returns-in-And g t c = rw (and_is c.args.expression.now c.in-And.offset c.in-And.members c.deref-in-And.result.now c.deref-in-And.ensures.value c.in-And.is) c.push_all_aggregates.ensures
+
+pub push_aggregates-returns-in-Or : goal.push_aggregates-returns-in-Or
+push_aggregates-returns-in-Or g t c = rw (or_is c.args.expression.now c.in-Or.offset c.in-Or.members c.deref-in-Or.result.now c.deref-in-Or.ensures.value c.in-Or.is) c.push_all_aggregates-in-Or.ensures
+
+pub push_aggregates-returns-in_ok-push_aggregates-in-Some : goal.push_aggregates-returns-in_ok-push_aggregates-in-Some
+push_aggregates-returns-in_ok-push_aggregates-in-Some g t c =
+    case_parts_some aggregates all_aggregates arms_aggregates gathers _ _ c.in-Case.offset _ _ _ _
+    (case_some c.args.expression.now c.in-Case.offset c.in-Case.arms c.deref-in-Case.result.now c.deref-in-Case.ensures.value c.in-Case.otherwise c.in-Case.is c.in-Some.value c.in-Some.is)
+    c.in_ok-push_arms_aggregates-in-Case.ensures (rw c.deref-in-Some.ensures at c.in_ok-push_aggregates-in-Some.ensures)
+
+pub push_aggregates-returns-in-None : goal.push_aggregates-returns-in-None
+push_aggregates-returns-in-None g t c =
+    case_parts_none aggregates all_aggregates arms_aggregates gathers _ _ c.in-Case.offset _ _
+    (case_none c.args.expression.now c.in-Case.offset c.in-Case.arms c.deref-in-Case.result.now c.deref-in-Case.ensures.value c.in-Case.otherwise c.in-Case.is c.in-None.is)
+    c.in_ok-push_arms_aggregates-in-Case.ensures

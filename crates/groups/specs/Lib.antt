@@ -1,0 +1,5 @@
+pub mod Members
+pub mod Groups
+pub mod Aggregates
+pub mod GroupRow
+pub mod View

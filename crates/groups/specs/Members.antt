@@ -1,0 +1,36 @@
+-- What a row brings to its group.
+use Rattle.std.specs.Prelude.{true, List, [], ◌∷◌, map, Option, Some, None, Result, Ok, Err}
+use Rattle.value.specs.Datum.{bool, Row}
+use Rattle.value.specs.declared.faults.Fault.{Fault}
+use Rattle.row_ast.specs.Ast.{Name}
+use Rattle.expr.specs.declared.bound.ColumnId.{ColumnId}
+use Rattle.expr.specs.Bound.{BoundExpr}
+use Rattle.expr.specs.Aggregates.{AggregateCall}
+use Rattle.eval.specs.Meaning.{Cells, Outcome, meaning}
+use Rattle.stages.specs.Stages.{first_then}
+
+-- the values of the GROUP BY columns, and those of the arguments of all aggregates, in written order
+pub record Member : Type 0 where
+  pub key : Row
+  pub arguments : Row
+
+module _ (cells : Cells) (role : Name) where
+  -- count(*) counts what is never null
+  abbrev pub argument : Option BoundExpr → Outcome
+  argument None = Ok (bool true)
+  argument (Some e) = meaning cells role e
+
+  -- the arguments of the aggregates, or the first fault
+  abbrev pub arguments : List AggregateCall → Result Row Fault
+  arguments [] = Ok []
+  arguments (c ∷ calls) = first_then (argument c.argument) (arguments calls)
+
+abbrev pub key_on : Cells → List ColumnId → Row
+key_on cells columns = map (λ id. cells.column id) columns
+
+abbrev pub with_key : Row → Result Row Fault → Result Member Fault
+with_key key (Ok arguments) = Ok (record { key = key; arguments = arguments })
+with_key key (Err fault) = Err fault
+
+abbrev pub member_on : Cells → Name → List ColumnId → List AggregateCall → Result Member Fault
+member_on cells role columns calls = with_key (key_on cells columns) (arguments cells role calls)

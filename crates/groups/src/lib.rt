@@ -1,0 +1,13 @@
+//! Groups of rows and their aggregates.
+#![tactic(auto)]
+
+mod aggregates;
+mod group_row;
+mod groups;
+mod laws;
+mod members;
+
+pub use group_row::{GroupCells, GroupRow};
+pub use groups::group_rows;
+pub use laws::{law_groups_differ, law_no_member_lost, law_order_of_members};
+pub use members::{Member, member_on};

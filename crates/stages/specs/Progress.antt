@@ -1,0 +1,24 @@
+-- How a stage of the program goes on.
+use Rattle.std.specs.Prelude.{◌≡◌, Bool, true, false, [], ◌∷◌, ◌++◌, Option, Some, None, Result, Ok, Err, ⊥}
+use Rattle.memory.specs.declared.failure.Failure.{Failure}
+use Rattle.memory.specs.declared.failure.Failure.TheVariants as failures
+use Rattle.bags.specs.Least.{lesser}
+use Rattle.value.specs.declared.faults.Fault.{Fault}
+use Rattle.stages.specs.Stages.{fault_cmp}
+use Rattle.stages.specs.declared.stage.Stage.{Stage}
+
+-- what comes of one more is added; out of memory is not
+abbrev pub Adds : {Y A : Type 0} → Result (Option Y) (Failure Fault) → Stage Y A → Stage Y A → Type 0
+Adds (Ok (Some y)) old new = (new.given ≡ old.given ++ y ∷ []) × (new.least ≡ old.least)
+Adds (Ok None) old new = (new.given ≡ old.given) × (new.least ≡ old.least)
+Adds (Err (failures.Fault f)) old new = (new.given ≡ old.given) × (new.least ≡ lesser fault_cmp old.least (Some f))
+Adds (Err failures.OutOfMemory) old new = ⊥
+
+abbrev pub given : {Y : Type 0} → Result Y (Failure Fault) → Result (Option Y) (Failure Fault)
+given (Ok y) = Ok (Some y)
+given (Err failure) = Err failure
+
+abbrev pub given_if : {Y : Type 0} → Y → Result Bool (Failure Fault) → Result (Option Y) (Failure Fault)
+given_if y (Ok true) = Ok (Some y)
+given_if y (Ok false) = Ok None
+given_if y (Err failure) = Err failure
