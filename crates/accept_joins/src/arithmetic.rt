@@ -1,6 +1,7 @@
 //! Worked rows of arithmetic and casts, and where they fault.
 
-use crate::rows::{Question, are_answered};
+use fixture_stores::{Question, are_answered};
+use std::test::Fail;
 
 // Arithmetic without a fault.
 static VALUES: [Question; 9] = [
@@ -352,31 +353,31 @@ fn nested() -> &'static [Question] {
 }
 
 #[test]
-fn arithmetic_has_values(rt: HostRuntime) {
-    are_answered(&rt, values());
+fn arithmetic_has_values(rt: HostRuntime) -> Result<(), Fail> {
+    Ok(are_answered(rt.alloc(), values())?)
 }
 
 #[test]
-fn casts_and_conditions_have_values(rt: HostRuntime) {
-    are_answered(&rt, casts());
+fn casts_and_conditions_have_values(rt: HostRuntime) -> Result<(), Fail> {
+    Ok(are_answered(rt.alloc(), casts())?)
 }
 
 #[test]
-fn operations_fault_at_their_offset(rt: HostRuntime) {
-    are_answered(&rt, faults());
+fn operations_fault_at_their_offset(rt: HostRuntime) -> Result<(), Fail> {
+    Ok(are_answered(rt.alloc(), faults())?)
 }
 
 #[test]
-fn names_types_and_grants_come_before_faults(rt: HostRuntime) {
-    are_answered(&rt, before());
+fn names_types_and_grants_come_before_faults(rt: HostRuntime) -> Result<(), Fail> {
+    Ok(are_answered(rt.alloc(), before())?)
 }
 
 #[test]
-fn texts_that_are_no_numbers_fault(rt: HostRuntime) {
-    are_answered(&rt, texts());
+fn texts_that_are_no_numbers_fault(rt: HostRuntime) -> Result<(), Fail> {
+    Ok(are_answered(rt.alloc(), texts())?)
 }
 
 #[test]
-fn parentheses_are_limited(rt: HostRuntime) {
-    are_answered(&rt, nested());
+fn parentheses_are_limited(rt: HostRuntime) -> Result<(), Fail> {
+    Ok(are_answered(rt.alloc(), nested())?)
 }

@@ -1,8 +1,8 @@
 //! Worked rows of faults: which are evaluated, and which is reported.
 
-use crate::rows::{Question, are_answered, walk};
 use fixture_stores::Step::{Apply, Ask, Load};
-use fixture_stores::{Row, SALES, SALES_DEALS};
+use fixture_stores::{Question, Row, SALES, SALES_DEALS, are_answered, walk_all};
+use std::test::Fail;
 
 // A fault of a row that a role does not see is none, nor is one of a combination that is dropped.
 static HIDDEN: [Question; 13] = [
@@ -561,40 +561,36 @@ fn shown() -> &'static [Row] {
 }
 
 #[test]
-fn rows_that_are_not_seen_or_not_kept_do_not_fault(rt: HostRuntime) {
-    are_answered(&rt, hidden());
+fn rows_that_are_not_seen_or_not_kept_do_not_fault(rt: HostRuntime) -> Result<(), Fail> {
+    Ok(are_answered(rt.alloc(), hidden())?)
 }
 
 #[test]
-fn conditions_that_cannot_fault_decide_first(rt: HostRuntime) {
-    are_answered(&rt, conjuncts());
+fn conditions_that_cannot_fault_decide_first(rt: HostRuntime) -> Result<(), Fail> {
+    Ok(are_answered(rt.alloc(), conjuncts())?)
 }
 
 #[test]
-fn conditions_that_may_fault_decide_in_order(rt: HostRuntime) {
-    are_answered(&rt, in_order());
+fn conditions_that_may_fault_decide_in_order(rt: HostRuntime) -> Result<(), Fail> {
+    Ok(are_answered(rt.alloc(), in_order())?)
 }
 
 #[test]
-fn what_is_not_evaluated_does_not_fault(rt: HostRuntime) {
-    are_answered(&rt, skipped());
+fn what_is_not_evaluated_does_not_fault(rt: HostRuntime) -> Result<(), Fail> {
+    Ok(are_answered(rt.alloc(), skipped())?)
 }
 
 #[test]
-fn the_least_fault_of_all_rows_is_reported(rt: HostRuntime) {
-    are_answered(&rt, least());
+fn the_least_fault_of_all_rows_is_reported(rt: HostRuntime) -> Result<(), Fail> {
+    Ok(are_answered(rt.alloc(), least())?)
 }
 
 #[test]
-fn the_kind_decides_at_one_offset(rt: HostRuntime) {
-    for row in kinds() {
-        walk(&rt, row);
-    }
+fn the_kind_decides_at_one_offset(rt: HostRuntime) -> Result<(), Fail> {
+    Ok(walk_all(rt.alloc(), kinds())?)
 }
 
 #[test]
-fn faults_come_with_the_rows_that_are_seen(rt: HostRuntime) {
-    for row in shown() {
-        walk(&rt, row);
-    }
+fn faults_come_with_the_rows_that_are_seen(rt: HostRuntime) -> Result<(), Fail> {
+    Ok(walk_all(rt.alloc(), shown())?)
 }

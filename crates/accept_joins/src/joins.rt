@@ -1,8 +1,8 @@
 //! Worked rows of joins, on the store of `sales`.
 
-use crate::rows::{Question, are_answered, walk};
 use fixture_stores::Step::{Apply, Ask, Load};
-use fixture_stores::{Row, SALES, SALES_DEALS, SALES_REGIONS};
+use fixture_stores::{Question, Row, SALES, SALES_DEALS, SALES_REGIONS, are_answered, walk_all};
+use std::test::Fail;
 
 // Two entries: by comma, INNER JOIN and CROSS JOIN.
 static TWO: [Question; 13] = [
@@ -773,50 +773,46 @@ fn other_rows() -> &'static [Row] {
 }
 
 #[test]
-fn two_entries_are_joined(rt: HostRuntime) {
-    are_answered(&rt, two());
+fn two_entries_are_joined(rt: HostRuntime) -> Result<(), Fail> {
+    Ok(are_answered(rt.alloc(), two())?)
 }
 
 #[test]
-fn nulls_are_not_joined_and_equal_rows_stay(rt: HostRuntime) {
-    are_answered(&rt, equal());
+fn nulls_are_not_joined_and_equal_rows_stay(rt: HostRuntime) -> Result<(), Fail> {
+    Ok(are_answered(rt.alloc(), equal())?)
 }
 
 #[test]
-fn a_role_sees_its_rows_in_each_entry_of_a_table(rt: HostRuntime) {
-    are_answered(&rt, of_one_table());
+fn a_role_sees_its_rows_in_each_entry_of_a_table(rt: HostRuntime) -> Result<(), Fail> {
+    Ok(are_answered(rt.alloc(), of_one_table())?)
 }
 
 #[test]
-fn several_entries_are_joined(rt: HostRuntime) {
-    are_answered(&rt, several());
+fn several_entries_are_joined(rt: HostRuntime) -> Result<(), Fail> {
+    Ok(are_answered(rt.alloc(), several())?)
 }
 
 #[test]
-fn all_columns_of_all_entries_have_their_headings(rt: HostRuntime) {
-    are_answered(&rt, headed());
+fn all_columns_of_all_entries_have_their_headings(rt: HostRuntime) -> Result<(), Fail> {
+    Ok(are_answered(rt.alloc(), headed())?)
 }
 
 #[test]
-fn an_on_reaches_the_entries_of_its_item(rt: HostRuntime) {
-    are_answered(&rt, reached());
+fn an_on_reaches_the_entries_of_its_item(rt: HostRuntime) -> Result<(), Fail> {
+    Ok(are_answered(rt.alloc(), reached())?)
 }
 
 #[test]
-fn conditions_of_on_and_where_choose_together(rt: HostRuntime) {
-    are_answered(&rt, conditions());
+fn conditions_of_on_and_where_choose_together(rt: HostRuntime) -> Result<(), Fail> {
+    Ok(are_answered(rt.alloc(), conditions())?)
 }
 
 #[test]
-fn policies_of_each_entry_decide(rt: HostRuntime) {
-    for row in changed() {
-        walk(&rt, row);
-    }
+fn policies_of_each_entry_decide(rt: HostRuntime) -> Result<(), Fail> {
+    Ok(walk_all(rt.alloc(), changed())?)
 }
 
 #[test]
-fn rows_of_each_entry_decide(rt: HostRuntime) {
-    for row in other_rows() {
-        walk(&rt, row);
-    }
+fn rows_of_each_entry_decide(rt: HostRuntime) -> Result<(), Fail> {
+    Ok(walk_all(rt.alloc(), other_rows())?)
 }

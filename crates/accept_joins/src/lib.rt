@@ -7,5 +7,3 @@ mod arithmetic;
 mod faults;
 #[cfg(test)]
 mod joins;
-#[cfg(test)]
-mod rows;

@@ -1,58 +1,11 @@
 //! Worked rows: a schema, texts of rows, and what a role is answered.
 
-use crate::stores::made;
 use engine::Store;
 use fixture_stores::Step::{Apply, Ask, Load};
-use fixture_stores::{DEALS, Row, SCHEMA, Step, apply, deals, load, served, store_of};
+use fixture_stores::{DEALS, FLAGS, Mismatch, Row, SCHEMA, answered, deals, walk_all};
+use memory::{Failure, Heap};
 use std::alloc::{AllocError, Global};
-use std::process::Abort;
 use std::test::Fail;
-
-/// A role asks a query, and is answered a text with a status.
-pub fn answered(
-    rt: &(impl Abort + AllocGlobal),
-    name: &str,
-    store: &Store<Global>,
-    question: (&str, &str),
-    answer: (&str, u8),
-) {
-    let (role, text) = question;
-    let (want, status) = answer;
-    let (got, out) = served(rt.alloc(), store, role, text);
-    assert_eq!(rt; got, status, "{name}: {role}: {text}");
-    assert_eq!(rt;
-        out.inner.as_slice(),
-        want.as_bytes(),
-        "{name}: {role}: {text}"
-    );
-    assert_eq!(rt; out.failed, 0, "{name}: {role}: {text}");
-}
-
-fn take(rt: &(impl Abort + AllocGlobal), name: &str, store: &mut Store<Global>, step: &Step) {
-    match step {
-        Apply(text) => assert_eq!(rt; apply(rt.alloc(), store, "root", text), Ok(()), "{name}"),
-        Load(table, text) => assert_eq!(rt; load(store, table, text), Ok(()), "{name}"),
-        Ask(role, text, want, status) => answered(rt, name, store, (role, text), (want, *status)),
-    }
-}
-
-/// The steps of a row on a store of its schema.
-pub fn walk(rt: &(impl Abort + AllocGlobal), row: &Row) {
-    let (name, schema, steps) = row;
-    let mut store = made(rt, store_of(rt.alloc(), schema));
-    for step in *steps {
-        take(rt, name, &mut store, step);
-    }
-}
-
-/// Flags with columns that take no null.
-pub const FLAGS: &str =
-    "CREATE ROLE alice; CREATE TABLE flag (id bigint NOT NULL, open boolean, note text NOT NULL);
-    ALTER TABLE flag ENABLE ROW LEVEL SECURITY; GRANT SELECT ON flag TO alice;
-    CREATE POLICY p ON flag USING (open = TRUE);";
-
-/// Rows of the flags: true, false and null.
-pub const OPEN: &str = "id,open,note\n1,t,a\n2,f,b\n3,\\N,c\n";
 
 static WORKED: [Row; 15] = [
     (
@@ -259,10 +212,8 @@ fn worked() -> &'static [Row] {
 }
 
 #[test]
-fn worked_rows_are_answered(rt: HostRuntime) {
-    for row in worked() {
-        walk(&rt, row);
-    }
+fn worked_rows_are_answered(rt: HostRuntime) -> Result<(), Fail> {
+    Ok(walk_all(rt.alloc(), worked())?)
 }
 
 // What the grammar has and the engine does not support yet, with the denial that comes first where nothing is granted.
@@ -314,12 +265,12 @@ fn not_supported() -> &'static [(&'static str, &'static str)] {
     &NOT_SERVED
 }
 
-fn served_to_nobody(
-    rt: &(impl Abort + AllocGlobal),
-    store: &Store<Global>,
-    text: &str,
-    denial: &str,
-) {
+fn served_to_nobody<A: Heap>(
+    alloc: A,
+    store: &Store<A>,
+    text: &'static str,
+    denial: &'static str,
+) -> Result<(), Failure<Mismatch<'static>>> {
     for (role, reply, status) in [
         ("alice", "refused 0A000\n", 3u8),
         ("boss", "refused 0A000\n", 3),
@@ -328,21 +279,21 @@ fn served_to_nobody(
         ("zed", "refused 42704\n", 6),
     ] {
         answered(
-            rt,
-            "not_supported_yet",
+            alloc,
             store,
-            (role, text),
-            (reply, status),
-        );
+            ("not_supported_yet", role, text, reply, status),
+        )?;
     }
+    Ok(())
 }
 
 #[test]
-fn not_supported_yet_comes_after_names_and_grants(rt: HostRuntime) {
-    let store = made(&rt, deals(rt.alloc()));
+fn not_supported_yet_comes_after_names_and_grants(rt: HostRuntime) -> Result<(), Fail> {
+    let store = deals(rt.alloc())?;
     for (text, denial) in not_supported() {
-        served_to_nobody(&rt, &store, text, denial);
+        served_to_nobody(rt.alloc(), &store, text, denial)?;
     }
+    Ok(())
 }
 
 fn parentheses(alloc: Global) -> Result<(String, String), AllocError> {
@@ -357,8 +308,8 @@ fn parentheses(alloc: Global) -> Result<(String, String), AllocError> {
 
 #[test]
 fn limits_of_texts_are_answered(rt: HostRuntime) -> Result<(), Fail> {
-    let store = made(&rt, deals(rt.alloc()));
     let alloc = rt.alloc();
+    let store = deals(alloc)?;
     let (open, close) = parentheses(alloc)?;
     let rows = [
         // The 7 bytes of SELECT and a space, 64 parentheses and a number.
@@ -380,12 +331,10 @@ fn limits_of_texts_are_answered(rt: HostRuntime) -> Result<(), Fail> {
     ];
     for (text, want, status) in &rows {
         answered(
-            &rt,
-            "limits_of_texts",
+            alloc,
             &store,
-            ("alice", text.as_str()),
-            (want, *status),
-        );
+            ("limits_of_texts", "alice", text.as_str(), *want, *status),
+        )?;
     }
     Ok(())
 }

@@ -1,11 +1,10 @@
 //! Texts of rows for a store, and their first fault.
 
-use crate::answers::{FLAGS, answered};
 use crate::stores::made;
 use csv_records::Records;
 use engine::StoreError::Data;
 use engine::{Store, StoreError};
-use fixture_stores::{DEALS, SCHEMA, StoreFault, deals, load, store_of};
+use fixture_stores::{DEALS, FLAGS, SCHEMA, StoreFault, answered, deals, load, store_of};
 use fixtures::in_pieces;
 use memory::Failure;
 use std::alloc::Global;
@@ -158,7 +157,8 @@ fn refused(rt: &(impl Abort + AllocGlobal), faults: &RefusedTexts, text: &str, f
     let want = Err(Failure::Fault(StoreFault::Data(fault)));
     assert_eq!(rt; found, want, "{name}: {text}");
     assert_eq!(rt; store.table_count(), 1, "{name}: {text}");
-    answered(rt, name, &store, ("root", faults.query), (faults.shown, 0));
+    let asked = (name, "root", faults.query, faults.shown, 0);
+    answered(rt.alloc(), &store, asked).expect(rt, name);
 }
 
 fn all_refused(rt: &(impl Abort + AllocGlobal), faults: &RefusedTexts) {

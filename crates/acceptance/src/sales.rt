@@ -1,9 +1,11 @@
 //! Worked rows of the store of crates/rowplan/data/sales: roles, memberships, column grants, and the first denial.
 
-use crate::answers::walk;
 use fixture_stores as stores;
 use fixture_stores::Step::{Apply, Ask, Load};
-use fixture_stores::{Row, SALES as SCHEMA, SALES_DEALS as DEALS, SALES_REGIONS as REGIONS};
+use fixture_stores::{
+    Row, SALES as SCHEMA, SALES_DEALS as DEALS, SALES_REGIONS as REGIONS, walk_all,
+};
+use std::test::Fail;
 
 /// A schema with each statement that takes or gives back memory.
 pub const INDEXED: &str = "CREATE ROLE audit BYPASSRLS; CREATE ROLE sales; CREATE ROLE alice;
@@ -303,8 +305,6 @@ fn worked() -> &'static [Row] {
 }
 
 #[test]
-fn worked_rows_of_sales_are_answered(rt: HostRuntime) {
-    for row in worked() {
-        walk(&rt, row);
-    }
+fn worked_rows_of_sales_are_answered(rt: HostRuntime) -> Result<(), Fail> {
+    Ok(walk_all(rt.alloc(), worked())?)
 }

@@ -6,6 +6,6 @@ mod rows;
 mod sales_store;
 mod stores;
 
-pub use rows::{Row, Step};
+pub use rows::{Asked, Mismatch, Question, Row, Step, answered, are_answered, walk_all};
 pub use sales_store::{SALES, SALES_DEALS, SALES_REGIONS, sales};
-pub use stores::{DEALS, SCHEMA, StoreFault, apply, deals, load, served, store_of};
+pub use stores::{DEALS, FLAGS, OPEN, SCHEMA, StoreFault, apply, deals, load, served, store_of};

@@ -17,6 +17,15 @@ GRANT SELECT ON deal TO alice;";
 /// The rows of the table of deals.
 pub const DEALS: &str = "id,owner\n2,alice\n1,alice\n3,bob\n";
 
+/// Flags with columns that take no null.
+pub const FLAGS: &str =
+    "CREATE ROLE alice; CREATE TABLE flag (id bigint NOT NULL, open boolean, note text NOT NULL);
+    ALTER TABLE flag ENABLE ROW LEVEL SECURITY; GRANT SELECT ON flag TO alice;
+    CREATE POLICY p ON flag USING (open = TRUE);";
+
+/// Rows of the flags: true, false and null.
+pub const OPEN: &str = "id,open,note\n1,t,a\n2,f,b\n3,\\N,c\n";
+
 /// Why a store is not made.
 #[derive(Clone, Copy, Debug, Drop, PartialEq, Eq)]
 pub enum StoreFault {

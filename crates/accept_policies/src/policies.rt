@@ -1,10 +1,11 @@
 //! Worked rows of policies, on the store of `sales`: who is held by row security, which policies apply, and what their
 //! conditions show.
 
-use crate::answers::{FLAGS, OPEN, walk};
 use fixture_stores::Step::{Apply, Ask, Load};
-use fixture_stores::{Row, SALES as SCHEMA, SALES_DEALS as DEALS, SALES_REGIONS as REGIONS};
-use std::process::Abort;
+use fixture_stores::{
+    FLAGS, OPEN, Row, SALES as SCHEMA, SALES_DEALS as DEALS, SALES_REGIONS as REGIONS, walk_all,
+};
+use std::test::Fail;
 
 // The owner, FORCE, BYPASSRLS and superusers.
 static FORCED: [Row; 9] = [
@@ -480,33 +481,27 @@ fn changed() -> &'static [Row] {
     &CHANGED
 }
 
-fn walk_all(rt: &(impl Abort + AllocGlobal), rows: &[Row]) {
-    for row in rows {
-        walk(rt, row);
-    }
+#[test]
+fn force_holds_the_owner_and_nobody_above(rt: HostRuntime) -> Result<(), Fail> {
+    Ok(walk_all(rt.alloc(), forced())?)
 }
 
 #[test]
-fn force_holds_the_owner_and_nobody_above(rt: HostRuntime) {
-    walk_all(&rt, forced());
+fn permissive_policies_add_and_restrictive_ones_narrow(rt: HostRuntime) -> Result<(), Fail> {
+    Ok(walk_all(rt.alloc(), joined())?)
 }
 
 #[test]
-fn permissive_policies_add_and_restrictive_ones_narrow(rt: HostRuntime) {
-    walk_all(&rt, joined());
+fn a_policy_shows_where_it_is_true(rt: HostRuntime) -> Result<(), Fail> {
+    Ok(walk_all(rt.alloc(), conditions())?)
 }
 
 #[test]
-fn a_policy_shows_where_it_is_true(rt: HostRuntime) {
-    walk_all(&rt, conditions());
+fn policies_read_columns_and_the_role(rt: HostRuntime) -> Result<(), Fail> {
+    Ok(walk_all(rt.alloc(), columns())?)
 }
 
 #[test]
-fn policies_read_columns_and_the_role(rt: HostRuntime) {
-    walk_all(&rt, columns());
-}
-
-#[test]
-fn policies_come_and_go(rt: HostRuntime) {
-    walk_all(&rt, changed());
+fn policies_come_and_go(rt: HostRuntime) -> Result<(), Fail> {
+    Ok(walk_all(rt.alloc(), changed())?)
 }

@@ -1,18 +1,11 @@
 //! Worked rows of WHERE and of items over one table, on the store of `sales`.
 
-use crate::answers::{FLAGS, OPEN, answered, walk};
-use crate::stores::made;
-use engine::Store;
 use fixture_stores::Step::{Ask, Load};
-use fixture_stores::{Row, sales};
-use std::alloc::Global;
-use std::process::Abort;
-
-// A name, a role, its query, and the answer with its status.
-type Filter = (&'static str, &'static str, &'static str, &'static str, u8);
+use fixture_stores::{FLAGS, OPEN, Question, Row, are_answered, walk_all};
+use std::test::Fail;
 
 // Comparisons: a row on which one is null is not shown.
-static COMPARED: [Filter; 12] = [
+static COMPARED: [Question; 12] = [
     (
         "equal",
         "boss",
@@ -99,12 +92,12 @@ static COMPARED: [Filter; 12] = [
     ),
 ];
 
-fn compared() -> &'static [Filter] {
+fn compared() -> &'static [Question] {
     &COMPARED
 }
 
 // AND, OR and NOT with nulls, and truth values as conditions.
-static TRUTH: [Filter; 12] = [
+static TRUTH: [Question; 12] = [
     (
         "and",
         "boss",
@@ -191,12 +184,12 @@ static TRUTH: [Filter; 12] = [
     ),
 ];
 
-fn truth() -> &'static [Filter] {
+fn truth() -> &'static [Question] {
     &TRUTH
 }
 
 // IN, BETWEEN, IS NULL and CASE.
-static TESTS: [Filter; 14] = [
+static TESTS: [Question; 14] = [
     (
         "in",
         "boss",
@@ -297,12 +290,12 @@ static TESTS: [Filter; 14] = [
     ),
 ];
 
-fn tests() -> &'static [Filter] {
+fn tests() -> &'static [Question] {
     &TESTS
 }
 
 // Items that are expressions, their headings, and the order of the rows.
-static ITEMS: [Filter; 10] = [
+static ITEMS: [Question; 10] = [
     (
         "literals",
         "boss",
@@ -375,12 +368,12 @@ static ITEMS: [Filter; 10] = [
     ),
 ];
 
-fn items() -> &'static [Filter] {
+fn items() -> &'static [Question] {
     &ITEMS
 }
 
 // A condition chooses among the rows that a role sees.
-static ROLES: [Filter; 9] = [
+static ROLES: [Question; 9] = [
     (
         "of_the_rows_that_are_seen",
         "alice",
@@ -446,12 +439,12 @@ static ROLES: [Filter; 9] = [
     ),
 ];
 
-fn roles() -> &'static [Filter] {
+fn roles() -> &'static [Question] {
     &ROLES
 }
 
 // Names come before aggregates, these before types, and all of them before grants.
-static REFUSED: [Filter; 11] = [
+static REFUSED: [Question; 11] = [
     (
         "an_aggregate_in_where",
         "boss",
@@ -531,12 +524,12 @@ static REFUSED: [Filter; 11] = [
     ),
 ];
 
-fn refused() -> &'static [Filter] {
+fn refused() -> &'static [Question] {
     &REFUSED
 }
 
 // What PostgreSQL answers in another way.
-static ELSEWHERE: [Filter; 10] = [
+static ELSEWHERE: [Question; 10] = [
     (
         "a_table_is_no_column",
         "boss",
@@ -609,7 +602,7 @@ static ELSEWHERE: [Filter; 10] = [
     ),
 ];
 
-fn elsewhere() -> &'static [Filter] {
+fn elsewhere() -> &'static [Question] {
     &ELSEWHERE
 }
 
@@ -664,56 +657,42 @@ fn flagged() -> &'static [Row] {
     &FLAGGED
 }
 
-fn is_answered(rt: &(impl Abort + AllocGlobal), store: &Store<Global>, row: &Filter) {
-    let (name, role, text, want, status) = row;
-    answered(rt, name, store, (role, text), (want, *status));
-}
-
-fn are_answered(rt: &(impl Abort + AllocGlobal), rows: &[Filter]) {
-    let store = made(rt, sales(rt.alloc()));
-    for row in rows {
-        is_answered(rt, &store, row);
-    }
+#[test]
+fn comparisons_choose_rows(rt: HostRuntime) -> Result<(), Fail> {
+    Ok(are_answered(rt.alloc(), compared())?)
 }
 
 #[test]
-fn comparisons_choose_rows(rt: HostRuntime) {
-    are_answered(&rt, compared());
+fn conditions_of_three_values_choose_rows(rt: HostRuntime) -> Result<(), Fail> {
+    Ok(are_answered(rt.alloc(), truth())?)
 }
 
 #[test]
-fn conditions_of_three_values_choose_rows(rt: HostRuntime) {
-    are_answered(&rt, truth());
+fn tests_and_cases_choose_rows(rt: HostRuntime) -> Result<(), Fail> {
+    Ok(are_answered(rt.alloc(), tests())?)
 }
 
 #[test]
-fn tests_and_cases_choose_rows(rt: HostRuntime) {
-    are_answered(&rt, tests());
+fn items_are_expressions(rt: HostRuntime) -> Result<(), Fail> {
+    Ok(are_answered(rt.alloc(), items())?)
 }
 
 #[test]
-fn items_are_expressions(rt: HostRuntime) {
-    are_answered(&rt, items());
+fn conditions_choose_among_the_rows_that_are_seen(rt: HostRuntime) -> Result<(), Fail> {
+    Ok(are_answered(rt.alloc(), roles())?)
 }
 
 #[test]
-fn conditions_choose_among_the_rows_that_are_seen(rt: HostRuntime) {
-    are_answered(&rt, roles());
+fn conditions_are_refused_before_grants(rt: HostRuntime) -> Result<(), Fail> {
+    Ok(are_answered(rt.alloc(), refused())?)
 }
 
 #[test]
-fn conditions_are_refused_before_grants(rt: HostRuntime) {
-    are_answered(&rt, refused());
+fn what_postgresql_answers_otherwise(rt: HostRuntime) -> Result<(), Fail> {
+    Ok(are_answered(rt.alloc(), elsewhere())?)
 }
 
 #[test]
-fn what_postgresql_answers_otherwise(rt: HostRuntime) {
-    are_answered(&rt, elsewhere());
-}
-
-#[test]
-fn truth_values_choose_rows(rt: HostRuntime) {
-    for row in flagged() {
-        walk(&rt, row);
-    }
+fn truth_values_choose_rows(rt: HostRuntime) -> Result<(), Fail> {
+    Ok(walk_all(rt.alloc(), flagged())?)
 }
