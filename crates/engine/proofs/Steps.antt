@@ -1,20 +1,16 @@
--- The tables of a world are what the role sees of each entry; and how replies follow.
-use Rattle.std.proofs.Common.{◌≡◌, ◌⊎◌, inl, inr, ℕ, Bool, true, false, cond, List, [], ◌∷◌, ◌++◌, map, filter, refl, sym, ap, ap₂, ◌∙◌, append_assoc, append-nil, Ok, Err, Result, None}
+-- The tables of a world are what the role sees of each entry.
+use Rattle.std.proofs.Common.{◌≡◌, ◌⊎◌, inl, inr, ℕ, Bool, cond, List, [], ◌∷◌, ◌++◌, map, filter, refl, sym, ap, ap₂, ◌∙◌, append_assoc, append-nil, Ok, Err, Result}
 use Rattle.std.proofs.lemmas.List.{map-append}
 use Rattle.std.specs.Prelude.{IfOk}
 use Rattle.value.specs.Datum.{Row}
-use Rattle.value.specs.declared.refusal.Refusal.TheVariants.{FeatureNotSupported}
-use Rattle.row_ast.specs.Ast.{Name, Query}
+use Rattle.row_ast.specs.Ast.{Name}
 use Rattle.scope.specs.Entry.{Entry}
 use Rattle.catalog.specs.Catalog.{Catalog}
 use Rattle.access.specs.Access.{sees}
 use Rattle.access.specs.Guards.{Guard, shows}
-use Rattle.resolve.specs.Resolved.{Bound}
-use Rattle.resolve.specs.Served.{is_served}
-use Rattle.report.specs.Reply.{Refused}
 use Rattle.operators.specs.World.{GuardedTable, seen_rows}
 use Rattle.engine.specs.Database.{Rows}
-use Rattle.engine.specs.Answer.{answer_reply, seen, served_reply}
+use Rattle.engine.specs.Answer.{seen}
 use Rattle.engine.specs.Guarded.{guarded_tables}
 
 -- what is kept by a test is what is kept by one that is the same
@@ -71,8 +67,3 @@ module _ {E G T : Type 0} (entry : E → Entry) (guard : G → Guard) (table : T
   pub no_more_tables : (ts : List T) (es : List E) (gs : List G) {whole : List GuardedTable} → (es ≡ []) ⊎ (gs ≡ []) → map table ts ++ to_come es gs ≡ whole → map table ts ≡ whole
   no_more_tables ts es gs (inl none) so_far = sym (append-nil (map table ts)) ∙ ap (λ xs. map table ts ++ to_come xs gs) (sym none) ∙ so_far
   no_more_tables ts es gs (inr none) so_far = sym (append-nil (map table ts)) ∙ ap (λ l. map table ts ++ l) (sym (no_guards rows (map entry es))) ∙ ap (λ ys. map table ts ++ to_come es ys) (sym none) ∙ so_far
-
--- ---- replies
-
-pub is_answer : (cat : Catalog) (rows : Rows) (role : Name) (q : Query) (b : Bound) → is_served b.entries q ≡ true → answer_reply cat rows role b ≡ served_reply cat rows role q b
-is_answer cat rows role q b h = sym (ap (λ s. cond s (answer_reply cat rows role b) (Refused FeatureNotSupported None)) h)

@@ -14,7 +14,6 @@ use Rattle.catalog.specs.Catalog.{Catalog, is_role}
 use Rattle.access.specs.Access.{RequiredPrivilege, denial, visible}
 use Rattle.resolve.specs.Needed.{needed}
 use Rattle.resolve.specs.Resolved.{Bound, bound}
-use Rattle.resolve.specs.Served.{is_served}
 use Rattle.report.specs.Answer.{answer_over}
 use Rattle.report.specs.Reply as reply
 use Rattle.report.specs.Reply.{Reply}
@@ -42,24 +41,21 @@ rows_reply columns (Err fault) = reply.Faulted fault
 abbrev pub answer_reply : Catalog → Rows → Name → Bound → Reply
 answer_reply cat rows role b = rows_reply (headings b.query.items) (answer cat rows role b)
 
-abbrev pub served_reply : Catalog → Rows → Name → Query → Bound → Reply
-served_reply cat rows role q b = if is_served b.entries q then answer_reply cat rows role b else reply.Refused r.FeatureNotSupported None
-
 abbrev pub denied_reply : RequiredPrivilege → Reply
 denied_reply privilege = reply.Denied privilege.column privilege.table.name
 
-abbrev pub granted_reply : Catalog → Rows → Name → Query → Bound → Option RequiredPrivilege → Reply
-granted_reply cat rows role q b (Some privilege) = denied_reply privilege
-granted_reply cat rows role q b None = served_reply cat rows role q b
+abbrev pub granted_reply : Catalog → Rows → Name → Bound → Option RequiredPrivilege → Reply
+granted_reply cat rows role b (Some privilege) = denied_reply privilege
+granted_reply cat rows role b None = answer_reply cat rows role b
 
-abbrev pub resolved_reply : Catalog → Rows → Name → Query → Result Bound NameFault → Reply
-resolved_reply cat rows role q (Err e) = reply.Refused e.code (Some e.offset)
-resolved_reply cat rows role q (Ok b) = granted_reply cat rows role q b (denial cat role (needed b.entries b.query))
+abbrev pub resolved_reply : Catalog → Rows → Name → Result Bound NameFault → Reply
+resolved_reply cat rows role (Err e) = reply.Refused e.code (Some e.offset)
+resolved_reply cat rows role (Ok b) = granted_reply cat rows role b (denial cat role (needed b.entries b.query))
 
--- the first fault of its names, aggregates or types, the first privilege that is missing, that it is not supported yet, or the
--- rows or first fault of its evaluation
+-- the first fault of its names, aggregates, types or keys, the first privilege that is missing, or the rows or first fault of its
+-- evaluation
 abbrev pub query_reply : Catalog → Rows → Name → Query → Reply
-query_reply cat rows role q = resolved_reply cat rows role q (bound cat q)
+query_reply cat rows role q = resolved_reply cat rows role (bound cat q)
 
 abbrev pub fault_reply : ParseError → Reply
 fault_reply (parsing.Syntax offset) = reply.Refused r.SyntaxError (Some offset)
@@ -69,6 +65,7 @@ abbrev pub parsed_reply : Catalog → Rows → Name → Result Query ParseError 
 parsed_reply cat rows role (Err e) = fault_reply e
 parsed_reply cat rows role (Ok q) = query_reply cat rows role q
 
--- the reply to a role's text: the role, the grammar, the names, aggregates and types, the required privileges, and then the rows or a fault
+-- the reply to a role's text: the role, the grammar, the names, aggregates, types and keys, the required privileges, and then the
+-- rows or a fault
 abbrev pub reply_to : Catalog → Rows → Name → List ℕ → Reply
 reply_to cat rows role text = if is_role cat role then parsed_reply cat rows role (parsed_query text) else reply.Refused r.UndefinedObject None

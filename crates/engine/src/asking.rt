@@ -8,12 +8,10 @@ ghost use Rattle.access.specs.Access.{denial};
 ghost use Rattle.access.specs.View.{privilege_of};
 ghost use Rattle.resolve.specs.Needed.{needed};
 ghost use Rattle.resolve.specs.View.{bound_of};
-ghost use Rattle.report.specs.Reply as reply;
-ghost use Rattle.value.specs.declared.refusal.Refusal.TheVariants as codes;
 ghost use Rattle.report.specs.View.{reply_of};
 ghost use Rattle.engine.specs.Database.{rows_of};
 ghost use Rattle.engine.specs.Answer as spec;
-ghost use Rattle.engine.specs.Answer.{reply_to, parsed_reply, query_reply, resolved_reply, served_reply, denied_reply, answer_reply, fault_reply};
+ghost use Rattle.engine.specs.Answer.{reply_to, parsed_reply, query_reply, resolved_reply, denied_reply, answer_reply, fault_reply};
 ghost use Rattle.engine.specs.Serving.{IsReply};
 
 use crate::answer::answer_rows;
@@ -22,7 +20,7 @@ use access::{RequiredPrivilege, denied};
 use catalog::Catalog;
 use memory::{Failure, Heap};
 use report::Reply;
-use resolve::{Bound, bind, is_served, needed};
+use resolve::{Bound, bind, needed};
 use row_ast::Query;
 use scope::BoundItem;
 use std::alloc::AllocError;
@@ -57,31 +55,6 @@ fn answer_rows_or_fault<A: Heap>(
         Err(Failure::Fault(fault)) => Ok(Reply::Faulted { fault }),
         Err(Failure::OutOfMemory) => Err(AllocError),
     }
-}
-
-fn not_supported<A: Heap>() -> Reply<A>
-    ensures { reply_of result ≡ reply.Refused codes.FeatureNotSupported None }
-{
-    Reply::Refused {
-        code: Refusal::FeatureNotSupported,
-        offset: None,
-    }
-}
-
-// The rows or the fault of a query whose privileges are granted; what is not supported yet is refused.
-fn answer_granted<A: Heap>(
-    alloc: A,
-    store: &Store<A>,
-    role: &str,
-    query: &Query<A>,
-    bound: &Bound<'_, A>,
-) -> Result<Reply<A>, AllocError>
-    ensures { IfOk result (λ reply. reply_of reply ≡ served_reply store.now.catalog (rows_of store.now) role.now (query_of query.now) (bound_of bound.now)) }
-{
-    if !is_served(bound.entries.as_slice(), query) {
-        return Ok(not_supported());
-    }
-    answer_rows_or_fault(alloc, store, role, bound)
 }
 
 fn copy_name<A: Heap>(alloc: A, name: Option<&Text<A>>) -> Result<Option<Text<A>>, AllocError>
@@ -122,19 +95,18 @@ fn answer_bound<A: Heap>(
     alloc: A,
     store: &Store<A>,
     role: &str,
-    query: &Query<A>,
     bound: &Bound<'_, A>,
 ) -> Result<Reply<A>, AllocError>
-    ensures { IfOk result (λ reply. reply_of reply ≡ resolved_reply store.now.catalog (rows_of store.now) role.now (query_of query.now) (Ok (bound_of bound.now))) }
+    ensures { IfOk result (λ reply. reply_of reply ≡ resolved_reply store.now.catalog (rows_of store.now) role.now (Ok (bound_of bound.now))) }
 {
     match first_missing(alloc, store.catalog(), role, bound)? {
         Some(privilege) => answer_denied(alloc, privilege),
-        None => answer_granted(alloc, store, role, query, bound),
+        None => answer_rows_or_fault(alloc, store, role, bound),
     }
 }
 
-// The reply to a query: the first fault of its names, aggregates or types, the first privilege that is missing, or its
-// rows.
+// The reply to a query: the first fault of its names, aggregates, types or keys, the first privilege that is missing, or
+// its rows.
 fn answer_query<A: Heap>(
     alloc: A,
     store: &Store<A>,
@@ -144,7 +116,7 @@ fn answer_query<A: Heap>(
     ensures { IfOk result (λ reply. reply_of reply ≡ query_reply store.now.catalog (rows_of store.now) role.now (query_of query.now)) }
 {
     match bind(alloc, &store.catalog, query) {
-        Ok(bound) => answer_bound(alloc, store, role, query, &bound),
+        Ok(bound) => answer_bound(alloc, store, role, &bound),
         Err(Failure::Fault(fault)) => Ok(Reply::Refused {
             code: fault.code,
             offset: Some(fault.offset),

@@ -1,109 +1,56 @@
 -- The answer is a function of the bags of the rows of each entry, restricted to the columns that the query names.
-use Rattle.std.proofs.Common.{◌≡◌, Bool, true, false, ◌&&◌, cond, List, [], ◌∷◌, ◌++◌, map, filter, refl, sym, ap, ap₂, ◌∙◌, append-nil, subst, Option, Some, None, Contains, ◌⊎◌, inl, inr}
-use Rattle.std.specs.List.{flat_map, list_all}
-use Rattle.std.proofs.lemmas.Grind.{flat_map-append}
-use Rattle.std.proofs.lemmas.List.Elements.{Contains-append_cases, Contains-append_left, Contains-append_right}
+use Rattle.std.proofs.Common.{◌≡◌, Bool, true, false, cond, List, [], ◌∷◌, map, filter, refl, sym, ap, ap₂, ◌∙◌, Option, Some, None, Result, Ok, Err}
+use Rattle.std.specs.List.{filter_map}
+use Rattle.bags.specs.Least.{least}
 use Rattle.bags.proofs.Bags.{SameSums-filter}
 use Rattle.value.specs.Datum.{Row}
+use Rattle.value.specs.declared.faults.Fault.{Fault}
 use Rattle.row_ast.specs.Ast.{Name}
-use Rattle.expr.specs.declared.bound.ColumnId.{ColumnId}
-use Rattle.expr.specs.Bound as bound
-use Rattle.expr.specs.Bound.{BoundExpr, BoundExprs}
-use Rattle.expr.specs.Columns.{columns, all_columns}
 use Rattle.expr.specs.Movable.{movable}
-use Rattle.eval.specs.Meaning.{Cells, holds, ◌>>=◌}
 use Rattle.eval.specs.Laws.{AgreeOn}
-use Rattle.eval.proofs.Agreement.{same_meaning, same_holds}
-use Rattle.scope.specs.BoundQuery.{BoundItem, BoundQuery}
-use Rattle.resolve.specs.Conjuncts.{members, conjuncts_of, conjuncts_in, conjuncts, fragile, fragile_conjuncts, movable_conjuncts}
-use Rattle.resolve.specs.Resolved.{unless_fault}
+use Rattle.eval.specs.Meaning.{◌>>=◌}
+use Rattle.stages.specs.Stages.{fault_cmp, fault_in, given_in, gives, gives_if, stage, unless_fault}
+use Rattle.scope.specs.BoundQuery.{BoundQuery}
+use Rattle.resolve.specs.Conjuncts.{conjuncts, fragile, fragile_conjuncts, movable_conjuncts}
 use Rattle.operators.specs.Combinations.{Combination, combinations, joined_cells, all_hold, passing}
-use Rattle.report.specs.Answer.{truth_in, unless_dropped, fate, value_then, values_of, fate_of, items_of, least_fault, is_kept, gathered, in_order, rows_of_kept, answer, answer_over}
-use Rattle.report.specs.Restricted.{item_columns, condition_columns, named_columns, SeesSame}
+use Rattle.report.specs.Answer.{keeps, where_fate, where_stage, items_fate, arguments_fate, sums_stage, having_stage, group_items_stage, rows_of, in_order, rows_of_kept, answer, answer_over}
+use Rattle.report.specs.Restricted.{named_columns, SeesSame}
+use Rattle.report.proofs.NamedColumns.{agree_items, agree_conjuncts, agree_some, same_all_hold, same_keeps, same_values, same_member}
 use Rattle.report.proofs.Restricting.{each_row, each_table, map-map, combinations_of_each, to_named, named_kept}
-use Rattle.report.proofs.SameCombinations.{after_stage, same_bag_answer, same_combinations}
+use Rattle.report.proofs.SameCombinations.{same_bag_answer, same_combinations}
 
--- ---- the columns of conjuncts
+-- ---- a stage that keeps some of what a function changes
 
-members_columns : (es : BoundExprs) → flat_map columns (members es) ≡ all_columns es
-members_columns bound.no_expr = refl
-members_columns (bound.one_expr e es) = ap (λ ids. columns e ++ ids) (members_columns es)
+module _ {X Y : Type 0} (g : X → Y) (test : X → Result Bool Fault) where
+  module _ (x : X) (xs : List X) where
+    one_fault : (r : Result Bool Fault) → filter_map fault_in (map (λ y. gives_if (g y) (test y)) xs) ≡ filter_map fault_in (map (λ y. gives_if y (test y)) xs)
+        → filter_map fault_in (gives_if (g x) r ∷ map (λ y. gives_if (g y) (test y)) xs) ≡ filter_map fault_in (gives_if x r ∷ map (λ y. gives_if y (test y)) xs)
+    one_fault (Ok true) more = more
+    one_fault (Ok false) more = more
+    one_fault (Err f) more = ap (λ l. f ∷ l) more
 
-conjunct_columns : (e : BoundExpr) → flat_map columns (conjuncts_of e) ≡ columns e
-conjunct_columns (bound.And offset es) = members_columns es
-conjunct_columns (bound.Column id) = append-nil (columns (bound.Column id))
-conjunct_columns (bound.Literal d) = refl
-conjunct_columns bound.CurrentUser = refl
-conjunct_columns (bound.Negate offset e) = append-nil (columns (bound.Negate offset e))
-conjunct_columns (bound.Arithmetic op offset e f) = append-nil (columns (bound.Arithmetic op offset e f))
-conjunct_columns (bound.Comparison op offset e f) = append-nil (columns (bound.Comparison op offset e f))
-conjunct_columns (bound.Between negated offset e low high) = append-nil (columns (bound.Between negated offset e low high))
-conjunct_columns (bound.In negated offset values e) = append-nil (columns (bound.In negated offset values e))
-conjunct_columns (bound.IsNull negated offset e) = append-nil (columns (bound.IsNull negated offset e))
-conjunct_columns (bound.Not offset e) = append-nil (columns (bound.Not offset e))
-conjunct_columns (bound.Or offset es) = append-nil (columns (bound.Or offset es))
-conjunct_columns (bound.Cast offset to e) = append-nil (columns (bound.Cast offset to e))
-conjunct_columns (bound.Case offset as_ o) = append-nil (columns (bound.Case offset as_ o))
-conjunct_columns (bound.CountStar offset) = refl
-conjunct_columns (bound.Call f offset e) = append-nil (columns (bound.Call f offset e))
+    one_given : (r : Result Bool Fault) → filter_map given_in (map (λ y. gives_if (g y) (test y)) xs) ≡ map g (filter_map given_in (map (λ y. gives_if y (test y)) xs))
+        → filter_map given_in (gives_if (g x) r ∷ map (λ y. gives_if (g y) (test y)) xs) ≡ map g (filter_map given_in (gives_if x r ∷ map (λ y. gives_if y (test y)) xs))
+    one_given (Ok true) more = ap (λ l. g x ∷ l) more
+    one_given (Ok false) more = more
+    one_given (Err f) more = more
 
-condition_conjuncts : (condition : Option BoundExpr) → flat_map columns (conjuncts_in condition) ≡ condition_columns condition
-condition_conjuncts None = refl
-condition_conjuncts (Some e) = conjunct_columns e
+  same_faults : (xs : List X) → filter_map fault_in (map (λ x. gives_if (g x) (test x)) xs) ≡ filter_map fault_in (map (λ x. gives_if x (test x)) xs)
+  same_faults [] = refl
+  same_faults (x ∷ xs) = one_fault x xs (test x) (same_faults xs)
 
-ons_conjuncts : (ons : List (Option BoundExpr)) → flat_map columns (flat_map conjuncts_in ons) ≡ flat_map condition_columns ons
-ons_conjuncts [] = refl
-ons_conjuncts (on ∷ ons) = flat_map-append columns (conjuncts_in on) (flat_map conjuncts_in ons) ∙ ap₂ ◌++◌ (condition_conjuncts on) (ons_conjuncts ons)
+  changed_given : (xs : List X) → filter_map given_in (map (λ x. gives_if (g x) (test x)) xs) ≡ map g (filter_map given_in (map (λ x. gives_if x (test x)) xs))
+  changed_given [] = refl
+  changed_given (x ∷ xs) = one_given x xs (test x) (changed_given xs)
 
-query_conjuncts : (q : BoundQuery) → flat_map columns (conjuncts q) ≡ flat_map condition_columns q.ons ++ condition_columns q.filter
-query_conjuncts q = flat_map-append columns (flat_map conjuncts_in q.ons) (conjuncts_in q.filter) ∙ ap₂ ◌++◌ (ons_conjuncts q.ons) (condition_conjuncts q.filter)
+  changed_then : {Z : Type 0} (f : List Y → Result Z Fault) (o : Option Fault) (xs : List X) → (unless_fault o (map g xs) >>= f) ≡ (unless_fault o xs >>= (λ ys. f (map g ys)))
+  changed_then f None xs = refl
+  changed_then f (Some fault) xs = refl
 
--- ---- what is evaluated on cells that are the same in the columns that are named
-
-module _ (one other : Cells) where
-  agree_left : (xs ys : List ColumnId) → AgreeOn (xs ++ ys) one other → AgreeOn xs one other
-  agree_left xs ys h id c = h id (Contains-append_left xs ys id c)
-
-  agree_right : (xs ys : List ColumnId) → AgreeOn (xs ++ ys) one other → AgreeOn ys one other
-  agree_right xs ys h id c = h id (Contains-append_right xs ys id c)
-
-  agree_append : (xs ys : List ColumnId) → AgreeOn xs one other → AgreeOn ys one other → AgreeOn (xs ++ ys) one other
-  agree_append xs ys h k id c = go (Contains-append_cases xs ys id c)
-    where
-      go : Contains xs id ⊎ Contains ys id → one id ≡ other id
-      go (inl a) = h id a
-      go (inr b) = k id b
-
-  agree_conjuncts : (q : BoundQuery) → AgreeOn (named_columns q) one other → AgreeOn (flat_map columns (conjuncts q)) one other
-  agree_conjuncts q h = subst (λ ids. AgreeOn ids one other) (sym (query_conjuncts q)) (agree_right (flat_map item_columns q.items) (flat_map condition_columns q.ons ++ condition_columns q.filter) h)
-
-  module _ (role : Name) where
-    same_all_hold : (es : List BoundExpr) → AgreeOn (flat_map columns es) one other → list_all (holds one role) es ≡ list_all (holds other role) es
-    same_all_hold [] h = refl
-    same_all_hold (e ∷ es) h =
-        ap₂ ◌&&◌ (same_holds one other role e (agree_left (columns e) (flat_map columns es) h)) (same_all_hold es (agree_right (columns e) (flat_map columns es) h))
-
-    same_fate : (es : List BoundExpr) → AgreeOn (flat_map columns es) one other → fate one role es ≡ fate other role es
-    same_fate [] h = refl
-    same_fate (e ∷ es) h =
-        ap₂ (λ m more. unless_dropped (truth_in m) more) (same_meaning one other role e (agree_left (columns e) (flat_map columns es) h)) (same_fate es (agree_right (columns e) (flat_map columns es) h))
-
-    same_values : (items : List BoundItem) → AgreeOn (flat_map item_columns items) one other → values_of one role items ≡ values_of other role items
-    same_values [] h = refl
-    same_values (i ∷ more) h =
-        ap₂ value_then (same_meaning one other role i.value (agree_left (columns i.value) (flat_map item_columns more) h)) (same_values more (agree_right (columns i.value) (flat_map item_columns more) h))
-
-  -- of some of the conditions
-  agree_some : (p : BoundExpr → Bool) (es : List BoundExpr) → AgreeOn (flat_map columns es) one other → AgreeOn (flat_map columns (filter p es)) one other
-  agree_some p [] h = h
-  agree_some p (e ∷ es) h = go (p e) (agree_some p es (agree_right (columns e) (flat_map columns es) h))
-    where
-      first : AgreeOn (columns e) one other
-      first = agree_left (columns e) (flat_map columns es) h
-
-      go : (b : Bool) → AgreeOn (flat_map columns (filter p es)) one other → AgreeOn (flat_map columns (cond b (e ∷ filter p es) (filter p es))) one other
-      go true later = agree_append (columns e) (flat_map columns (filter p es)) first later
-      go false later = later
+  kept_changed : {Z : Type 0} (f : List Y → Result Z Fault) (xs : List X) → (stage (map (λ x. gives_if (g x) (test x)) xs) >>= f) ≡ (stage (map (λ x. gives_if x (test x)) xs) >>= (λ ys. f (map g ys)))
+  kept_changed f xs =
+      ap₂ (λ faults given. unless_fault (least fault_cmp faults) given >>= f) (same_faults xs) (changed_given xs)
+      ∙ changed_then f (least fault_cmp (filter_map fault_in (map (λ x. gives_if x (test x)) xs))) (filter_map given_in (map (λ x. gives_if x (test x)) xs))
 
 -- ---- combinations that are changed in columns that the query does not name
 
@@ -115,25 +62,46 @@ filter-map p f h (x ∷ xs) =
     ∙ elim (p x) as (λ b. cond b (f x ∷ filter p (map f xs)) (filter p (map f xs)) ≡ map f (cond b (x ∷ filter p xs) (filter p xs)))
     [ true ↦ ap (λ l. f x ∷ l) (filter-map p f h xs) | false ↦ filter-map p f h xs ]
 
+-- what is the same of each is the same of all
+same_of_each : {X Y : Type 0} (f : X → Y) (g : X → X) → ((x : X) → f (g x) ≡ f x) → (xs : List X) → map f (map g xs) ≡ map f xs
+same_of_each f g h xs = map-map f g xs ∙ (λ i. map (λ x. h x i) xs)
+
 module _ (role : Name) (q : BoundQuery) (g : Combination → Combination) (h : (c : Combination) → AgreeOn (named_columns q) (joined_cells (g c)) (joined_cells c)) where
   passes : (c : Combination) → all_hold role (movable_conjuncts q) (g c) ≡ all_hold role (movable_conjuncts q) c
   passes c = same_all_hold (joined_cells (g c)) (joined_cells c) role (movable_conjuncts q) (agree_some (joined_cells (g c)) (joined_cells c) movable (conjuncts q) (agree_conjuncts (joined_cells (g c)) (joined_cells c) q (h c)))
 
-  fates : (c : Combination) → fate_of role q (g c) ≡ fate_of role q c
-  fates c = same_fate (joined_cells (g c)) (joined_cells c) role (fragile_conjuncts q) (agree_some (joined_cells (g c)) (joined_cells c) fragile (conjuncts q) (agree_conjuncts (joined_cells (g c)) (joined_cells c) q (h c)))
+  kept_by : Combination → Result Bool Fault
+  kept_by c = keeps (joined_cells c) role (fragile_conjuncts q)
 
-  items : (c : Combination) → items_of role q (g c) ≡ items_of role q c
-  items c = same_values (joined_cells (g c)) (joined_cells c) role q.items (agree_left (joined_cells (g c)) (joined_cells c) (flat_map item_columns q.items) (flat_map condition_columns q.ons ++ condition_columns q.filter) (h c))
+  where_is : (c : Combination) → where_fate role q (g c) ≡ gives_if (g c) (kept_by c)
+  unfolding kept_by
+  where_is c =
+      ap (gives_if (g c)) (same_keeps (joined_cells (g c)) (joined_cells c) role (fragile_conjuncts q) (agree_some (joined_cells (g c)) (joined_cells c) fragile (conjuncts q) (agree_conjuncts (joined_cells (g c)) (joined_cells c) q (h c))))
+
+  items_stay : (c : Combination) → items_fate role q (g c) ≡ items_fate role q c
+  items_stay c = ap gives (same_values (joined_cells (g c)) (joined_cells c) role q.items (agree_items (joined_cells (g c)) (joined_cells c) q (h c)))
+
+  arguments_stay : (c : Combination) → arguments_fate role q (g c) ≡ arguments_fate role q c
+  arguments_stay c = ap gives (same_member (joined_cells (g c)) (joined_cells c) role q (h c))
+
+  rows_stay : (grouped : Bool) (cs : List Combination) → rows_of role q grouped (map g cs) ≡ rows_of role q grouped cs
+  rows_stay true cs = ap (λ fates. stage fates >>= sums_stage role q >>= having_stage role q >>= group_items_stage role q) (same_of_each (arguments_fate role q) g arguments_stay cs)
+  rows_stay false cs = ap stage (same_of_each (items_fate role q) g items_stay cs)
+
+  kept_stay : (cs : List Combination) → rows_of_kept role q (map g cs) ≡ rows_of_kept role q cs
+  kept_stay cs = ap (λ r. r >>= in_order role q) (rows_stay q.is_grouped cs)
+
+  where_stays : (cs : List Combination) → where_stage role q (map g cs) ≡ stage (map (λ c. gives_if (g c) (kept_by c)) cs)
+  where_stays cs = ap stage (map-map (where_fate role q) g cs ∙ (λ i. map (λ c. where_is c i) cs))
 
   answer_stays : (cs : List Combination) → answer role q (passing role (movable_conjuncts q) (map g cs)) ≡ answer role q (passing role (movable_conjuncts q) cs)
+  unfolding kept_by
   answer_stays cs =
       let these : List Combination = passing role (movable_conjuncts q) cs in
-      let keeps = λ (c : Combination). is_kept (fate_of role q c) in
-      let kept : List Combination = filter keeps these in
       ap (answer role q) (filter-map (all_hold role (movable_conjuncts q)) g passes cs)
-      ∙ (λ i. unless_fault (least_fault ((map-map (fate_of role q) g these ∙ (λ j. map (λ c. fates c j) these)) i)) (filter-map keeps g (λ c. ap is_kept (fates c)) these i) >>= rows_of_kept role q)
-      ∙ after_stage (least_fault (map (fate_of role q) these)) _ _ (rows_of_kept role q)
-      (ap (λ os. gathered os >>= in_order) (map-map (items_of role q) g kept ∙ (λ i. map (λ c. items c i) kept)))
+      ∙ ap (λ r. r >>= rows_of_kept role q) (where_stays these)
+      ∙ kept_changed g kept_by (rows_of_kept role q) these
+      ∙ (λ i. where_stage role q these >>= (λ kept. kept_stay kept i))
 
 -- rows that are not seen, and columns that are not named, make no difference
 pub same_answer_over : (role : Name) (q : BoundQuery) (one other : List (List Row)) → SeesSame q one other → answer_over role q one ≡ answer_over role q other

@@ -1,6 +1,7 @@
 pub mod Fields
-pub mod FaultOrder
+pub mod OutputOrder
 pub mod Restricting
 pub mod SameCombinations
+pub mod NamedColumns
 pub mod HiddenRows
 pub mod Steps

@@ -1,36 +1,45 @@
 -- The answer is a function of the bag of combinations.
-use Rattle.std.proofs.Common.{◌≡◌, ℕ, suc, List, [], ◌∷◌, map, filter, filter_map, length, slice_index_or, refl, ap, ◌∙◌, arith, Option, Some, None, Result, Ok, IsPermutation}
-use Rattle.bags.proofs.Order.{SameSums, SameSums-IsPermutation, sorted_by-SameSums}
-use Rattle.bags.proofs.Bags.{SameSums-map, SameSums-filter, SameSums-filter_map, SameSums-flat_map}
+use Rattle.std.proofs.Common.{◌≡◌, ℕ, suc, Bool, true, false, List, [], ◌∷◌, map, length, slice_index_or, refl, ap, arith, Result, Ok, IsPermutation}
+use Rattle.bags.proofs.Order.{SameSums, SameSums-IsPermutation}
+use Rattle.bags.proofs.Bags.{SameSums-map, SameSums-flat_map}
 use Rattle.value.specs.Datum.{Row}
-use Rattle.value.specs.Orders.{row_cmp}
-use Rattle.value.proofs.DatumOrder.{row_cmp_total, row_cmp_exact}
 use Rattle.value.specs.declared.faults.Fault.{Fault}
 use Rattle.row_ast.specs.Ast.{Name}
 use Rattle.eval.specs.Meaning.{◌>>=◌}
+use Rattle.stages.proofs.SameStage.{alike_stage, alike_next}
+use Rattle.groups.specs.Members.{Member}
+use Rattle.groups.proofs.SameGroups.{same_group_rows}
 use Rattle.scope.specs.BoundQuery.{BoundQuery}
-use Rattle.resolve.specs.Resolved.{unless_fault}
 use Rattle.operators.specs.Combinations.{Combination, combinations}
-use Rattle.report.specs.Answer.{fate_of, items_of, least_fault, value_in, is_kept, in_order, rows_of_kept, answer}
-use Rattle.report.proofs.FaultOrder.{least_same}
+use Rattle.report.specs.Answer.{query_aggregates, where_fate, where_stage, items_fate, items_stage, arguments_fate, arguments_stage, sums_stage, having_stage, group_items_stage, rows_of, in_order, rows_of_kept, answer}
+use Rattle.report.proofs.OutputOrder.{same_ordered}
 use Rattle.report.proofs.Restricting.{each_table}
 
--- after a stage whose values are the same to the next one
-pub after_stage : {X Y : Type 0} (o : Option Fault) (x y : X) (f : X → Result Y Fault) → f x ≡ f y → (unless_fault o x >>= f) ≡ (unless_fault o y >>= f)
-after_stage (Some e) x y f h = refl
-after_stage None x y f h = h
-
 module _ (role : Name) (q : BoundQuery) where
-  same_rows : (xs ys : List Combination) → SameSums xs ys → rows_of_kept role q xs ≡ rows_of_kept role q ys
-  same_rows xs ys same =
-      let made : SameSums (map (items_of role q) xs) (map (items_of role q) ys) = SameSums-map xs ys same (items_of role q) in
-      ap (λ o. unless_fault o (filter_map value_in (map (items_of role q) xs)) >>= in_order) (least_same (map (items_of role q) xs) (map (items_of role q) ys) made)
-      ∙ after_stage (least_fault (map (items_of role q) ys)) _ _ in_order (ap Ok (sorted_by-SameSums row_cmp row_cmp_total row_cmp_exact (filter_map value_in (map (items_of role q) xs)) (filter_map value_in (map (items_of role q) ys)) (SameSums-filter_map (map (items_of role q) xs) (map (items_of role q) ys) made value_in)))
+  same_in_order : (xs ys : List Row) → SameSums xs ys → in_order role q xs ≡ in_order role q ys
+  same_in_order xs ys same = ap Ok (same_ordered q.order_by q.limit xs ys same)
+
+  same_sums : (xs ys : List Member) → SameSums xs ys → sums_stage role q xs ≡ sums_stage role q ys
+  same_sums xs ys same = same_group_rows q.group_by (query_aggregates q) xs ys same
+
+  same_members : (xs ys : List Combination) → SameSums xs ys → (arguments_stage role q xs >>= sums_stage role q) ≡ (arguments_stage role q ys >>= sums_stage role q)
+  same_members xs ys same =
+      alike_next (λ r. r >>= sums_stage role q) same_sums (arguments_stage role q xs) (arguments_stage role q ys)
+      (alike_stage (map (arguments_fate role q) xs) (map (arguments_fate role q) ys) (SameSums-map xs ys same (arguments_fate role q)))
+
+  same_rows : (grouped : Bool) (xs ys : List Combination) → SameSums xs ys → (rows_of role q grouped xs >>= in_order role q) ≡ (rows_of role q grouped ys >>= in_order role q)
+  same_rows true xs ys same = ap (λ r. r >>= having_stage role q >>= group_items_stage role q >>= in_order role q) (same_members xs ys same)
+  same_rows false xs ys same =
+      alike_next (λ r. r >>= in_order role q) same_in_order (items_stage role q xs) (items_stage role q ys)
+      (alike_stage (map (items_fate role q) xs) (map (items_fate role q) ys) (SameSums-map xs ys same (items_fate role q)))
+
+  same_kept : (xs ys : List Combination) → SameSums xs ys → rows_of_kept role q xs ≡ rows_of_kept role q ys
+  same_kept xs ys same = same_rows q.is_grouped xs ys same
 
   pub same_bag_answer : (xs ys : List Combination) → SameSums xs ys → answer role q xs ≡ answer role q ys
   same_bag_answer xs ys same =
-      ap (λ o. unless_fault o (filter (λ c. is_kept (fate_of role q c)) xs) >>= rows_of_kept role q) (least_same (map (fate_of role q) xs) (map (fate_of role q) ys) (SameSums-map xs ys same (fate_of role q)))
-      ∙ after_stage (least_fault (map (fate_of role q) ys)) _ _ (rows_of_kept role q) (same_rows (filter (λ c. is_kept (fate_of role q c)) xs) (filter (λ c. is_kept (fate_of role q c)) ys) (SameSums-filter xs ys same (λ c. is_kept (fate_of role q c))))
+      alike_next (λ r. r >>= rows_of_kept role q) same_kept (where_stage role q xs) (where_stage role q ys)
+      (alike_stage (map (where_fate role q) xs) (map (where_fate role q) ys) (SameSums-map xs ys same (where_fate role q)))
 
   pub same_answer : (one other : List Combination) → IsPermutation one other → answer role q one ≡ answer role q other
   same_answer one other same = same_bag_answer one other (SameSums-IsPermutation one other same)

@@ -1,23 +1,23 @@
--- What a query without groups answers over the combinations that pass its movable conjuncts: stage WHERE, then stage items.
-use Rattle.std.specs.Prelude.{Bool, true, false, List, [], ◌∷◌, map, filter, Option, Some, None, Result, Ok, Err, if◌then◌else◌}
-use Rattle.std.specs.List.{filter_map}
-use Rattle.std.specs.declared.cmp.Ordering.{Ordering}
-use Rattle.std.specs.Ordering.{nat_cmp, on, then_cmp, is_gt}
-use Rattle.bags.specs.Sorting.{sorted_by}
+-- What a query answers over the combinations that pass its movable conjuncts.
+use Rattle.std.specs.Prelude.{Bool, true, false, List, [], ◌∷◌, ◌++◌, map, option_to_list, Option, Some, None, Result, Ok, Err}
+use Rattle.std.specs.List.{flat_map}
 use Rattle.value.specs.Datum.{Row}
 use Rattle.value.specs.Conditions.{truth_at}
-use Rattle.value.specs.Orders.{is_true, row_cmp}
-use Rattle.value.specs.Faults.{kind_cmp}
+use Rattle.value.specs.Orders.{is_true}
 use Rattle.value.specs.declared.faults.Fault.{Fault}
 use Rattle.row_ast.specs.Ast.{Name}
 use Rattle.expr.specs.Bound.{BoundExpr}
+use Rattle.expr.specs.Aggregates.{AggregateCall, aggregates}
 use Rattle.eval.specs.Meaning.{Cells, Outcome, meaning, ◌>>=◌}
+use Rattle.stages.specs.Stages.{Fate, first_then, gives, gives_if, stage}
+use Rattle.groups.specs.Members.{Member, member_on}
+use Rattle.groups.specs.GroupRow.{GroupRow, group_cells, group_rows}
 use Rattle.scope.specs.BoundQuery.{BoundItem, BoundQuery}
 use Rattle.resolve.specs.Conjuncts.{fragile_conjuncts, movable_conjuncts}
-use Rattle.resolve.specs.Resolved.{unless_fault}
 use Rattle.operators.specs.Combinations.{Combination, combinations, joined_cells, passing}
+use Rattle.report.specs.Ordered.{ordered}
 
--- ---- one combination
+-- ---- conditions and items on one row or group
 
 -- whether the outcome is true; null and false are not
 abbrev pub truth_in : Outcome → Result Bool Fault
@@ -30,75 +30,89 @@ unless_dropped (Ok false) more = Ok false
 unless_dropped (Err fault) more = Err fault
 
 -- whether the conditions keep it: the first that is not true drops it, the first that faults gives its fault
-abbrev pub fate : Cells → Name → List BoundExpr → Result Bool Fault
-fate cells role [] = Ok true
-fate cells role (e ∷ es) = unless_dropped (truth_in (meaning cells role e)) (fate cells role es)
-
-abbrev pub value_then : Outcome → Result Row Fault → Result Row Fault
-value_then (Ok d) (Ok ds) = Ok (d ∷ ds)
-value_then (Ok d) (Err fault) = Err fault
-value_then (Err fault) more = Err fault
+abbrev pub keeps : Cells → Name → List BoundExpr → Result Bool Fault
+keeps cells role [] = Ok true
+keeps cells role (e ∷ es) = unless_dropped (truth_in (meaning cells role e)) (keeps cells role es)
 
 -- the values of items, or the first fault from left to right
 abbrev pub values_of : Cells → Name → List BoundItem → Result Row Fault
 values_of cells role [] = Ok []
-values_of cells role (i ∷ more) = value_then (meaning cells role i.value) (values_of cells role more)
+values_of cells role (i ∷ more) = first_then (meaning cells role i.value) (values_of cells role more)
 
-abbrev pub fate_of : Name → BoundQuery → Combination → Result Bool Fault
-fate_of role q combination = fate (joined_cells combination) role (fragile_conjuncts q)
+-- ---- the aggregates of a query, in written order: of its items and then of HAVING
 
-abbrev pub items_of : Name → BoundQuery → Combination → Result Row Fault
-items_of role q combination = values_of (joined_cells combination) role q.items
+abbrev pub item_aggregates : BoundItem → List AggregateCall
+item_aggregates i = aggregates i.value
 
--- ---- faults
+abbrev pub query_aggregates : BoundQuery → List AggregateCall
+query_aggregates q = flat_map item_aggregates q.items ++ flat_map aggregates (option_to_list q.having)
 
--- by offset, then by kind
-abbrev pub fault_cmp : Fault → Fault → Ordering
-fault_cmp = then_cmp (on (λ f. f.offset) nat_cmp) (on (λ f. f.kind) kind_cmp)
+-- the row of a group as the cells of its columns and aggregates
+abbrev pub cells_of_group : BoundQuery → GroupRow → Cells
+cells_of_group q g = group_cells q.group_by (query_aggregates q) g
 
-abbrev pub fault_in : {X : Type 0} → Result X Fault → Option Fault
-fault_in (Ok x) = None
-fault_in (Err fault) = Some fault
+module _ (role : Name) (q : BoundQuery) where
+  -- ---- the stages
 
-abbrev pub lesser : Option Fault → Option Fault → Option Fault
-lesser None other = other
-lesser (Some fault) None = Some fault
-lesser (Some fault) (Some other) = Some (if is_gt (fault_cmp fault other) then other else fault)
+  -- stage WHERE: the combinations that the fragile conjuncts keep
+  abbrev pub where_fate : Combination → Fate Combination
+  where_fate c = gives_if c (keeps (joined_cells c) role (fragile_conjuncts q))
 
--- the least fault, if any outcome is one
-abbrev pub least_fault : {X : Type 0} → List (Result X Fault) → Option Fault
-least_fault [] = None
-least_fault (o ∷ os) = lesser (fault_in o) (least_fault os)
+  abbrev pub where_stage : List Combination → Result (List Combination) Fault
+  where_stage these = stage (map where_fate these)
 
--- ---- stages
+  -- stage items: the items of each combination
+  abbrev pub items_fate : Combination → Fate Row
+  items_fate c = gives (values_of (joined_cells c) role q.items)
 
-abbrev pub is_kept : Result Bool Fault → Bool
-is_kept (Ok keep) = keep
-is_kept (Err fault) = false
+  abbrev pub items_stage : List Combination → Result (List Row) Fault
+  items_stage these = stage (map items_fate these)
 
-abbrev pub value_in : {X : Type 0} → Result X Fault → Option X
-value_in (Ok x) = Some x
-value_in (Err fault) = None
+  -- stage arguments: what each combination brings to its group
+  abbrev pub arguments_fate : Combination → Fate Member
+  arguments_fate c = gives (member_on (joined_cells c) role q.group_by (query_aggregates q))
 
--- stage WHERE: the combinations that the fragile conjuncts keep, or the least fault
-abbrev pub kept : Name → BoundQuery → List Combination → Result (List Combination) Fault
-kept role q these = unless_fault (least_fault (map (fate_of role q) these)) (filter (λ c. is_kept (fate_of role q c)) these)
+  abbrev pub arguments_stage : List Combination → Result (List Member) Fault
+  arguments_stage these = stage (map arguments_fate these)
 
--- a stage in which each gives a value: the values, or the least fault
-abbrev pub gathered : {X : Type 0} → List (Result X Fault) → Result (List X) Fault
-gathered outcomes = unless_fault (least_fault outcomes) (filter_map value_in outcomes)
+  -- stage sums: the row of each group
+  abbrev pub sums_stage : List Member → Result (List GroupRow) Fault
+  sums_stage members = group_rows q.group_by (query_aggregates q) members
 
-abbrev pub in_order : List Row → Result (List Row) Fault
-in_order rows = Ok (sorted_by row_cmp rows)
+  -- stage HAVING: the groups on which HAVING is true or absent
+  abbrev pub having_fate : GroupRow → Fate GroupRow
+  having_fate g = gives_if g (keeps (cells_of_group q g) role (option_to_list q.having))
 
--- stage items: the rows of items, in order
-abbrev pub rows_of_kept : Name → BoundQuery → List Combination → Result (List Row) Fault
-rows_of_kept role q these = gathered (map (items_of role q) these) >>= in_order
+  abbrev pub having_stage : List GroupRow → Result (List GroupRow) Fault
+  having_stage groups = stage (map having_fate groups)
 
--- the rows of the answer, or the least fault of the first stage that has one
-abbrev pub answer : Name → BoundQuery → List Combination → Result (List Row) Fault
-answer role q these = kept role q these >>= rows_of_kept role q
+  -- stage group items: the items of each group
+  abbrev pub group_items_fate : GroupRow → Fate Row
+  group_items_fate g = gives (values_of (cells_of_group q g) role q.items)
 
--- the answer over these rows of each entry
-abbrev pub answer_over : Name → BoundQuery → List (List Row) → Result (List Row) Fault
-answer_over role q tables = answer role q (passing role (movable_conjuncts q) (combinations tables))
+  abbrev pub group_items_stage : List GroupRow → Result (List Row) Fault
+  group_items_stage groups = stage (map group_items_fate groups)
+
+  -- ---- the answer
+
+  abbrev pub rows_of_groups : List Combination → Result (List Row) Fault
+  rows_of_groups these = arguments_stage these >>= sums_stage >>= having_stage >>= group_items_stage
+
+  -- of groups, or of each combination by itself
+  abbrev pub rows_of : Bool → List Combination → Result (List Row) Fault
+  rows_of true these = rows_of_groups these
+  rows_of false these = items_stage these
+
+  abbrev pub in_order : List Row → Result (List Row) Fault
+  in_order rows = Ok (ordered q.order_by q.limit rows)
+
+  abbrev pub rows_of_kept : List Combination → Result (List Row) Fault
+  rows_of_kept these = rows_of q.is_grouped these >>= in_order
+
+  -- the rows of the answer, or the least fault of the first stage that has one
+  abbrev pub answer : List Combination → Result (List Row) Fault
+  answer these = where_stage these >>= rows_of_kept
+
+  -- the answer over these rows of each entry
+  abbrev pub answer_over : List (List Row) → Result (List Row) Fault
+  answer_over tables = answer (passing role (movable_conjuncts q) (combinations tables))

@@ -23,9 +23,9 @@ abbrev pub condition_columns : Option BoundExpr → List ColumnId
 condition_columns None = []
 condition_columns (Some e) = columns e
 
--- the columns that a query without groups names: those of its items, of each ON and of WHERE
+-- the columns that a query names: those of its items, of each ON, of WHERE, of GROUP BY and of HAVING
 abbrev pub named_columns : BoundQuery → List ColumnId
-named_columns q = flat_map item_columns q.items ++ (flat_map condition_columns q.ons ++ condition_columns q.filter)
+named_columns q = flat_map item_columns q.items ++ ((flat_map condition_columns q.ons ++ condition_columns q.filter) ++ (q.group_by ++ condition_columns q.having))
 
 -- of them those of an entry
 abbrev pub named_in : BoundQuery → ℕ → List ℕ

@@ -6,15 +6,53 @@ ghost use Rattle.value.specs.Datum.{row_of};
 ghost use Rattle.operators.specs.Combinations.{Combination};
 ghost use Rattle.operators.specs.View.{world_of};
 ghost use Rattle.operators.specs.World.{seen_tables, stands_for};
+ghost use Rattle.report.specs.Answer as spec;
 ghost use Rattle.report.specs.Answer.{answer, answer_over};
 
-use crate::stages::{kept, rows_of_kept};
+use crate::grouped::rows_of_groups;
+use crate::ordering::ordered;
+use crate::stages::{items_stage, where_stage};
 use combo::Combo;
 use memory::{Failure, Heap};
 use operators::{World, run_nested};
 use resolve::fragile_conjuncts;
 use text::Items;
 use value::{Fault, Value};
+
+// The rows of groups, or of each combination by itself.
+fn rows_of<A: Heap>(
+    alloc: A,
+    world: &World<'_, A>,
+    combos: &[&Combo<A>],
+) -> Result<Items<Items<Value<A>, A>, A>, Failure<Fault>>
+    ensures { Gives (λ rows. map (λ r. row_of r) rows) result
+        (spec.rows_of world.now.role.now (world_of world.now).query (world_of world.now).query.is_grouped (map (λ c. stands_for (world_of world.now).tables c.now) combos.now)) }
+{
+    if world.query.is_grouped {
+        rows_of_groups(alloc, world, combos)
+    } else {
+        items_stage(alloc, world, combos)
+    }
+}
+
+// The rows of the combinations that are kept, in the order of the query and cut by its limit.
+fn rows_of_kept<A: Heap>(
+    alloc: A,
+    world: &World<'_, A>,
+    combos: &[&Combo<A>],
+) -> Result<Items<Items<Value<A>, A>, A>, Failure<Fault>>
+    ensures { Gives (λ rows. map (λ r. row_of r) rows) result
+        (spec.rows_of_kept world.now.role.now (world_of world.now).query (map (λ c. stands_for (world_of world.now).tables c.now) combos.now)) }
+{
+    match rows_of(alloc, world, combos) {
+        Ok(rows) => Ok(ordered(
+            world.query.order_by.as_slice(),
+            world.query.limit,
+            rows,
+        )),
+        Err(failure) => Err(failure),
+    }
+}
 
 // The answer over combinations, as a function of their list.
 fn finish_list<A: Heap>(
@@ -26,7 +64,7 @@ fn finish_list<A: Heap>(
         (answer world.now.role.now (world_of world.now).query (map (stands_for (world_of world.now).tables) combos.now)) }
 {
     let conditions = fragile_conjuncts(alloc, world.query)?;
-    let these = kept(alloc, world, &conditions, combos)?;
+    let these = where_stage(alloc, world, &conditions, combos)?;
     rows_of_kept(alloc, world, these.as_slice())
 }
 

@@ -1,9 +1,10 @@
 //! Replies, their texts and their exit statuses; the answer over combinations.
 #![tactic(auto)]
 
-mod faults;
 mod finishing;
+mod grouped;
 mod laws;
+mod ordering;
 mod outcomes;
 mod reply;
 mod stages;

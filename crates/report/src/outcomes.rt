@@ -1,4 +1,4 @@
-//! What conditions and items give on one row.
+//! What conditions and items give on one row or group.
 
 ghost use Rattle.std.specs.Prelude.{map};
 ghost use Rattle.memory.specs.Gives.{Gives};
@@ -6,7 +6,7 @@ ghost use Rattle.value.specs.Datum.{datum, row_of};
 ghost use Rattle.expr.specs.View.{bound_expr_of};
 ghost use Rattle.eval.specs.Meaning.{meaning};
 ghost use Rattle.scope.specs.View.{bound_item_of};
-ghost use Rattle.report.specs.Answer.{truth_in, fate, values_of};
+ghost use Rattle.report.specs.Answer.{truth_in, keeps, values_of};
 
 use eval::{Row, eval};
 use expr::BoundExpr;
@@ -31,13 +31,13 @@ fn truth_in<A: Heap, R: Row<A>>(
 }
 
 // Whether the conditions keep the row: the first that is not true drops it, the first that faults gives its fault.
-pub(crate) fn fate<A: Heap, R: Row<A>>(
+pub(crate) fn keeps<A: Heap, R: Row<A>>(
     alloc: A,
     conditions: &[&BoundExpr<A>],
     row: &R,
     role: &str,
 ) -> Result<bool, Failure<Fault>>
-    ensures { Gives (λ b. b) result (fate (R.cells row.now) role.now (map (λ e. bound_expr_of e.now) conditions.now)) }
+    ensures { Gives (λ b. b) result (keeps (R.cells row.now) role.now (map (λ e. bound_expr_of e.now) conditions.now)) }
 {
     for condition in conditions {
         if !truth_in(alloc, condition, row, role)? {

@@ -1,5 +1,5 @@
 -- A query of its parts.
-use Rattle.std.proofs.Common.{◌≡◌, List, Option, Result, Ok, Err, refl, ap}
+use Rattle.std.proofs.Common.{◌≡◌, ℕ, Bool, List, [], Option, Result, Ok, Err, refl, ap}
 use Rattle.memory.specs.Gives.{Gives}
 use Rattle.memory.specs.declared.failure.Failure.{Failure}
 use Rattle.memory.specs.declared.failure.Failure.TheVariants as failure
@@ -17,16 +17,16 @@ use Rattle.resolve.specs.BoundQueries.{bound_parts, bound_within, bound_query}
 pub query_is : (entries : List Entry) (q : ast.Query) (reach : Reach) → reach ≡ everywhere entries → bound_within reach entries q ≡ bound_query entries q
 query_is entries q reach r = ap (λ x. bound_within x entries q) r
 
-module _ (items : Result (List BoundItem) NameFault) (ons : Result (List (Option BoundExpr)) NameFault) (filter : Result (Option BoundExpr) NameFault) (group_by : Result (List ColumnId) NameFault) (having : Result (Option BoundExpr) NameFault)
+module _ (grouped : Bool) (limit : Option ℕ) (items : Result (List BoundItem) NameFault) (ons : Result (List (Option BoundExpr)) NameFault) (filter : Result (Option BoundExpr) NameFault) (group_by : Result (List ColumnId) NameFault) (having : Result (Option BoundExpr) NameFault)
     (i : List BoundItem) (o : List (Option BoundExpr)) (f : Option BoundExpr) (items_are : items ≡ Ok i) (ons_are : ons ≡ Ok o) (filter_is : filter ≡ Ok f) where
-  pub columns_failed : {X Z : Type 0} (v : X → List ColumnId) (w : Z → BoundQuery) (e : Failure NameFault) → Gives v (Err e) group_by → Gives w (Err e) (bound_parts items ons filter group_by having)
+  pub columns_failed : {X Z : Type 0} (v : X → List ColumnId) (w : Z → BoundQuery) (e : Failure NameFault) → Gives v (Err e) group_by → Gives w (Err e) (bound_parts grouped limit items ons filter group_by having)
   columns_failed v w (failure.Fault fault) h = rw (items_are, ons_are, filter_is, h) refl
   columns_failed v w failure.OutOfMemory h = tt
 
   module _ (g : List ColumnId) (group_by_is : group_by ≡ Ok g) where
-    pub having_failed : {X Z : Type 0} (v : X → Option BoundExpr) (w : Z → BoundQuery) (e : Failure NameFault) → Gives v (Err e) having → Gives w (Err e) (bound_parts items ons filter group_by having)
+    pub having_failed : {X Z : Type 0} (v : X → Option BoundExpr) (w : Z → BoundQuery) (e : Failure NameFault) → Gives v (Err e) having → Gives w (Err e) (bound_parts grouped limit items ons filter group_by having)
     having_failed v w (failure.Fault fault) h = rw (items_are, ons_are, filter_is, group_by_is, h) refl
     having_failed v w failure.OutOfMemory h = tt
 
-    pub all_given : (h : Option BoundExpr) → having ≡ Ok h → bound_parts items ons filter group_by having ≡ Ok (record { items = i; ons = o; filter = f; group_by = g; having = h })
+    pub all_given : (h : Option BoundExpr) → having ≡ Ok h → bound_parts grouped limit items ons filter group_by having ≡ Ok (record { items = i; ons = o; filter = f; group_by = g; having = h; is_grouped = grouped; order_by = []; limit = limit })
     all_given h having_is = rw (items_are, ons_are, filter_is, group_by_is, having_is) refl

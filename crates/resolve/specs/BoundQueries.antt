@@ -1,5 +1,5 @@
 -- A query with each column found and all else kept.
-use Rattle.std.specs.Prelude.{ℕ, ◌+◌, List, [], ◌∷◌, ◌++◌, Option, Some, None, Result, Ok, codes}
+use Rattle.std.specs.Prelude.{ℕ, ◌+◌, Bool, List, [], ◌∷◌, ◌++◌, Option, Some, None, Result, Ok, codes}
 use Rattle.value.specs.Columns.{Column}
 use Rattle.value.specs.declared.operators.Aggregate.{Aggregate}
 use Rattle.value.specs.declared.operators.Aggregate.TheVariants as aggregate
@@ -14,6 +14,7 @@ use Rattle.scope.specs.Entry.{and_then, Entry}
 use Rattle.scope.specs.Lookup.{everywhere, find_column, on_reach}
 use Rattle.scope.specs.BoundQuery.{BoundItem, BoundQuery}
 use Rattle.scope.specs.BoundExprs.{bound_expr}
+use Rattle.typing.specs.Clauses.{is_grouped}
 
 -- ---- headings
 
@@ -82,14 +83,16 @@ bound_columns entries reach known (c ∷ more) = and_then (find_column entries r
 -- ---- the query
 
 -- the query of its parts, or the fault of the first that has one
-abbrev pub bound_parts : Result (List BoundItem) NameFault → Result (List (Option BoundExpr)) NameFault → Result (Option BoundExpr) NameFault → Result (List ColumnId) NameFault → Result (Option BoundExpr) NameFault → Result BoundQuery NameFault
-bound_parts items ons filter group_by having =
-    and_then items (λ items. and_then ons (λ ons. and_then filter (λ filter. and_then group_by (λ group_by. and_then having (λ having. Ok record { items = items; ons = ons; filter = filter; group_by = group_by; having = having })))))
+abbrev pub bound_parts : Bool → Option ℕ → Result (List BoundItem) NameFault → Result (List (Option BoundExpr)) NameFault → Result (Option BoundExpr) NameFault → Result (List ColumnId) NameFault → Result (Option BoundExpr) NameFault → Result BoundQuery NameFault
+bound_parts is_grouped limit items ons filter group_by having =
+    and_then items (λ items. and_then ons (λ ons. and_then filter (λ filter. and_then group_by (λ group_by. and_then having (λ having.
+    Ok record { items = items; ons = ons; filter = filter; group_by = group_by; having = having; is_grouped = is_grouped; order_by = []; limit = limit })))))
 
 abbrev pub bound_within : Reach → List Entry → ast.Query → Result BoundQuery NameFault
 bound_within reach entries q =
-    bound_parts (bound_select entries reach q.select) (bound_ons entries 0 [] entries) (bound_condition entries reach q.filter) (bound_columns entries reach [] q.group_by) (bound_condition entries reach q.having)
+    bound_parts (is_grouped entries q) q.limit (bound_select entries reach q.select) (bound_ons entries 0 [] entries) (bound_condition entries reach q.filter) (bound_columns entries reach [] q.group_by) (bound_condition entries reach q.having)
 
--- the query with its columns found among the entries, or the first column that stands for nothing
+-- the query with its columns found among the entries, or the first column that stands for nothing; its ORDER BY, which names output
+-- columns, is bound after its checks
 abbrev pub bound_query : List Entry → ast.Query → Result BoundQuery NameFault
 bound_query entries q = bound_within (everywhere entries) entries q

@@ -4,4 +4,4 @@ pub mod Needed
 pub mod Resolved
 pub mod View
 pub mod Conjuncts
-pub mod Served
+pub mod OrderBy

@@ -4,14 +4,13 @@
 mod conjuncts;
 mod from;
 mod marks;
+mod order_by;
 mod privileges;
 mod queries;
 mod resolved;
-mod served;
 
 pub use conjuncts::{fragile_conjuncts, movable_conjuncts};
 pub use from::entries;
 pub use privileges::needed;
 pub use queries::{bind_condition, bind_query};
 pub use resolved::{Bound, bind};
-pub use served::is_served;

@@ -17,6 +17,7 @@ use scope::{
 };
 use std::alloc::AllocError;
 use text::{Items, Text};
+use typing::is_grouped;
 use value::{Aggregate, Column};
 
 fn aggregate_heading(aggregate: Aggregate) -> &'static str
@@ -215,7 +216,8 @@ fn bind_optional<A: Heap>(
     }
 }
 
-/// The query with its columns found among the entries of its FROM, or the first that stands for nothing.
+/// The query with its columns found among the entries of its FROM, or the first that stands for nothing. Its ORDER BY,
+/// which names output columns, is not bound here.
 pub fn bind_query<A: Heap>(
     alloc: A,
     entries: &[Entry<'_, A>],
@@ -241,6 +243,9 @@ pub fn bind_query<A: Heap>(
         filter,
         group_by,
         having,
+        is_grouped: is_grouped(entries, query),
+        order_by: Items::new(alloc),
+        limit: query.limit,
     };
     Ok(boxed(alloc, bound)?)
 }

@@ -8,11 +8,12 @@ ghost use Rattle.resolve.specs.Resolved as spec;
 ghost use Rattle.resolve.specs.View.{bound_of};
 
 use crate::from::entries;
+use crate::order_by::output_keys;
 use crate::queries::bind_query;
 use catalog::Catalog;
 use memory::{Failure, Heap};
 use row_ast::Query;
-use scope::{BoundQuery, Entry, NameFault};
+use scope::{BoundQuery, Entry, NameFault, OutputKey};
 use text::Items;
 use typing::clause_fault;
 
@@ -25,7 +26,36 @@ pub struct Bound<'s, A: Heap> {
     pub query: Box<BoundQuery<A>, A>,
 }
 
+fn with_order<A: Heap>(
+    bound: Box<BoundQuery<A>, A>,
+    order_by: Items<OutputKey, A>,
+) -> Box<BoundQuery<A>, A>
+    ensures { bound_query_of result.value ≡ spec.with_order (bound_query_of bound.value) order_by }
+{
+    let mut bound = bound;
+    bound.order_by = order_by;
+    bound
+}
+
+fn ordered<'s, A: Heap>(
+    alloc: A,
+    entries: Items<Entry<'s, A>, A>,
+    query: &Query<A>,
+    bound: Box<BoundQuery<A>, A>,
+) -> Result<Bound<'s, A>, Failure<NameFault>>
+    ensures { Gives (λ b. bound_of b) result (spec.ordered (map (λ e. entry_of e) entries.entry) (query_of query.now) (bound_query_of bound.value)) }
+{
+    match output_keys(alloc, bound.items.as_slice(), query.order_by.as_slice()) {
+        Ok(keys) => Ok(Bound {
+            entries,
+            query: with_order(bound, keys),
+        }),
+        Err(failure) => Err(failure),
+    }
+}
+
 fn checked<'s, A: Heap>(
+    alloc: A,
     entries: Items<Entry<'s, A>, A>,
     query: &Query<A>,
     bound: Box<BoundQuery<A>, A>,
@@ -34,10 +64,7 @@ fn checked<'s, A: Heap>(
 {
     match clause_fault(entries.as_slice(), bound.group_by.as_slice(), query) {
         Some(fault) => Err(Failure::Fault(fault)),
-        None => Ok(Bound {
-            entries,
-            query: bound,
-        }),
+        None => ordered(alloc, entries, query, bound),
     }
 }
 
@@ -49,13 +76,14 @@ fn bind_with<'s, A: Heap>(
     ensures { Gives (λ b. bound_of b) result (spec.bound_with (query_of query.now) (map (λ e. entry_of e) entries.entry)) }
 {
     match bind_query(alloc, entries.as_slice(), query) {
-        Ok(bound) => checked(entries, query, bound),
+        Ok(bound) => checked(alloc, entries, query, bound),
         Err(failure) => Err(failure),
     }
 }
 
 /// The query bound, or the first fault: of the entries of FROM, of its columns as written, of its aggregates (42803), of
-/// its types (42804) (PostgreSQL: FROM Clause; Column References; Aggregate Expressions).
+/// its types (42804), of the keys of ORDER BY (PostgreSQL: FROM Clause; Column References; Aggregate Expressions; Sorting
+/// Rows).
 pub fn bind<'s, A: Heap>(
     alloc: A,
     catalog: &'s Catalog<A>,

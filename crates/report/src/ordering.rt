@@ -1,0 +1,87 @@
+//! ORDER BY and LIMIT.
+
+ghost use Rattle.std.specs.Prelude.{◌≡◌, map};
+ghost use Rattle.bags.specs.Sorting.{sorted_by};
+ghost use Rattle.value.specs.Datum.{row_of};
+ghost use Rattle.value.specs.Orders.{datum_cmp};
+ghost use Rattle.access.specs.Access.{cell};
+ghost use Rattle.report.specs.Ordered as spec;
+ghost use Rattle.report.specs.Ordered.{by_key, by_keys, output_cmp, limited};
+
+use memory::Heap;
+use scope::OutputKey;
+use std::cmp::Ordering;
+use text::Items;
+use value::{Value, cmp_rows, cmp_values};
+
+fn cmp_cells<A: Heap>(a: &[Value<A>], b: &[Value<A>], place: usize) -> Ordering
+    ensures { result ≡ datum_cmp (cell (row_of a.now) place) (cell (row_of b.now) place) }
+{
+    match (a.get(place), b.get(place)) {
+        (Some(x), Some(y)) => cmp_values(&x.as_val(), &y.as_val()),
+        (Some(x), None) => cmp_values(&x.as_val(), &Value::Null.as_val()),
+        (None, Some(y)) => cmp_values(&Value::Null.as_val(), &y.as_val()),
+        (None, None) => Ordering::Equal,
+    }
+}
+
+fn cmp_by_key<A: Heap>(key: OutputKey, a: &[Value<A>], b: &[Value<A>]) -> Ordering
+    ensures { result ≡ by_key key (row_of a.now) (row_of b.now) }
+{
+    if key.descending {
+        cmp_cells(b, a, key.place)
+    } else {
+        cmp_cells(a, b, key.place)
+    }
+}
+
+// By the first key, then by the others.
+fn cmp_by_keys<A: Heap>(keys: &[OutputKey], a: &[Value<A>], b: &[Value<A>]) -> Ordering
+    ensures { result ≡ by_keys keys.now (row_of a.now) (row_of b.now) }
+{
+    match keys.split_first() {
+        None => Ordering::Equal,
+        Some((key, keys)) => match cmp_by_key(*key, a, b) {
+            Ordering::Equal => cmp_by_keys(keys, a, b),
+            other => other,
+        },
+    }
+}
+
+// By the keys, and then by all columns from left to right.
+fn cmp_outputs<A: Heap>(keys: &[OutputKey], a: &[Value<A>], b: &[Value<A>]) -> Ordering
+    ensures { result ≡ output_cmp keys.now (row_of a.now) (row_of b.now) }
+{
+    match cmp_by_keys(keys, a, b) {
+        Ordering::Equal => cmp_rows(a, b),
+        other => other,
+    }
+}
+
+fn sort_outputs<A: Heap>(keys: &[OutputKey], rows: &mut Vec<Items<Value<A>, A>, A>)
+    ensures { map (λ r. row_of r) rows.new.items ≡ sorted_by (output_cmp keys.now) (map (λ r. row_of r) rows.old.items) }
+{
+    rows.sort_unstable_by(|a, b| cmp_outputs(keys, a.as_slice(), b.as_slice()));
+}
+
+fn limit_rows<A: Heap>(limit: Option<u64>, rows: &mut Vec<Items<Value<A>, A>, A>)
+    ensures { map (λ r. row_of r) rows.new.items ≡ limited limit (map (λ r. row_of r) rows.old.items) }
+{
+    if let Some(n) = limit {
+        rows.truncate(n as usize);
+    }
+}
+
+// The rows in the order of the keys, cut by the limit. It takes no memory.
+pub(crate) fn ordered<A: Heap>(
+    keys: &[OutputKey],
+    limit: Option<u64>,
+    rows: Items<Items<Value<A>, A>, A>,
+) -> Items<Items<Value<A>, A>, A>
+    ensures { map (λ r. row_of r) result ≡ spec.ordered keys.now limit (map (λ r. row_of r) rows) }
+{
+    let mut rows = rows.into_vec();
+    sort_outputs(keys, &mut rows);
+    limit_rows(limit, &mut rows);
+    Items::from(rows)
+}

@@ -1,0 +1,3 @@
+pub mod FaultOrder
+pub mod Going
+pub mod SameStage
