@@ -1,0 +1,18 @@
+//! Worked rows of groups, aggregates, ORDER BY, LIMIT and printing: tables of rows, each run by one test.
+//! docs/ACCEPTANCE.md lists them.
+#![tactic(auto)]
+
+#[cfg(test)]
+mod aggregates;
+#[cfg(test)]
+mod groups;
+#[cfg(test)]
+mod order;
+#[cfg(test)]
+mod refusals;
+#[cfg(test)]
+mod sales_cases;
+#[cfg(test)]
+mod sales_refusals;
+#[cfg(test)]
+mod stages;
