@@ -216,82 +216,106 @@ fn worked_rows_are_answered(rt: HostRuntime) -> Result<(), Fail> {
     Ok(walk_all(rt.alloc(), worked())?)
 }
 
-// What the grammar has and the engine does not support yet, with the denial that comes first where nothing is granted.
-static NOT_SERVED: [(&str, &str); 11] = [
+// A reply and its status.
+type Reply = (&'static str, u8);
+
+// A query that groups, orders or cuts, with the replies to alice, to those who see all rows, and to a role without a grant.
+static GROUPED: [(&str, Reply, Reply, Reply); 11] = [
     (
         "SELECT -id FROM deal LIMIT 0",
-        "denied 42501 column id of table deal\n",
+        ("?column?\n", 0),
+        ("?column?\n", 0),
+        ("denied 42501 column id of table deal\n", 4),
     ),
     (
         "SELECT owner, id + 1 FROM deal ORDER BY 2, 1",
-        "denied 42501 column owner of table deal\n",
+        ("owner,?column?\nalice,2\nalice,3\n", 0),
+        ("owner,?column?\nalice,2\nalice,3\nbob,4\n", 0),
+        ("denied 42501 column owner of table deal\n", 4),
     ),
-    ("SELECT count(*) FROM deal", "denied 42501 table deal\n"),
+    (
+        "SELECT count(*) FROM deal",
+        ("count\n2\n", 0),
+        ("count\n3\n", 0),
+        ("denied 42501 table deal\n", 4),
+    ),
     (
         "SELECT sum(id) FROM deal WHERE id = 1",
-        "denied 42501 column id of table deal\n",
+        ("sum\n1\n", 0),
+        ("sum\n1\n", 0),
+        ("denied 42501 column id of table deal\n", 4),
     ),
     (
         "SELECT * FROM deal CROSS JOIN deal e ORDER BY owner DESC",
-        "denied 42501 column id of table deal\n",
+        ("refused 42702 at 46\n", 3),
+        ("refused 42702 at 46\n", 3),
+        ("refused 42702 at 46\n", 3),
     ),
     (
         "SELECT 1 FROM deal JOIN deal e ON e.owner = deal.owner HAVING count(*) > 1",
-        "denied 42501 column owner of table deal\n",
+        ("?column?\n1\n", 0),
+        ("?column?\n1\n", 0),
+        ("denied 42501 column owner of table deal\n", 4),
     ),
     (
         "SELECT id FROM deal GROUP BY id",
-        "denied 42501 column id of table deal\n",
+        ("id\n1\n2\n", 0),
+        ("id\n1\n2\n3\n", 0),
+        ("denied 42501 column id of table deal\n", 4),
     ),
     (
         "SELECT owner, max(id) FROM deal GROUP BY owner",
-        "denied 42501 column owner of table deal\n",
+        ("owner,max\nalice,2\n", 0),
+        ("owner,max\nalice,2\nbob,3\n", 0),
+        ("denied 42501 column owner of table deal\n", 4),
     ),
     (
         "SELECT 1 FROM deal HAVING TRUE",
-        "denied 42501 table deal\n",
+        ("?column?\n1\n", 0),
+        ("?column?\n1\n", 0),
+        ("denied 42501 table deal\n", 4),
     ),
     (
         "SELECT id FROM deal ORDER BY id",
-        "denied 42501 column id of table deal\n",
+        ("id\n1\n2\n", 0),
+        ("id\n1\n2\n3\n", 0),
+        ("denied 42501 column id of table deal\n", 4),
     ),
     (
         "SELECT id FROM deal LIMIT 1",
-        "denied 42501 column id of table deal\n",
+        ("id\n1\n", 0),
+        ("id\n1\n", 0),
+        ("denied 42501 column id of table deal\n", 4),
     ),
 ];
 
-fn not_supported() -> &'static [(&'static str, &'static str)] {
-    &NOT_SERVED
+fn grouped() -> &'static [(&'static str, Reply, Reply, Reply)] {
+    &GROUPED
 }
 
-fn served_to_nobody<A: Heap>(
+fn answered_by_role<A: Heap>(
     alloc: A,
     store: &Store<A>,
-    text: &'static str,
-    denial: &'static str,
+    row: &(&'static str, Reply, Reply, Reply),
 ) -> Result<(), Failure<Mismatch<'static>>> {
-    for (role, reply, status) in [
-        ("alice", "refused 0A000\n", 3u8),
-        ("boss", "refused 0A000\n", 3),
-        ("root", "refused 0A000\n", 3),
-        ("lone", denial, 4),
-        ("zed", "refused 42704\n", 6),
+    let (query, own, all, none) = *row;
+    for (role, (reply, status)) in [
+        ("alice", own),
+        ("boss", all),
+        ("root", all),
+        ("lone", none),
+        ("zed", ("refused 42704\n", 6)),
     ] {
-        answered(
-            alloc,
-            store,
-            ("not_supported_yet", role, text, reply, status),
-        )?;
+        answered(alloc, store, ("grouped", role, query, reply, status))?;
     }
     Ok(())
 }
 
 #[test]
-fn not_supported_yet_comes_after_names_and_grants(rt: HostRuntime) -> Result<(), Fail> {
+fn groups_order_and_limits_are_answered_by_role(rt: HostRuntime) -> Result<(), Fail> {
     let store = deals(rt.alloc())?;
-    for (text, denial) in not_supported() {
-        served_to_nobody(rt.alloc(), &store, text, denial)?;
+    for row in grouped() {
+        answered_by_role(rt.alloc(), &store, row)?;
     }
     Ok(())
 }

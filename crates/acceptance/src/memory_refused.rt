@@ -12,8 +12,9 @@ use value::Refusal;
 
 const TEXT: &str = "SELECT id FROM deal WHERE id IN (1, 2) AND NOT owner = 'bob'";
 
-// Texts of alice with their replies and statuses: of one table, of a join with a cast and a fragile condition, and a fault.
-static TEXTS: [(&str, &str, u8); 3] = [
+// Texts of alice with their replies and statuses: of one table, of a join with a cast and a fragile condition, a fault, and
+// groups in an order.
+static TEXTS: [(&str, &str, u8); 4] = [
     (TEXT, "id\n1\n2\n", 0),
     (
         "SELECT CAST(d.id AS text) AS t, e.id + 1 AS n FROM deal d JOIN deal e ON d.id = e.id WHERE e.id * 1 > 0",
@@ -24,6 +25,11 @@ static TEXTS: [(&str, &str, u8); 3] = [
         "SELECT 1 / (d.id - 1) FROM deal d, deal e WHERE d.id = e.id",
         "fault 22012 at 9\n",
         5,
+    ),
+    (
+        "SELECT owner, count(*), max(owner), sum(id) + 1 AS n FROM deal GROUP BY owner HAVING min(id) > 0 ORDER BY n DESC LIMIT 2",
+        "owner,count,max,n\nalice,2,alice,4\n",
+        0,
     ),
 ];
 

@@ -68,7 +68,7 @@ static WORKED: [Row; 18] = [
                 "denied 42501 table deal\n",
                 4,
             ),
-            Ask("guest", "SELECT count(*) FROM deal", "refused 0A000\n", 3),
+            Ask("guest", "SELECT count(*) FROM deal", "count\n0\n", 0),
             Ask(
                 "lone",
                 "SELECT name FROM region, deal",
