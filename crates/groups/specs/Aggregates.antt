@@ -48,6 +48,11 @@ or_null (Some d) = d
 abbrev pub descending_cmp : Datum → Datum → Ordering
 descending_cmp a b = datum_cmp b a
 
+-- whichever of the two orders is asked for
+abbrev pub towards : Bool → Datum → Datum → Ordering
+towards false = datum_cmp
+towards true = descending_cmp
+
 -- the exact count or sum, which has to lie within 64 bits; of no values the count is 0, and all else is null
 abbrev pub aggregate_of : Aggregate → ℕ → List Datum → Result Datum Fault
 aggregate_of Count offset ds = number_at offset (in_range (pos (length ds)))

@@ -7,10 +7,13 @@ use Rattle.value.specs.Orders.{row_cmp}
 use Rattle.expr.specs.declared.bound.ColumnId.{ColumnId}
 use Rattle.groups.specs.Members.{Member}
 
+abbrev pub same_key : Row → Row → Bool
+same_key k l = is_eq (row_cmp k l)
+
 -- a key in front, unless it is the first already
 abbrev pub front_once : Row → List Row → List Row
 front_once k [] = k ∷ []
-front_once k (l ∷ ls) = if is_eq (row_cmp k l) then k ∷ ls else k ∷ l ∷ ls
+front_once k (l ∷ ls) = if same_key k l then k ∷ ls else k ∷ l ∷ ls
 
 -- keys in order, each once
 abbrev pub without_repeats : List Row → List Row
@@ -23,7 +26,7 @@ pub record Group : Type 0 where
   pub members : List Row
 
 abbrev pub has_key : Row → Member → Bool
-has_key k m = is_eq (row_cmp m.key k)
+has_key k m = same_key m.key k
 
 abbrev pub group_with : List Member → Row → Group
 group_with members k = record { key = k; members = map (λ m. m.arguments) (filter (has_key k) members) }

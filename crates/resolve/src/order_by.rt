@@ -23,7 +23,7 @@ fn place_of_heading<A: Heap>(
     let mut found = None;
     for (place, item) in items.iter().enumerate() {
         if item.heading.as_str() == heading {
-            if found.is_some() {
+            if let Some(_) = found {
                 return Err(NameFault {
                     code: Refusal::AmbiguousColumn,
                     offset,

@@ -1,0 +1,7 @@
+mod Walks
+mod Totals
+pub mod SameGroups
+mod RunLaws
+mod Parts
+mod InOrder
+mod Cells

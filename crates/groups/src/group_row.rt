@@ -1,0 +1,109 @@
+//! The row of a group, and the cells that HAVING and items read of it.
+
+ghost use Rattle.std.specs.Prelude.{◌≡◌, IfOk};
+ghost use Rattle.memory.specs.Gives.{Gives};
+ghost use Rattle.value.specs.Datum.{datum_of, row_of};
+ghost use Rattle.expr.specs.View.{aggregate_calls_of};
+ghost use Rattle.groups.specs.GroupRow as spec;
+ghost use Rattle.groups.specs.Runs.{grouped};
+ghost use Rattle.groups.specs.View.{arguments_of, group_row_of};
+
+use crate::aggregates::totals_of;
+use crate::members::Member;
+use eval::Row;
+use expr::{AggregateCall, ColumnId};
+use memory::{Failure, Heap};
+use std::alloc::AllocError;
+use text::Items;
+use value::{Fault, Val, Value};
+
+/// The key of a group, and the values of its aggregates.
+#[derive(Drop)]
+pub struct GroupRow<A: Heap> {
+    /// The values of the GROUP BY columns.
+    pub key: Items<Value<A>, A>,
+    /// The values of the aggregates, in written order.
+    pub totals: Items<Value<A>, A>,
+}
+
+/// The cells of a group: its GROUP BY columns and its aggregates.
+#[derive(Drop)]
+pub struct GroupCells<'g, A: Heap> {
+    /// The GROUP BY columns.
+    pub columns: &'g [ColumnId],
+    /// The aggregates.
+    pub calls: &'g [AggregateCall<'g, A>],
+    /// The row of the group.
+    pub row: &'g GroupRow<A>,
+}
+
+fn is_column(id: ColumnId, other: ColumnId) -> bool
+    ensures { result ≡ spec.is_column id other }
+{
+    id.entry == other.entry && id.column == other.column
+}
+
+// The value of a GROUP BY column.
+fn key_cell<'g, A: Heap>(columns: &[ColumnId], key: &'g [Value<A>], id: ColumnId) -> Val<'g, A>
+    ensures { datum_of result ≡ spec.key_cell columns.now (row_of key.now) id }
+{
+    for (column, value) in columns.iter().zip(key) {
+        if is_column(*column, id) {
+            return value.as_val();
+        }
+    }
+    Val::Null
+}
+
+// The value of the aggregate whose name starts at an offset.
+fn total_at<'g, A: Heap>(
+    calls: &[AggregateCall<'_, A>],
+    totals: &'g [Value<A>],
+    offset: u32,
+) -> Val<'g, A>
+    ensures { datum_of result ≡ spec.total_at (aggregate_calls_of calls.now) (row_of totals.now) offset }
+{
+    for (call, value) in calls.iter().zip(totals) {
+        if call.offset == offset {
+            return value.as_val();
+        }
+    }
+    Val::Null
+}
+
+impl<A: Heap> Row<A> for GroupCells<'_, A> {
+    ghost cells = { λ g. spec.group_cells g.columns.now (aggregate_calls_of g.calls.now) (group_row_of g.row.now) };
+
+    fn cell(&self, id: ColumnId) -> Val<'_, A> {
+        key_cell(self.columns, self.row.key.as_slice(), id)
+    }
+
+    fn aggregate(&self, offset: u32) -> Val<'_, A> {
+        total_at(self.calls, self.row.totals.as_slice(), offset)
+    }
+}
+
+// A copy of a key.
+fn copy_key<A: Heap>(alloc: A, key: &[Value<A>]) -> Result<Items<Value<A>, A>, AllocError>
+    ensures { IfOk result (λ copy. row_of copy ≡ row_of key.now) }
+{
+    let mut copy = Items::new(alloc);
+    for value in key {
+        copy.push(value.copy(alloc)?)?;
+    }
+    Ok(copy)
+}
+
+/// The row of the group of a key and its members, or the first fault of the aggregates.
+pub fn row_of_group<A: Heap>(
+    alloc: A,
+    calls: &[AggregateCall<'_, A>],
+    key: &[Value<A>],
+    members: &[Member<A>],
+) -> Result<GroupRow<A>, Failure<Fault>>
+    ensures { Gives (λ g. group_row_of g) result (spec.group_row (aggregate_calls_of calls.now) (grouped (row_of key.now) (arguments_of members.now))) }
+{
+    let key = copy_key(alloc, key)?;
+    let totals = totals_of(alloc, calls, members)?;
+    Ok(GroupRow { key, totals })
+}

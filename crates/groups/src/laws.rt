@@ -1,0 +1,27 @@
+//! What groups depend on, and what they are.
+
+ghost use Rattle.std.specs.Prelude.{◌≡◌, List, map, IsPermutation};
+ghost use Rattle.std.specs.List.{flat_map, IsDistinct};
+ghost use Rattle.expr.specs.declared.bound.ColumnId as id;
+ghost use Rattle.expr.specs.Aggregates.{AggregateCall};
+ghost use Rattle.groups.specs.Members.{Member};
+ghost use Rattle.groups.specs.Groups.{groups_of, same_key};
+ghost use Rattle.groups.specs.GroupRow.{group_rows};
+
+/// The order of the members makes no difference to the rows of the groups.
+#[tactic(auto, using(crate::proofs::SameGroups::same_rows_of_groups))]
+pub fn law_order_of_members()
+    ensures { (columns : List id.ColumnId) (calls : List AggregateCall) (one other : List Member) → IsPermutation one other → group_rows columns calls one ≡ group_rows columns calls other }
+{}
+
+/// No two groups have the same key, where nulls are the same.
+#[tactic(auto, using(crate::proofs::Parts::keys_differ))]
+pub fn law_groups_differ()
+    ensures { (columns : List id.ColumnId) (members : List Member) → IsDistinct same_key (map (λ g. g.key) (groups_of columns members)) }
+{}
+
+/// Each member is in one group: the members of all groups together are the members, each as often.
+#[tactic(auto, using(crate::proofs::Parts::no_member_lost))]
+pub fn law_no_member_lost()
+    ensures { (columns : List id.ColumnId) (members : List Member) → IsPermutation (flat_map (λ g. g.members) (groups_of columns members)) (map (λ m. m.arguments) members) }
+{}
