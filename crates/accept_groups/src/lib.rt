@@ -5,6 +5,8 @@
 #[cfg(test)]
 mod aggregates;
 #[cfg(test)]
+mod elsewhere;
+#[cfg(test)]
 mod groups;
 #[cfg(test)]
 mod order;
