@@ -14,7 +14,6 @@ use Rattle.expr.specs.declared.bound.ColumnId.{ColumnId}
 use Rattle.groups.specs.Members.{Member}
 use Rattle.groups.specs.Groups.{Group, same_key, has_key, group_with, front_once, without_repeats, keys, classes, groups_of}
 use Rattle.groups.specs.Runs.{grouped, joined, runs}
-use Rattle.groups.proofs.SameGroups.{map-map}
 use Rattle.groups.proofs.RunLaws.{runs_are_classes}
 
 -- ---- no key twice

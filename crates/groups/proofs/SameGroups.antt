@@ -1,5 +1,5 @@
 -- The rows of the groups are a function of the bag of the members.
-use Rattle.std.proofs.Common.{◌≡◌, ℕ, suc, ◌+◌, ℤ, pos, negsuc, ◌-ℤ◌, Bool, true, false, List, [], ◌∷◌, map, filter, refl, sym, ap, ap₂, ◌∙◌, arith, Result, Ok, IsPermutation}
+use Rattle.std.proofs.Common.{◌≡◌, ℕ, suc, ◌+◌, ℤ, pos, negsuc, ◌-ℤ◌, Bool, true, false, List, [], ◌∷◌, map, filter, refl, sym, ap, ap₂, ◌∙◌, arith, Ok, IsPermutation}
 use Rattle.std.specs.List.{sum_by}
 use Rattle.std.proofs.lemmas.Int.{ints}
 use Rattle.std.proofs.lemmas.List.Sums.{sum_by-cons}
@@ -11,7 +11,6 @@ use Rattle.bags.proofs.Least.{least_same}
 use Rattle.value.specs.Datum.{Datum, Row}
 use Rattle.value.specs.Orders.{number, row_cmp}
 use Rattle.value.specs.Exact.{in_range}
-use Rattle.value.specs.declared.faults.Fault.{Fault}
 use Rattle.value.specs.declared.operators.Aggregate.{Aggregate}
 use Rattle.value.specs.declared.operators.Aggregate.TheVariants.{Count, Sum, Min, Max}
 use Rattle.value.proofs.DatumOrder.{datum_cmp_exact, row_cmp_total, row_cmp_exact}
@@ -19,10 +18,10 @@ use Rattle.expr.specs.declared.bound.ColumnId.{ColumnId}
 use Rattle.expr.specs.Aggregates.{AggregateCall}
 use Rattle.stages.specs.Stages.{first_then, gives, stage}
 use Rattle.groups.specs.Members.{Member}
-use Rattle.groups.specs.Groups.{Group, has_key, group_with, keys, classes, groups_of, without_repeats}
+use Rattle.groups.specs.Groups.{Group, has_key, group_with, keys, classes, without_repeats}
 use Rattle.groups.specs.Runs.{grouped}
 use Rattle.groups.specs.Aggregates.{argument_at, not_null, values_at, exact_sum, number_at, or_null, towards, aggregate_of, totals}
-use Rattle.groups.specs.GroupRow.{GroupRow, with_totals, group_row, group_rows}
+use Rattle.groups.specs.GroupRow.{with_totals, group_row, group_rows}
 use Rattle.groups.proofs.Totals.{towards_total}
 
 -- ---- aggregates

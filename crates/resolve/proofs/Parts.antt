@@ -1,9 +1,10 @@
 -- What stands in the parts of a query, and what follows a check.
-use Rattle.std.proofs.Common.{◌≡◌, List, [], ◌++◌, map, Option, Some, None, Ok, Err, refl}
+use Rattle.std.proofs.Common.{◌≡◌, List, [], ◌++◌, map, Option, Some, None, Result, Ok, Err, refl}
 use Rattle.std.specs.List.{flat_map}
 use Rattle.expr.specs.declared.bound.ColumnId.{ColumnId}
 use Rattle.expr.specs.Bound.{BoundExpr}
 use Rattle.scope.specs.declared.fault.NameFault.{NameFault}
+use Rattle.scope.specs.Entry.{and_then}
 use Rattle.scope.specs.BoundQuery.{BoundItem, BoundQuery}
 use Rattle.resolve.specs.declared.marks.Mark.{Mark}
 use Rattle.resolve.specs.declared.marks.Mark.TheVariants as mark
@@ -17,9 +18,9 @@ pub all_parts : (q : BoundQuery) (items : List BoundItem) (ons : List (Option Bo
     → m5 ≡ marks q
 all_parts q items ons group_by m0 m1 m2 m3 m4 m5 i o g e0 e1 e2 e3 e4 e5 = rw (e5, e4, e3, e2, e1, e0, i, o, g) refl
 
-module _ {X : Type 0} (fault : Option NameFault) (x : X) where
-  pub fault_found : (e : NameFault) → fault ≡ Some e → unless_fault fault x ≡ Err e
+module _ {X Y : Type 0} (fault : Option NameFault) (x : X) (next : X → Result Y NameFault) where
+  pub fault_found : (e : NameFault) → fault ≡ Some e → and_then (unless_fault fault x) next ≡ Err e
   fault_found e is = rw is refl
 
-  pub none_found : fault ≡ None → unless_fault fault x ≡ Ok x
+  pub none_found : fault ≡ None → and_then (unless_fault fault x) next ≡ next x
   none_found is = rw is refl

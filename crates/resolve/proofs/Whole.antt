@@ -7,6 +7,7 @@ use Rattle.row_ast.specs.Ast as ast
 use Rattle.expr.specs.Bound.{BoundExpr}
 use Rattle.expr.specs.declared.bound.ColumnId.{ColumnId}
 use Rattle.scope.specs.declared.fault.NameFault.{NameFault}
+use Rattle.scope.specs.declared.query.OutputKey.{OutputKey}
 use Rattle.scope.specs.declared.lookup.Reach.{Reach}
 use Rattle.scope.specs.Entry.{Entry}
 use Rattle.scope.specs.Lookup.{everywhere}
@@ -28,5 +29,6 @@ module _ (grouped : Bool) (limit : Option ℕ) (items : Result (List BoundItem) 
     having_failed v w (failure.Fault fault) h = rw (items_are, ons_are, filter_is, group_by_is, h) refl
     having_failed v w failure.OutOfMemory h = tt
 
-    pub all_given : (h : Option BoundExpr) → having ≡ Ok h → bound_parts grouped limit items ons filter group_by having ≡ Ok (record { items = i; ons = o; filter = f; group_by = g; having = h; is_grouped = grouped; order_by = []; limit = limit })
-    all_given h having_is = rw (items_are, ons_are, filter_is, group_by_is, having_is) refl
+    pub all_given : (h : Option BoundExpr) → having ≡ Ok h → (b : Bool) → b ≡ grouped → (keys : List OutputKey) → keys ≡ [] →
+        bound_parts grouped limit items ons filter group_by having ≡ Ok (record { items = i; ons = o; filter = f; group_by = g; having = h; is_grouped = b; order_by = keys; limit = limit })
+    all_given h having_is b b_is keys keys_are = rw (items_are, ons_are, filter_is, group_by_is, having_is, b_is, keys_are) refl

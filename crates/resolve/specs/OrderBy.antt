@@ -1,5 +1,5 @@
 -- The keys of ORDER BY.
-use Rattle.std.specs.Prelude.{ℕ, suc, nat_lt, ◌+◌, List, [], ◌∷◌, ◌++◌, length, Result, Ok, Err, if◌then◌else◌}
+use Rattle.std.specs.Prelude.{ℕ, zero, suc, nat_lt, ◌+◌, List, [], ◌∷◌, ◌++◌, length, Result, Ok, Err, if◌then◌else◌}
 use Rattle.std.specs.Str.{bytes_eq}
 use Rattle.value.specs.declared.refusal.Refusal.TheVariants as r
 use Rattle.row_ast.specs.Ast as ast
@@ -22,7 +22,7 @@ one_place offset (place ∷ other ∷ more) = Err (fault r.AmbiguousColumn offse
 
 -- a place in the text counts from 1
 abbrev pub place_within : ℕ → ℕ → ℕ → Result ℕ NameFault
-place_within offset count 0 = Err (fault r.InvalidColumnReference offset)
+place_within offset count zero = Err (fault r.InvalidColumnReference offset)
 place_within offset count (suc n) = if nat_lt n count then Ok n else Err (fault r.InvalidColumnReference offset)
 
 abbrev pub target_place : List BoundItem → ℕ → ast.SortTarget → Result ℕ NameFault

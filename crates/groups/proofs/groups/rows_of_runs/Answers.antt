@@ -1,6 +1,5 @@
 use Rattle.std.proofs.Common.{ap, map}
 use Rattle.std.proofs.lemmas.List.{take_rest}
-use Rattle.value.specs.Datum.{row_of}
 use Rattle.expr.specs.View.{aggregate_calls_of}
 use Rattle.stages.specs.Stages.{gives}
 use Rattle.stages.proofs.Going.{gives_some, stage_start, stage_next}

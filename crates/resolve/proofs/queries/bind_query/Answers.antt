@@ -30,5 +30,5 @@ returns-in-Err-bind_optional g c =
 pub returns : goal.returns
 returns g c =
     sym (query_is (map (λ e. entry_of e) c.args.entries.now) (query_of c.args.query.now) c.everywhere-reach.result c.everywhere-reach.ensures)
-    ∙ all_given (is_grouped (map (λ e. entry_of e) c.args.entries.now) (query_of c.args.query.now)) (query_of c.args.query.now).limit (bound_select (map (λ e. entry_of e) c.args.entries.now) c.everywhere-reach.result (query_of c.args.query.now).select) (bound_ons (map (λ e. entry_of e) c.args.entries.now) 0 [] (map (λ e. entry_of e) c.args.entries.now)) (bound_condition (map (λ e. entry_of e) c.args.entries.now) c.everywhere-reach.result (query_of c.args.query.now).filter) (bound_columns (map (λ e. entry_of e) c.args.entries.now) c.everywhere-reach.result [] (query_of c.args.query.now).group_by) (bound_condition (map (λ e. entry_of e) c.args.entries.now) c.everywhere-reach.result (query_of c.args.query.now).having) _ _ _ c.in_ok-items.ensures c.in_ok-ons.ensures c.in_ok-filter.ensures _ (rw c.as_slice.ensures at c.in-Ok.ensures) _ c.in-Ok-bind_optional.ensures
+    ∙ all_given (is_grouped (map (λ e. entry_of e) c.args.entries.now) (query_of c.args.query.now)) (query_of c.args.query.now).limit (bound_select (map (λ e. entry_of e) c.args.entries.now) c.everywhere-reach.result (query_of c.args.query.now).select) (bound_ons (map (λ e. entry_of e) c.args.entries.now) 0 [] (map (λ e. entry_of e) c.args.entries.now)) (bound_condition (map (λ e. entry_of e) c.args.entries.now) c.everywhere-reach.result (query_of c.args.query.now).filter) (bound_columns (map (λ e. entry_of e) c.args.entries.now) c.everywhere-reach.result [] (query_of c.args.query.now).group_by) (bound_condition (map (λ e. entry_of e) c.args.entries.now) c.everywhere-reach.result (query_of c.args.query.now).having) _ _ _ c.in_ok-items.ensures c.in_ok-ons.ensures c.in_ok-filter.ensures _ (rw c.as_slice.ensures at c.in-Ok.ensures) _ c.in-Ok-bind_optional.ensures _ c.is_grouped.ensures _ c.new.ensures
     ∙ ap (λ x. let r : Result spec.BoundQuery NameFault = Ok (bound_query_of x) in r) (sym c.in_ok-boxed.ensures)
