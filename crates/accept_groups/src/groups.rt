@@ -597,7 +597,7 @@ fn roles() -> &'static [Question] {
 }
 
 // Groups of combinations of several entries.
-static JOINED: [Question; 13] = [
+static JOINED: [Question; 15] = [
     (
         "names_of_regions",
         "alice",
@@ -680,6 +680,20 @@ static JOINED: [Question; 13] = [
         "boss",
         "SELECT r.name, max(d.id) FROM deal d JOIN region r ON d.region = r.id WHERE d.owner = 'bob' OR d.amount = 100 GROUP BY r.name HAVING count(*) > 1",
         "name,max\nnorth,3\n",
+        0,
+    ),
+    (
+        "nulls_of_several_combinations_are_one_group",
+        "boss",
+        "SELECT d.region, count(*) FROM deal d, region r GROUP BY d.region",
+        "region,count\n1,6\n2,6\n\\N,3\n",
+        0,
+    ),
+    (
+        "nulls_of_both_columns_are_one_group",
+        "alice",
+        "SELECT d.region, r.id, count(*), count(d.amount) FROM deal d, region r, region s WHERE d.id > 1 GROUP BY d.region, r.id",
+        "region,id,count,count\n2,1,3,3\n2,2,3,3\n2,\\N,3,3\n\\N,1,3,3\n\\N,2,3,3\n\\N,\\N,3,3\n",
         0,
     ),
     (

@@ -4,7 +4,7 @@ use fixture_stores::{Question, are_answered};
 use std::test::Fail;
 
 // ORDER BY headings and places; rows that are equal there follow by all columns, ascending.
-static KEYS: [Question; 25] = [
+static KEYS: [Question; 27] = [
     (
         "nulls_are_first_where_it_descends",
         "audit",
@@ -143,6 +143,20 @@ static KEYS: [Question; 25] = [
         "boss",
         "SELECT owner FROM deal ORDER BY owner DESC",
         "owner\nbob\nbob\nalice\nalice\nalice\n",
+        0,
+    ),
+    (
+        "two_equal_rows_are_kept",
+        "boss",
+        "SELECT amount FROM deal WHERE amount = 100 ORDER BY amount",
+        "amount\n100\n100\n",
+        0,
+    ),
+    (
+        "two_equal_rows_of_groups_are_kept",
+        "boss",
+        "SELECT count(*) FROM deal GROUP BY region HAVING count(*) = 2 ORDER BY 1 DESC",
+        "count\n2\n2\n",
         0,
     ),
     (
