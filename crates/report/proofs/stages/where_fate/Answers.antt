@@ -6,4 +6,4 @@ use Rattle.report.proofs.stages.where_fate.Goals as goal
 
 pub returns : goal.returns
 returns g c =
-    rw c.gives_if.ensures (gives_if_some (λ d. stands_for (world_of c.args.world.now).tables d.now) _ _ _ (rw (c.new-row.ensures, c.args.requires.fragile) at c.keeps.ensures))
+    rw c.gives_if.ensures (gives_if_some (λ d. stands_for (world_of c.args.world.now).tables d.now) _ _ _ (rw (c.new-row.ensures, c.requires.fragile) at c.keeps.ensures))
