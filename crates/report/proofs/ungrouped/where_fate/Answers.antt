@@ -2,7 +2,7 @@ use Rattle.std.proofs.Common.{map}
 use Rattle.stages.proofs.Going.{gives_if_some}
 use Rattle.operators.specs.View.{world_of}
 use Rattle.operators.specs.World.{stands_for}
-use Rattle.report.proofs.stages.where_fate.Goals as goal
+use Rattle.report.proofs.ungrouped.where_fate.Goals as goal
 
 pub returns : goal.returns
 returns g c =
