@@ -1,5 +1,5 @@
 -- One more member of a group, and one more aggregate.
-use Rattle.std.proofs.Common.{◌≡◌, ◌≢◌, ℕ, ◌+◌, ◌<◌, Bool, true, false, ◌+ℤ◌, List, [], ◌∷◌, length, drop, get_or, refl, sym, ap, ◌∙◌, arith, Option, Some, None, Ok}
+use Rattle.std.proofs.Common.{◌≡◌, ℕ, ◌+◌, ◌<◌, Bool, true, false, ◌+ℤ◌, List, length, drop, get_or, refl, sym, ap, ◌∙◌, arith, Option, Some, None}
 use Rattle.std.specs.List.{cons_option}
 use Rattle.std.specs.Cmp.{IsTotalOrder}
 use Rattle.std.proofs.lemmas.Cmp.{back_total}
@@ -8,14 +8,12 @@ use Rattle.bags.specs.Least.{lesser, least}
 use Rattle.bags.proofs.Least.{lesser_none, lesser_assoc}
 use Rattle.value.specs.Datum.{Datum, null, int, text, bool, Row, row_of}
 use Rattle.value.specs.Orders.{number}
-use Rattle.value.specs.Exact.{in_range}
-use Rattle.value.specs.declared.operators.Aggregate.TheVariants.{Sum}
 use Rattle.value.proofs.DatumOrder.{datum_cmp_total}
 use Rattle.expr.specs.declared.aggregates.AggregateCall.{AggregateCall}
 use Rattle.expr.specs.View.{aggregate_calls_of}
 use Rattle.stages.specs.Stages.{first_then}
 use Rattle.groups.specs.declared.members.Member.{Member}
-use Rattle.groups.specs.Aggregates.{argument_at, not_null, values_at, exact_sum, number_at, towards, aggregate_of, totals}
+use Rattle.groups.specs.Aggregates.{argument_at, not_null, values_at, exact_sum, towards, aggregate_of, totals}
 use Rattle.groups.specs.View.{arguments_of}
 use Rattle.groups.proofs.Walks.{next}
 
@@ -35,14 +33,6 @@ sum_one (bool b) ds = refl
 pub sum_next : {A : Type 0} (place : ℕ) (ms : List (Member A)) (i : ℕ) (m : Member A) → i < length ms → m ≡ get_or ms i m →
     exact_sum (values_at place (arguments_of (drop i ms))) ≡ number (argument_at (row_of m.arguments) place) +ℤ exact_sum (values_at place (arguments_of (drop (i + 1) ms)))
 sum_next place ms i m lt is = ap (λ l. exact_sum (values_at place (arguments_of l))) (next ms i m lt is) ∙ sum_one (argument_at (row_of m.arguments) place) _
-
-pub sum_of_some : (offset : ℕ) (ds : List Datum) → length ds ≢ 0 → aggregate_of Sum offset ds ≡ number_at offset (in_range (exact_sum ds))
-sum_of_some offset [] some = absurd (some refl)
-sum_of_some offset (d ∷ ds) some = refl
-
-pub sum_of_none : (offset : ℕ) (ds : List Datum) → length ds ≡ 0 → aggregate_of Sum offset ds ≡ Ok null
-sum_of_none offset [] none = refl
-sum_of_none offset (d ∷ ds) none = absurd (omega (arith, none))
 
 -- ---- counts
 

@@ -48,7 +48,7 @@ or_null (Some d) = d
 abbrev pub descending_cmp : Datum → Datum → Ordering
 descending_cmp a b = datum_cmp b a
 
--- whichever of the two orders is asked for
+-- descending or ascending
 abbrev pub towards : Bool → Datum → Datum → Ordering
 towards false = datum_cmp
 towards true = descending_cmp

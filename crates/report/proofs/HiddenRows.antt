@@ -13,7 +13,7 @@ use Rattle.stages.specs.Stages.{fault_cmp, fault_in, given_in, gives, gives_if, 
 use Rattle.scope.specs.BoundQuery.{BoundQuery}
 use Rattle.resolve.specs.Conjuncts.{conjuncts, fragile, fragile_conjuncts, movable_conjuncts}
 use Rattle.operators.specs.Combinations.{Combination, combinations, joined_cells, all_hold, passing}
-use Rattle.report.specs.Answer.{keeps, where_fate, where_stage, items_fate, arguments_fate, sums_stage, having_stage, group_items_stage, rows_of, in_order, rows_of_kept, answer, answer_over}
+use Rattle.report.specs.Answer.{keeps, where_fate, where_stage, items_fate, arguments_fate, rows_of_members, rows_of, in_order, rows_of_kept, answer, answer_over}
 use Rattle.report.specs.Restricted.{named_columns, SeesSame}
 use Rattle.report.proofs.NamedColumns.{agree_items, agree_conjuncts, agree_some, same_all_hold, same_keeps, same_values, same_member}
 use Rattle.report.proofs.Restricting.{each_row, each_table, map-map, combinations_of_each, to_named, named_kept}
@@ -85,7 +85,7 @@ module _ (role : Name) (q : BoundQuery) (g : Combination → Combination) (h : (
   arguments_stay c = ap gives (same_member (joined_cells (g c)) (joined_cells c) role q (h c))
 
   rows_stay : (grouped : Bool) (cs : List Combination) → rows_of role q grouped (map g cs) ≡ rows_of role q grouped cs
-  rows_stay true cs = ap (λ fates. stage fates >>= sums_stage role q >>= having_stage role q >>= group_items_stage role q) (same_of_each (arguments_fate role q) g arguments_stay cs)
+  rows_stay true cs = ap (λ fates. stage fates >>= rows_of_members role q) (same_of_each (arguments_fate role q) g arguments_stay cs)
   rows_stay false cs = ap stage (same_of_each (items_fate role q) g items_stay cs)
 
   kept_stay : (cs : List Combination) → rows_of_kept role q (map g cs) ≡ rows_of_kept role q cs

@@ -113,11 +113,14 @@ module _ (one other : Cells) where
     in_arguments (bound.Literal d) h = h
     in_arguments bound.CurrentUser h = h
     in_arguments (bound.Negate offset e) h = in_arguments e h
-    in_arguments (bound.Arithmetic op offset e f) h = in_two e f h
-    in_arguments (bound.Comparison op offset e f) h = in_two e f h
+    in_arguments (bound.Arithmetic op offset e f) h =
+        agree_both (aggregates e) (aggregates f) (in_arguments e (agree_left one other (columns e) (columns f) h)) (in_arguments f (agree_right one other (columns e) (columns f) h))
+    in_arguments (bound.Comparison op offset e f) h =
+        agree_both (aggregates e) (aggregates f) (in_arguments e (agree_left one other (columns e) (columns f) h)) (in_arguments f (agree_right one other (columns e) (columns f) h))
     in_arguments (bound.Between negated offset e low high) h =
+        let r = agree_right one other (columns e) (columns low ++ columns high) h in
         agree_both (aggregates e) (aggregates low ++ aggregates high) (in_arguments e (agree_left one other (columns e) (columns low ++ columns high) h))
-        (in_two low high (agree_right one other (columns e) (columns low ++ columns high) h))
+        (agree_both (aggregates low) (aggregates high) (in_arguments low (agree_left one other (columns low) (columns high) r)) (in_arguments high (agree_right one other (columns low) (columns high) r)))
     in_arguments (bound.In negated offset values e) h = in_arguments e h
     in_arguments (bound.IsNull negated offset e) h = in_arguments e h
     in_arguments (bound.Not offset e) h = in_arguments e h
@@ -129,10 +132,6 @@ module _ (one other : Cells) where
         (in_otherwise o (agree_right one other (arms_columns as_) (otherwise_columns o) h))
     in_arguments (bound.CountStar offset) h = h
     in_arguments (bound.Call f offset e) h = subst (λ ids. AgreeOn ids one other) (sym (append-nil (columns e))) h
-
-    in_two : (e f : BoundExpr) → AgreeOn (columns e ++ columns f) one other → AgreeOn (flat_map call_columns (aggregates e ++ aggregates f)) one other
-    in_two e f h =
-        agree_both (aggregates e) (aggregates f) (in_arguments e (agree_left one other (columns e) (columns f) h)) (in_arguments f (agree_right one other (columns e) (columns f) h))
 
     in_members : (es : BoundExprs) → AgreeOn (all_columns es) one other → AgreeOn (flat_map call_columns (all_aggregates es)) one other
     in_members bound.no_expr h = h

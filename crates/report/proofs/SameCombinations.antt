@@ -11,7 +11,7 @@ use Rattle.groups.specs.Members.{Member}
 use Rattle.groups.proofs.SameGroups.{same_group_rows}
 use Rattle.scope.specs.BoundQuery.{BoundQuery}
 use Rattle.operators.specs.Combinations.{Combination, combinations}
-use Rattle.report.specs.Answer.{query_aggregates, where_fate, where_stage, items_fate, items_stage, arguments_fate, arguments_stage, sums_stage, having_stage, group_items_stage, rows_of, in_order, rows_of_kept, answer}
+use Rattle.report.specs.Answer.{query_aggregates, where_fate, where_stage, items_fate, items_stage, arguments_fate, arguments_stage, sums_stage, rows_of_group_rows, rows_of_members, rows_of_groups, rows_of, in_order, rows_of_kept, answer}
 use Rattle.report.proofs.OutputOrder.{same_ordered}
 use Rattle.report.proofs.Restricting.{each_table}
 
@@ -22,13 +22,16 @@ module _ (role : Name) (q : BoundQuery) where
   same_sums : (xs ys : List Member) → SameSums xs ys → sums_stage role q xs ≡ sums_stage role q ys
   same_sums xs ys same = same_group_rows q.group_by (query_aggregates q) xs ys same
 
-  same_members : (xs ys : List Combination) → SameSums xs ys → (arguments_stage role q xs >>= sums_stage role q) ≡ (arguments_stage role q ys >>= sums_stage role q)
-  same_members xs ys same =
-      alike_next (λ r. r >>= sums_stage role q) same_sums (arguments_stage role q xs) (arguments_stage role q ys)
+  same_members : (xs ys : List Member) → SameSums xs ys → rows_of_members role q xs ≡ rows_of_members role q ys
+  same_members xs ys same = ap (λ r. r >>= rows_of_group_rows role q) (same_sums xs ys same)
+
+  same_groups : (xs ys : List Combination) → SameSums xs ys → rows_of_groups role q xs ≡ rows_of_groups role q ys
+  same_groups xs ys same =
+      alike_next (λ r. r >>= rows_of_members role q) same_members (arguments_stage role q xs) (arguments_stage role q ys)
       (alike_stage (map (arguments_fate role q) xs) (map (arguments_fate role q) ys) (SameSums-map xs ys same (arguments_fate role q)))
 
   same_rows : (grouped : Bool) (xs ys : List Combination) → SameSums xs ys → (rows_of role q grouped xs >>= in_order role q) ≡ (rows_of role q grouped ys >>= in_order role q)
-  same_rows true xs ys same = ap (λ r. r >>= having_stage role q >>= group_items_stage role q >>= in_order role q) (same_members xs ys same)
+  same_rows true xs ys same = ap (λ r. r >>= in_order role q) (same_groups xs ys same)
   same_rows false xs ys same =
       alike_next (λ r. r >>= in_order role q) same_in_order (items_stage role q xs) (items_stage role q ys)
       (alike_stage (map (items_fate role q) xs) (map (items_fate role q) ys) (SameSums-map xs ys same (items_fate role q)))

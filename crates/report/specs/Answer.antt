@@ -95,8 +95,14 @@ module _ (role : Name) (q : BoundQuery) where
 
   -- ---- the answer
 
+  abbrev pub rows_of_group_rows : List GroupRow → Result (List Row) Fault
+  rows_of_group_rows groups = having_stage groups >>= group_items_stage
+
+  abbrev pub rows_of_members : List Member → Result (List Row) Fault
+  rows_of_members members = sums_stage members >>= rows_of_group_rows
+
   abbrev pub rows_of_groups : List Combination → Result (List Row) Fault
-  rows_of_groups these = arguments_stage these >>= sums_stage >>= having_stage >>= group_items_stage
+  rows_of_groups these = arguments_stage these >>= rows_of_members
 
   -- of groups, or of each combination by itself
   abbrev pub rows_of : Bool → List Combination → Result (List Row) Fault

@@ -11,7 +11,7 @@ ghost use Rattle.report.specs.Answer.{answer, answer_over};
 
 use crate::grouped::rows_of_groups;
 use crate::ordering::ordered;
-use crate::stages::{items_stage, where_stage};
+use crate::ungrouped::{items_stage, where_stage};
 use combo::Combo;
 use memory::{Failure, Heap};
 use operators::{World, run_nested};
@@ -45,11 +45,7 @@ fn rows_of_kept<A: Heap>(
         (spec.rows_of_kept world.now.role.now (world_of world.now).query (map (λ c. stands_for (world_of world.now).tables c.now) combos.now)) }
 {
     match rows_of(alloc, world, combos) {
-        Ok(rows) => Ok(ordered(
-            world.query.order_by.as_slice(),
-            world.query.limit,
-            rows,
-        )),
+        Ok(rows) => Ok(ordered(world.query.order_by.as_slice(), world.query.limit, rows)),
         Err(failure) => Err(failure),
     }
 }

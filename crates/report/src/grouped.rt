@@ -193,7 +193,36 @@ fn group_items_stage<A: Heap>(
     stage.end()
 }
 
-// The rows of the groups of the combinations, or the least fault of the first stage that has one.
+// The items of the groups that HAVING keeps, or the least fault of the first stage that has one.
+fn rows_of_group_rows<A: Heap>(
+    alloc: A,
+    world: &World<'_, A>,
+    calls: &[AggregateCall<'_, A>],
+    groups: &[GroupRow<A>],
+) -> Result<Items<Items<Value<A>, A>, A>, Failure<Fault>>
+    requires calls { aggregate_calls_of calls.now ≡ spec.query_aggregates (world_of world.now).query }
+    ensures { Gives (λ rows. map (λ r. row_of r) rows) result (spec.rows_of_group_rows world.now.role.now (world_of world.now).query (map (λ g. group_row_of g) groups.now)) }
+{
+    let having = having_conditions(alloc, world.query)?;
+    let kept = having_stage(alloc, world, calls, having.as_slice(), groups)?;
+    group_items_stage(alloc, world, calls, kept.as_slice())
+}
+
+// The rows of the groups of members, or the least fault of the first stage that has one.
+fn rows_of_members<A: Heap>(
+    alloc: A,
+    world: &World<'_, A>,
+    calls: &[AggregateCall<'_, A>],
+    members: Items<Member<A>, A>,
+) -> Result<Items<Items<Value<A>, A>, A>, Failure<Fault>>
+    requires calls { aggregate_calls_of calls.now ≡ spec.query_aggregates (world_of world.now).query }
+    ensures { Gives (λ rows. map (λ r. row_of r) rows) result (spec.rows_of_members world.now.role.now (world_of world.now).query (map (λ m. member_of m) members)) }
+{
+    let groups = group_rows(alloc, world.query.group_by.as_slice(), calls, members)?;
+    rows_of_group_rows(alloc, world, calls, groups.as_slice())
+}
+
+// The rows of the groups of combinations, or the least fault of the first stage that has one.
 pub(crate) fn rows_of_groups<A: Heap>(
     alloc: A,
     world: &World<'_, A>,
@@ -203,10 +232,6 @@ pub(crate) fn rows_of_groups<A: Heap>(
         (spec.rows_of_groups world.now.role.now (world_of world.now).query (map (λ c. stands_for (world_of world.now).tables c.now) combos.now)) }
 {
     let calls = query_aggregates(alloc, world.query)?;
-    let having = having_conditions(alloc, world.query)?;
-    let calls = calls.as_slice();
-    let members = arguments_stage(alloc, world, calls, combos)?;
-    let groups = group_rows(alloc, world.query.group_by.as_slice(), calls, members)?;
-    let kept = having_stage(alloc, world, calls, having.as_slice(), groups.as_slice())?;
-    group_items_stage(alloc, world, calls, kept.as_slice())
+    let members = arguments_stage(alloc, world, calls.as_slice(), combos)?;
+    rows_of_members(alloc, world, calls.as_slice(), members)
 }

@@ -7,8 +7,8 @@ mod laws;
 mod ordering;
 mod outcomes;
 mod reply;
-mod stages;
 mod status;
+mod ungrouped;
 mod writing;
 
 pub use finishing::{answer_over, finish};

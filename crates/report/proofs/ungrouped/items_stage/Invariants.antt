@@ -4,7 +4,7 @@ use Rattle.operators.specs.World.{stands_for}
 use Rattle.stages.proofs.Going.{going_on}
 use Rattle.operators.specs.View.{world_of}
 use Rattle.report.specs.Answer.{items_fate, items_stage}
-use Rattle.report.proofs.stages.items_stage.Given as goal
+use Rattle.report.proofs.ungrouped.items_stage.Given as goal
 
 abbrev pub invariant-loop-combination : goal.invariant-loop-combination
 invariant-loop-combination g l =

@@ -3,7 +3,7 @@ use Rattle.operators.specs.World.{stands_for}
 use Rattle.stages.proofs.Going.{going_on}
 use Rattle.operators.specs.View.{world_of}
 use Rattle.report.specs.Answer.{where_fate, where_stage}
-use Rattle.report.proofs.stages.where_stage.Given as goal
+use Rattle.report.proofs.ungrouped.where_stage.Given as goal
 
 abbrev pub invariant-loop-combination : goal.invariant-loop-combination
 invariant-loop-combination g l =

@@ -5,7 +5,7 @@ use Rattle.stages.proofs.Going.{stage_start, stage_next}
 use Rattle.operators.specs.View.{world_of}
 use Rattle.report.specs.Answer.{items_fate}
 use Rattle.report.proofs.Steps.{next}
-use Rattle.report.proofs.stages.items_stage.Goals as goal
+use Rattle.report.proofs.ungrouped.items_stage.Goals as goal
 
 pub loop-combination-init : goal.loop-combination-init
 loop-combination-init g c = stage_start (λ r. row_of r) c.new-stage.result (map (items_fate c.args.world.now.role.now (world_of c.args.world.now).query) (map (λ d. stands_for (world_of c.args.world.now).tables d.now) c.args.combos.now)) c.new-stage.ensures.given c.new-stage.ensures.least
