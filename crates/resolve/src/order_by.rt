@@ -67,10 +67,7 @@ fn target_place<A: Heap>(
     }
 }
 
-fn output_key<A: Heap>(
-    items: &[BoundItem<A>],
-    key: &SortKey<A>,
-) -> Result<OutputKey, NameFault>
+fn output_key<A: Heap>(items: &[BoundItem<A>], key: &SortKey<A>) -> Result<OutputKey, NameFault>
     ensures { result ≡ spec.output_key (map (λ i. bound_item_of i) items.now) (sort_key_of key.now) }
 {
     let place = target_place(items, &key.target, key.offset)?;
