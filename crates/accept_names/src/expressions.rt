@@ -3,6 +3,7 @@
 
 ghost use Rattle.std.specs.Prelude.{nat_eq, pos, if◌then◌else◌};
 ghost use Rattle.value.specs.Datum.{int, null};
+ghost use Rattle.eval.specs.Meaning.{no_aggregate};
 
 use crate::names::{catalog, fault_as, query};
 use catalog::Catalog;
