@@ -7,7 +7,9 @@ mod aggregates;
 #[cfg(test)]
 mod elsewhere;
 #[cfg(test)]
-mod groups;
+mod fault_stages;
+#[cfg(test)]
+mod grouping;
 #[cfg(test)]
 mod order;
 #[cfg(test)]
@@ -16,5 +18,3 @@ mod refusals;
 mod sales_cases;
 #[cfg(test)]
 mod sales_refusals;
-#[cfg(test)]
-mod stages;
