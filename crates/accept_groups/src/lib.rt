@@ -18,3 +18,5 @@ mod refusals;
 mod sales_cases;
 #[cfg(test)]
 mod sales_refusals;
+#[cfg(test)]
+mod sales_rows;
