@@ -10,13 +10,14 @@ use Rattle.expr.specs.Movable.{movable}
 use Rattle.eval.specs.Laws.{AgreeOn}
 use Rattle.eval.specs.Meaning.{◌>>=◌}
 use Rattle.stages.specs.Stages.{fault_cmp, fault_in, given_in, gives, gives_if, stage, unless_fault}
+use Rattle.groups.proofs.SameGroups.{map-map}
 use Rattle.scope.specs.BoundQuery.{BoundQuery}
 use Rattle.resolve.specs.Conjuncts.{conjuncts, fragile, fragile_conjuncts, movable_conjuncts}
 use Rattle.operators.specs.Combinations.{Combination, combinations, joined_cells, all_hold, passing}
 use Rattle.report.specs.Answer.{keeps, where_fate, where_stage, items_fate, arguments_fate, rows_of_members, rows_of, in_order, rows_of_kept, answer, answer_over}
 use Rattle.report.specs.Restricted.{named_columns, SeesSame}
 use Rattle.report.proofs.NamedColumns.{agree_items, agree_conjuncts, agree_some, same_all_hold, same_keeps, same_values, same_member}
-use Rattle.report.proofs.Restricting.{each_row, each_table, map-map, combinations_of_each, to_named, named_kept}
+use Rattle.report.proofs.Restricting.{each_row, each_table, combinations_of_each, to_named, named_kept}
 use Rattle.report.proofs.SameCombinations.{same_bag_answer, same_combinations}
 
 -- ---- a stage that keeps some of what a function changes

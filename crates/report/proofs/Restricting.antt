@@ -6,6 +6,7 @@ use Rattle.std.proofs.lemmas.List.{map-append}
 use Rattle.value.specs.Datum.{Row}
 use Rattle.expr.specs.declared.bound.ColumnId.{ColumnId}
 use Rattle.eval.specs.Laws.{AgreeOn}
+use Rattle.groups.proofs.SameGroups.{map-map}
 use Rattle.scope.specs.BoundQuery.{BoundQuery}
 use Rattle.access.specs.Access.{cell}
 use Rattle.operators.specs.Combinations.{Combination, combinations, joined_cells}
@@ -58,10 +59,6 @@ cell_of_each : (f : ℕ → Row → Row) (these : Combination) (i k : ℕ) → (
 cell_of_each f [] i k h = refl
 cell_of_each f (row ∷ rows) zero k h = h row
 cell_of_each f (row ∷ rows) (suc i) k h = cell_of_each (λ j. f (suc j)) rows i k h
-
-pub map-map : {A B C : Type 0} (g : B → C) (f : A → B) (xs : List A) → map g (map f xs) ≡ map (λ x. g (f x)) xs
-map-map g f [] = refl
-map-map g f (x ∷ xs) = ap (λ l. g (f x) ∷ l) (map-map g f xs)
 
 map-flat_map : {A B C : Type 0} (g : B → C) (f : A → List B) (xs : List A) → map g (flat_map f xs) ≡ flat_map (λ x. map g (f x)) xs
 map-flat_map g f [] = refl
