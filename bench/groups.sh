@@ -6,12 +6,8 @@
 set -eu
 rows=${1:-1000000}
 runs=${2:-3}
-top=$(cd "$(dirname "$0")/.." && pwd)
-work=$(mktemp -d)
-trap 'rm -rf "$work"' EXIT
+. "$(dirname "$0")/measure.sh"
 chmod 755 "$work"
-. "$top/bench/measure.sh"
-
 # A number, one of 50 regions, and an amount.
 make_rows() {
     awk -v n="$1" 'BEGIN {
@@ -28,9 +24,7 @@ ALTER TABLE deal ENABLE ROW LEVEL SECURITY;
 CREATE POLICY known ON deal USING (region >= 0);
 GRANT SELECT ON deal TO reader;
 SQL
-rowplan=$top/crates/rowplan/out/rowplan
-(cd "$top/crates/rowplan" && rt run -- query --schema "$top/examples/deals/schema.sql" \
-    --dir "$top/examples/deals" --role alice 'SELECT id FROM deal') > "$work/built"
+build
 make_rows "$rows" > "$work/deal.csv"
 groups='SELECT region, count(*), sum(amount) FROM deal GROUP BY region ORDER BY region'
 first='SELECT id, amount FROM deal ORDER BY amount DESC, id LIMIT 10'

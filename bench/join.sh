@@ -5,11 +5,7 @@
 set -eu
 rows=${1:-1000}
 runs=${2:-3}
-top=$(cd "$(dirname "$0")/.." && pwd)
-work=$(mktemp -d)
-trap 'rm -rf "$work"' EXIT
-. "$top/bench/measure.sh"
-
+. "$(dirname "$0")/measure.sh"
 # The keys 1 to n, each once, in another order in each table: multiples of a number that has no divisor in common with n.
 make_table() {
     awk -v n="$1" -v step="$2" -v name="$3" 'BEGIN {
@@ -28,9 +24,7 @@ CREATE POLICY named ON a USING (owner <> CURRENT_USER);
 GRANT SELECT ON a TO reader;
 GRANT SELECT ON b TO reader;
 SQL
-rowplan=$top/crates/rowplan/out/rowplan
-(cd "$top/crates/rowplan" && rt run -- query --schema "$top/examples/deals/schema.sql" \
-    --dir "$top/examples/deals" --role alice 'SELECT id FROM deal') > "$work/built"
+build
 make_table "$rows" 7919 owner > "$work/a.csv"
 make_table "$rows" 104729 name > "$work/b.csv"
 if command -v sqlite3 > /dev/null; then

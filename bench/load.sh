@@ -5,9 +5,7 @@
 set -eu
 rows=${1:-1000000}
 runs=${2:-3}
-top=$(cd "$(dirname "$0")/.." && pwd)
-work=$(mktemp -d)
-trap 'rm -rf "$work"' EXIT
+. "$(dirname "$0")/measure.sh"
 
 # Five columns: a number, a text of 5 to 20 bytes, and three numbers, of which the middle one is null in one row of eight.
 make_rows() {
@@ -31,11 +29,7 @@ CREATE POLICY own ON deal USING (owner = CURRENT_USER);
 GRANT SELECT ON deal TO nobody;
 SQL
 
-. "$top/bench/measure.sh"
-
-rowplan=$top/crates/rowplan/out/rowplan
-(cd "$top/crates/rowplan" && rt run -- query --schema "$top/examples/deals/schema.sql" \
-    --dir "$top/examples/deals" --role alice 'SELECT id FROM deal') > "$work/built"
+build
 mkdir "$work/none" "$work/all"
 make_rows 0 > "$work/none/deal.csv"
 make_rows "$rows" > "$work/all/deal.csv"

@@ -1,4 +1,15 @@
-# Sourced by the other scripts, which set `work` to a folder of their own.
+# Sourced by the other scripts: the top of the repository, a folder to work in, the program, and how a command is measured.
+top=$(cd "$(dirname "$0")/.." && pwd)
+work=$(mktemp -d)
+trap 'rm -rf "$work"' EXIT
+rowplan=$top/crates/rowplan/out/rowplan
+
+# Proves and builds the program, if it is not yet.
+build() {
+    (cd "$top/crates/rowplan" && rt run -- query --schema "$top/examples/deals/schema.sql" \
+        --dir "$top/examples/deals" --role alice 'SELECT id FROM deal') > "$work/built"
+}
+
 # Runs a command, and reports its wall time, processor time and greatest memory. Status 4 is a denial.
 measure() {
     label=$1
