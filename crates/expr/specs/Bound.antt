@@ -1,11 +1,14 @@
 -- Expressions whose columns are found, without their place in memory: those of the text in all else.
-use Rattle.std.specs.Prelude.{ℕ, Bool, List, [], ◌∷◌}
+use Rattle.std.specs.Prelude.{ℕ, nat_eq, Bool, ◌&&◌, List, [], ◌∷◌}
 use Rattle.value.specs.Datum.{Datum}
 use Rattle.value.specs.declared.types.ColType.{ColType}
 use Rattle.value.specs.declared.operators.Arithmetic as value
 use Rattle.value.specs.declared.operators.Comparison as value'
 use Rattle.value.specs.declared.operators.Aggregate.{Aggregate}
 use Rattle.expr.specs.declared.bound.ColumnId.{ColumnId}
+
+abbrev pub is_column : ColumnId → ColumnId → Bool
+is_column id other = nat_eq id.entry other.entry && nat_eq id.column other.column
 
 mutual
   pub data BoundExpr : Type 0 where

@@ -1,5 +1,8 @@
 //! Expressions whose columns are numbers.
 
+ghost use Rattle.std.specs.Prelude.{◌≡◌};
+ghost use Rattle.expr.specs.Bound as spec;
+
 use memory::Heap;
 use text::Items;
 use value::{Aggregate, Arithmetic, ColType, Comparison, Value};
@@ -11,6 +14,13 @@ pub struct ColumnId {
     pub entry: usize,
     /// Its place in the entry's table.
     pub column: usize,
+}
+
+/// Whether two are the same column.
+pub fn is_column(id: ColumnId, other: ColumnId) -> bool
+    ensures { result ≡ spec.is_column id other }
+{
+    id.entry == other.entry && id.column == other.column
 }
 
 /// An expression whose columns are found: that of the text in all else.

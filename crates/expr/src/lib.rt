@@ -9,7 +9,7 @@ mod movable;
 mod movable_expr;
 
 pub use aggregates::{AggregateCall, push_aggregates};
-pub use bound::{BoundArm, BoundExpr, ColumnId};
+pub use bound::{BoundArm, BoundExpr, ColumnId, is_column};
 pub use columns::push_columns;
 pub use copies::copy_expr;
 pub use movable::is_movable;

@@ -1,4 +1,3 @@
-mod Walks
 mod Totals
 pub mod SameGroups
 mod RunLaws

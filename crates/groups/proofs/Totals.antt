@@ -15,7 +15,7 @@ use Rattle.stages.specs.Stages.{first_then}
 use Rattle.groups.specs.declared.members.Member.{Member}
 use Rattle.groups.specs.Aggregates.{argument_at, not_null, values_at, exact_sum, towards, aggregate_of, totals}
 use Rattle.groups.specs.View.{arguments_of}
-use Rattle.groups.proofs.Walks.{next}
+use Rattle.stages.proofs.Walks.{next}
 
 pub totals_next : {A : Type 0} (calls : List (AggregateCall A)) (i : ℕ) (c : AggregateCall A) (members : List Row) → i < length calls → c ≡ get_or calls i c →
     totals (aggregate_calls_of (drop i calls)) i members ≡ first_then (aggregate_of c.aggregate c.offset (values_at i members)) (totals (aggregate_calls_of (drop (i + 1) calls)) (i + 1) members)

@@ -1,8 +1,9 @@
 -- The row that HAVING and the items of a grouped query are evaluated on.
-use Rattle.std.specs.Prelude.{ℕ, nat_eq, Bool, ◌&&◌, List, [], ◌∷◌, map, Result, Ok, Err, if◌then◌else◌}
+use Rattle.std.specs.Prelude.{ℕ, nat_eq, List, [], ◌∷◌, map, Result, Ok, Err, if◌then◌else◌}
 use Rattle.value.specs.Datum.{Datum, null, Row}
 use Rattle.value.specs.declared.faults.Fault.{Fault}
 use Rattle.expr.specs.declared.bound.ColumnId.{ColumnId}
+use Rattle.expr.specs.Bound.{is_column}
 use Rattle.expr.specs.Aggregates.{AggregateCall}
 use Rattle.eval.specs.Meaning.{Cells}
 use Rattle.stages.specs.Stages.{gives, stage}
@@ -27,9 +28,6 @@ abbrev pub group_rows : List ColumnId → List AggregateCall → List Member →
 group_rows columns calls members = stage (map (λ g. gives (group_row calls g)) (groups_of columns members))
 
 -- ---- what is read of it
-
-abbrev pub is_column : ColumnId → ColumnId → Bool
-is_column id other = nat_eq id.entry other.entry && nat_eq id.column other.column
 
 -- the value of a GROUP BY column; outside aggregates no other is named, so that null is never in place of one
 abbrev pub key_cell : List ColumnId → Row → ColumnId → Datum

@@ -176,7 +176,7 @@ fn aggregate_of<A: Heap>(
 }
 
 /// The values of all aggregates of the members of a group, or the first fault.
-#[tactic(auto, using(crate::proofs::Walks::walks))]
+#[tactic(auto, using(stages::proofs::Walks::walks))]
 pub fn totals_of<A: Heap>(
     alloc: A,
     calls: &[AggregateCall<'_, A>],

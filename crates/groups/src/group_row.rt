@@ -11,7 +11,7 @@ ghost use Rattle.groups.specs.View.{arguments_of, group_row_of};
 use crate::aggregates::totals_of;
 use crate::members::Member;
 use eval::Row;
-use expr::{AggregateCall, ColumnId};
+use expr::{AggregateCall, ColumnId, is_column};
 use memory::{Failure, Heap};
 use std::alloc::AllocError;
 use text::Items;
@@ -35,12 +35,6 @@ pub struct GroupCells<'g, A: Heap> {
     pub calls: &'g [AggregateCall<'g, A>],
     /// The row of the group.
     pub row: &'g GroupRow<A>,
-}
-
-fn is_column(id: ColumnId, other: ColumnId) -> bool
-    ensures { result ≡ spec.is_column id other }
-{
-    id.entry == other.entry && id.column == other.column
 }
 
 // The value of a GROUP BY column.

@@ -4,4 +4,3 @@ pub mod Restricting
 pub mod SameCombinations
 pub mod NamedColumns
 pub mod HiddenRows
-pub mod Steps

@@ -63,6 +63,7 @@ fn item_on<A: Heap, R: Row<A>>(
 }
 
 // The values of items on the row, or the first fault from left to right.
+#[tactic(auto, using(stages::proofs::Walks::walks))]
 pub(crate) fn values<A: Heap, R: Row<A>>(
     alloc: A,
     items: &[BoundItem<A>],
@@ -73,10 +74,7 @@ pub(crate) fn values<A: Heap, R: Row<A>>(
 {
     let mut values = Items::new(alloc);
     for item in items {
-        match item_on(alloc, item, row, role) {
-            Ok(value) => values.push(value)?,
-            Err(failure) => return Err(failure),
-        }
+        values.push(item_on(alloc, item, row, role)?)?;
     }
     Ok(values)
 }

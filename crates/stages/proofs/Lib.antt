@@ -1,3 +1,4 @@
 pub mod FaultOrder
 pub mod Going
 pub mod SameStage
+pub mod Walks

@@ -12,7 +12,8 @@ use Rattle.scope.specs.Entry.{Entry, fault}
 use Rattle.scope.specs.Lookup.{everywhere, on_reach}
 use Rattle.typing.specs.Offsets.{least_of}
 use Rattle.typing.specs.Typing.{Typed, typed, typed_condition}
-use Rattle.typing.specs.Grouping.{is_column, misplaced}
+use Rattle.expr.specs.Bound.{is_column}
+use Rattle.typing.specs.Grouping.{misplaced}
 
 -- ---- aggregates
 

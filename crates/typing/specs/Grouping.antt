@@ -1,16 +1,14 @@
 -- Aggregates, and columns beside them, where they may not be.
-use Rattle.std.specs.Prelude.{ℕ, nat_eq, Bool, true, false, ◌&&◌, List, Option, Some, None, Result, Ok, Err, if◌then◌else◌}
+use Rattle.std.specs.Prelude.{ℕ, Bool, true, false, List, Option, Some, None, Result, Ok, Err, if◌then◌else◌}
 use Rattle.std.specs.List.{list_any}
 use Rattle.row_ast.specs.Ast as ast
 use Rattle.expr.specs.declared.bound.ColumnId.{ColumnId}
+use Rattle.expr.specs.Bound.{is_column}
 use Rattle.scope.specs.declared.fault.NameFault.{NameFault}
 use Rattle.scope.specs.declared.lookup.Reach.{Reach}
 use Rattle.scope.specs.Entry.{Entry}
 use Rattle.scope.specs.Lookup.{find_column}
 use Rattle.typing.specs.Offsets.{least_of}
-
-abbrev pub is_column : ColumnId → ColumnId → Bool
-is_column id other = nat_eq id.entry other.entry && nat_eq id.column other.column
 
 -- in an item or HAVING of a grouped query, outside aggregates, a column has to be one of GROUP BY
 abbrev pub misplaced_column : List ColumnId → Bool → ℕ → Result ColumnId NameFault → Option ℕ

@@ -4,24 +4,19 @@ ghost use Rattle.std.specs.Prelude.{◌≡◌, None, map};
 ghost use Rattle.std.specs.List.{list_any};
 ghost use Rattle.row_ast.specs.View.{expr_of, exprs};
 ghost use Rattle.row_ast.specs.View.{arms as arms_of};
+ghost use Rattle.expr.specs.Bound.{is_column};
 ghost use Rattle.scope.specs.View.{entry_of};
 ghost use Rattle.typing.specs.Grouping as spec;
 
 use crate::offsets::least_of;
-use expr::ColumnId;
+use expr::{ColumnId, is_column};
 use memory::Heap;
 use row_ast::{Arm, Expr};
 use scope::{Entry, NameFault, Reach, find_column};
 
-fn is_column(id: ColumnId, other: ColumnId) -> bool
-    ensures { result ≡ spec.is_column id other }
-{
-    id.entry == other.entry && id.column == other.column
-}
-
 /// Whether a column is one of several.
 pub fn is_among(id: ColumnId, group_by: &[ColumnId]) -> bool
-    ensures { result ≡ list_any (spec.is_column id) group_by.now }
+    ensures { result ≡ list_any (is_column id) group_by.now }
 {
     for other in group_by {
         if is_column(id, *other) {

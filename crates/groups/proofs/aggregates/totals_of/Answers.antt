@@ -1,7 +1,7 @@
 use Rattle.std.proofs.Common.{◌∙◌}
 use Rattle.std.proofs.lemmas.Result.{err_from_is_err_and}
 use Rattle.groups.specs.View.{arguments_of}
-use Rattle.groups.proofs.Walks.{put_next, fails_here}
+use Rattle.stages.proofs.Walks.{put_next, fails_here}
 use Rattle.groups.proofs.Totals.{totals_next}
 use Rattle.groups.proofs.aggregates.totals_of.Goals as goal
 

@@ -3,7 +3,7 @@ use Rattle.value.specs.Datum.{row_of}
 use Rattle.expr.specs.View.{aggregate_calls_of}
 use Rattle.groups.specs.Aggregates.{totals}
 use Rattle.groups.specs.View.{arguments_of}
-use Rattle.groups.proofs.Walks.{done_then}
+use Rattle.stages.proofs.Walks.{done_then}
 use Rattle.groups.proofs.aggregates.totals_of.Given as goal
 
 abbrev pub invariant-loop-place : goal.invariant-loop-place

@@ -2,7 +2,7 @@ use Rattle.std.proofs.Common.{◌≡◌, drop}
 use Rattle.value.specs.Datum.{row_of}
 use Rattle.expr.specs.View.{aggregate_calls_of}
 use Rattle.groups.specs.Members.{arguments}
-use Rattle.groups.proofs.Walks.{done_then}
+use Rattle.stages.proofs.Walks.{done_then}
 use Rattle.groups.proofs.members.arguments_on.Given as goal
 
 abbrev pub invariant-loop-call : goal.invariant-loop-call

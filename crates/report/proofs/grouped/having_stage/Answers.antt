@@ -3,7 +3,7 @@ use Rattle.groups.specs.View.{group_row_of}
 use Rattle.stages.proofs.Going.{stage_start, stage_next}
 use Rattle.operators.specs.View.{world_of}
 use Rattle.report.specs.Answer.{having_fate}
-use Rattle.report.proofs.Steps.{next}
+use Rattle.stages.proofs.Walks.{next}
 use Rattle.report.proofs.grouped.having_stage.Goals as goal
 
 pub loop-group-init : goal.loop-group-init

@@ -3,7 +3,7 @@ use Rattle.operators.specs.World.{stands_for}
 use Rattle.stages.proofs.Going.{stage_start, stage_next}
 use Rattle.operators.specs.View.{world_of}
 use Rattle.report.specs.Answer.{where_fate}
-use Rattle.report.proofs.Steps.{next}
+use Rattle.stages.proofs.Walks.{next}
 use Rattle.report.proofs.ungrouped.where_stage.Goals as goal
 
 pub loop-combination-init : goal.loop-combination-init

@@ -1,6 +1,6 @@
 use Rattle.std.proofs.Common.{◌≡◌, drop}
 use Rattle.std.specs.List.{list_any}
-use Rattle.typing.specs.Grouping.{is_column}
+use Rattle.expr.specs.Bound.{is_column}
 use Rattle.typing.proofs.grouping.is_among.Given as goal
 
 abbrev pub invariant-loop-other : goal.invariant-loop-other
