@@ -1,18 +1,14 @@
 -- When two contents are the same to a role that asks a text.
-use Rattle.std.specs.Prelude.{◌≡◌, ℕ, List, None, Ok}
-use Rattle.row_ast.specs.Ast.{Name, Query}
-use Rattle.syntax.specs.Parsing.{parsed_query}
+use Rattle.std.specs.Prelude.{◌≡◌, ℕ, List, Ok}
+use Rattle.row_ast.specs.Ast.{Name}
 use Rattle.catalog.specs.Catalog.{Catalog}
-use Rattle.access.specs.Access.{denial}
-use Rattle.resolve.specs.Needed.{needed}
-use Rattle.resolve.specs.Resolved.{Bound, bound}
+use Rattle.resolve.specs.Resolved.{Bound}
 use Rattle.report.specs.Restricted as tables
 use Rattle.engine.specs.Database.{Rows}
+use Rattle.engine.specs.Admission.{admitted}
 use Rattle.engine.specs.Answer.{seen}
 
 -- where the text is answered, the rows of each entry that the role sees, restricted to the columns of the entry that the text
 -- names, are the same bag in both
 abbrev pub SeesSame : Catalog → Name → List ℕ → Rows → Rows → Type 0
-SeesSame cat role text one other =
-    (q : Query) (b : Bound) → parsed_query text ≡ Ok q → bound cat q ≡ Ok b → denial cat role (needed b.entries b.query) ≡ None →
-    tables.SeesSame b.query (seen cat one role b.entries) (seen cat other role b.entries)
+SeesSame cat role text one other = (b : Bound) → admitted cat role text ≡ Ok b → tables.SeesSame b.query (seen cat one role b.entries) (seen cat other role b.entries)

@@ -26,13 +26,18 @@ fn unreadable(alloc: Global, path: &str, error: &io::Error) -> Failure<Fault<Glo
     }
 }
 
-/// The text of a file in UTF-8.
-pub fn read_text<R: Files + AllocGlobal>(
-    rt: &R,
+/// The text in UTF-8 of a file, or of standard input where the path is `-`.
+pub fn read_text(
+    rt: &HostRuntime,
     alloc: Global,
     path: &str,
 ) -> Result<String, Failure<Fault<Global>>> {
-    match fs::read_to_string(rt, path) {
+    let text = if path == "-" {
+        io::read_to_string(alloc, rt.stdin())
+    } else {
+        fs::read_to_string(rt, path)
+    };
+    match text {
         Ok(text) => Ok(text),
         Err(error) => Err(unreadable(alloc, path, &error)),
     }

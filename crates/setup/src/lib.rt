@@ -2,6 +2,7 @@
 #![tactic(auto)]
 
 mod arguments;
+mod explanation;
 mod fault;
 mod line;
 mod load;
@@ -9,6 +10,7 @@ mod open;
 mod schema;
 
 pub use arguments::{Arguments, reply};
+pub use explanation::explain_refusal;
 pub use fault::{Fault, SchemaError};
 pub use line::{line_of, report, status_of};
 pub use load::{Folder, load_table, load_tables};

@@ -1,28 +1,14 @@
 //! The line on standard error for what stops the program.
 
 ghost use Rattle.std.specs.Prelude.{◌≡◌, ◌++◌, ◌∷◌, ◌⊎◌, [], IfOk, OnOk};
-ghost use Rattle.std.specs.Fmt.{decimal};
 ghost use Rattle.setup.specs.Lines.{IsReported, data_line, failure_line, failure_status, fault_line, fault_status, in_column, in_row, memory_line, schema_line, syntax_line};
 
 use crate::fault::{Fault, SchemaError};
-use itoa::Buffer;
+use hints::{push_number, push_str};
 use memory::{Failure, Heap};
 use output::{Out, write_whole};
 use std::alloc::AllocError;
 use tables::LoadError;
-
-fn push_str<A: Heap>(line: &mut Vec<u8, A>, text: &str) -> Result<(), AllocError>
-    ensures { OnOk result (line.new.items ≡ line.old.items ++ text.now) }
-{
-    line.extend_from_slice(text.as_bytes())
-}
-
-fn push_number<A: Heap>(line: &mut Vec<u8, A>, n: u64) -> Result<(), AllocError>
-    ensures { OnOk result (line.new.items ≡ line.old.items ++ decimal n) }
-{
-    let mut buffer = Buffer::new();
-    push_str(line, buffer.format(n))
-}
 
 fn push_syntax_error<A: Heap>(line: &mut Vec<u8, A>, offset: u64) -> Result<(), AllocError>
     ensures { OnOk result (line.new.items ≡ line.old.items ++ syntax_line offset) }

@@ -1,0 +1,34 @@
+-- The line of a text that has a byte, and a caret below the byte.
+use Rattle.std.specs.Prelude.{ℕ, ◌+◌, ◌==◌, nat_lt, ◌&&◌, Bool, List, [], ◌∷◌, ◌++◌, take, drop, filter, length, codes, Option, Some, None, if◌then◌else◌}
+use Rattle.std.specs.List.{filter_map, list_any}
+use Rattle.std.specs.Fmt.{decimal}
+
+-- LF
+abbrev pub is_end : ℕ → Bool
+is_end b = b == 10
+
+-- up to the first end of a line
+abbrev pub first_line : List ℕ → List ℕ
+first_line [] = []
+first_line (b ∷ bs) = if is_end b then [] else b ∷ first_line bs
+
+-- after the last end of a line
+abbrev pub last_line : List ℕ → List ℕ
+last_line [] = []
+last_line (b ∷ bs) = if list_any is_end (b ∷ bs) then last_line bs else b ∷ bs
+
+-- lines count from 1
+abbrev pub line_number : List ℕ → ℕ
+line_number front = length (filter is_end front) + 1
+
+-- what stands below a byte: nothing below a later byte of a character in UTF-8, a tab below a tab, a space below all else
+abbrev pub below : ℕ → Option ℕ
+below b = if nat_lt 127 b && nat_lt b 192 then None else Some (if b == 9 then 9 else 32)
+
+-- the line up to the byte at an offset, with its number in front
+abbrev pub up_to : List ℕ → List ℕ
+up_to front = codes "LINE " ++ decimal (line_number front) ++ codes ": " ++ last_line front
+
+-- the line of the byte at an offset, and a caret below it
+abbrev pub place_lines : List ℕ → ℕ → List ℕ
+place_lines text offset = up_to (take offset text) ++ first_line (drop offset text) ++ codes "\n" ++ filter_map below (up_to (take offset text)) ++ codes "^\n"
