@@ -1,6 +1,6 @@
 mod Totals
 pub mod SameGroups
-mod RunLaws
+mod KeyLaws
+mod ClassLaws
 mod Parts
-mod InOrder
 mod Cells

@@ -19,7 +19,7 @@ use Rattle.expr.specs.Aggregates.{AggregateCall}
 use Rattle.stages.specs.Stages.{first_then, gives, stage}
 use Rattle.groups.specs.Members.{Member}
 use Rattle.groups.specs.Groups.{Group, has_key, group_with, keys, classes, without_repeats}
-use Rattle.groups.specs.Runs.{grouped}
+use Rattle.groups.specs.Classes.{grouped}
 use Rattle.groups.specs.Aggregates.{argument_at, not_null, values_at, exact_sum, number_at, or_null, towards, aggregate_of, totals}
 use Rattle.groups.specs.GroupRow.{with_totals, group_row, group_rows}
 use Rattle.groups.proofs.Totals.{towards_total}

@@ -7,14 +7,14 @@ use Rattle.std.proofs.lemmas.Int.{ints}
 use Rattle.bags.specs.Least.{lesser, least}
 use Rattle.bags.proofs.Least.{lesser_none, lesser_assoc}
 use Rattle.value.specs.Datum.{Datum, null, int, text, bool, Row, row_of}
+use Rattle.value.specs.declared.types.Value.{Value}
 use Rattle.value.specs.Orders.{number}
 use Rattle.value.proofs.DatumOrder.{datum_cmp_total}
 use Rattle.expr.specs.declared.aggregates.AggregateCall.{AggregateCall}
 use Rattle.expr.specs.View.{aggregate_calls_of}
 use Rattle.stages.specs.Stages.{first_then}
-use Rattle.groups.specs.declared.members.Member.{Member}
 use Rattle.groups.specs.Aggregates.{argument_at, not_null, values_at, exact_sum, towards, aggregate_of, totals}
-use Rattle.groups.specs.View.{arguments_of}
+use Rattle.groups.specs.View.{rows_of}
 use Rattle.stages.proofs.Walks.{next}
 
 pub totals_next : {A : Type 0} (calls : List (AggregateCall A)) (i : ℕ) (c : AggregateCall A) (members : List Row) → i < length calls → c ≡ get_or calls i c →
@@ -30,9 +30,9 @@ sum_one (int n) ds = refl
 sum_one (text t) ds = refl
 sum_one (bool b) ds = refl
 
-pub sum_next : {A : Type 0} (place : ℕ) (ms : List (Member A)) (i : ℕ) (m : Member A) → i < length ms → m ≡ get_or ms i m →
-    exact_sum (values_at place (arguments_of (drop i ms))) ≡ number (argument_at (row_of m.arguments) place) +ℤ exact_sum (values_at place (arguments_of (drop (i + 1) ms)))
-sum_next place ms i m lt is = ap (λ l. exact_sum (values_at place (arguments_of l))) (next ms i m lt is) ∙ sum_one (argument_at (row_of m.arguments) place) _
+pub sum_next : {A : Type 0} (place : ℕ) (ms : List (List (Value A))) (i : ℕ) (m : List (Value A)) → i < length ms → m ≡ get_or ms i m →
+    exact_sum (values_at place (rows_of (drop i ms))) ≡ number (argument_at (row_of m) place) +ℤ exact_sum (values_at place (rows_of (drop (i + 1) ms)))
+sum_next place ms i m lt is = ap (λ l. exact_sum (values_at place (rows_of l))) (next ms i m lt is) ∙ sum_one (argument_at (row_of m) place) _
 
 -- ---- counts
 
@@ -45,13 +45,13 @@ count_one : (o : Option Datum) (ds : List Datum) → length (cons_option o ds) �
 count_one None ds = omega arith
 count_one (Some d) ds = omega arith
 
-pub count_step : {A : Type 0} (place : ℕ) (ms : List (Member A)) (i : ℕ) (m : Member A) (value : Option Datum) → i < length ms → m ≡ get_or ms i m →
-    value ≡ not_null (argument_at (row_of m.arguments) place) →
-    length (values_at place (arguments_of (drop i ms))) ≡ one_value value + length (values_at place (arguments_of (drop (i + 1) ms)))
+pub count_step : {A : Type 0} (place : ℕ) (ms : List (List (Value A))) (i : ℕ) (m : List (Value A)) (value : Option Datum) → i < length ms → m ≡ get_or ms i m →
+    value ≡ not_null (argument_at (row_of m) place) →
+    length (values_at place (rows_of (drop i ms))) ≡ one_value value + length (values_at place (rows_of (drop (i + 1) ms)))
 count_step place ms i m value lt is v =
-    ap (λ l. length (values_at place (arguments_of l))) (next ms i m lt is)
-    ∙ count_one (not_null (argument_at (row_of m.arguments) place)) (values_at place (arguments_of (drop (i + 1) ms)))
-    ∙ ap (λ o. one_value o + length (values_at place (arguments_of (drop (i + 1) ms)))) (sym v)
+    ap (λ l. length (values_at place (rows_of l))) (next ms i m lt is)
+    ∙ count_one (not_null (argument_at (row_of m) place)) (values_at place (rows_of (drop (i + 1) ms)))
+    ∙ ap (λ o. one_value o + length (values_at place (rows_of (drop (i + 1) ms)))) (sym v)
 
 -- ---- extremes
 
@@ -67,14 +67,14 @@ least_one : (d : Bool) (o : Option Datum) (ds : List Datum) → least (towards d
 least_one d None ds = refl
 least_one d (Some x) ds = refl
 
-pub best_step : {A : Type 0} (d : Bool) (place : ℕ) (ms : List (Member A)) (i : ℕ) (m : Member A) (value best after whole : Option Datum) → i < length ms → m ≡ get_or ms i m →
-    value ≡ not_null (argument_at (row_of m.arguments) place) → after ≡ lesser (towards d) best value →
-    lesser (towards d) best (least (towards d) (values_at place (arguments_of (drop i ms)))) ≡ whole → lesser (towards d) after (least (towards d) (values_at place (arguments_of (drop (i + 1) ms)))) ≡ whole
+pub best_step : {A : Type 0} (d : Bool) (place : ℕ) (ms : List (List (Value A))) (i : ℕ) (m : List (Value A)) (value best after whole : Option Datum) → i < length ms → m ≡ get_or ms i m →
+    value ≡ not_null (argument_at (row_of m) place) → after ≡ lesser (towards d) best value →
+    lesser (towards d) best (least (towards d) (values_at place (rows_of (drop i ms)))) ≡ whole → lesser (towards d) after (least (towards d) (values_at place (rows_of (drop (i + 1) ms)))) ≡ whole
 best_step d place ms i m value best after whole lt is v b so_far =
-    let rest = least (towards d) (values_at place (arguments_of (drop (i + 1) ms))) in
+    let rest = least (towards d) (values_at place (rows_of (drop (i + 1) ms))) in
     ap (λ o. lesser (towards d) o rest) b
     ∙ lesser_assoc (towards d) (towards_total d) best value rest
     ∙ ap (λ o. lesser (towards d) best (lesser (towards d) o rest)) v
-    ∙ ap (lesser (towards d) best) (sym (least_one d (not_null (argument_at (row_of m.arguments) place)) (values_at place (arguments_of (drop (i + 1) ms)))))
-    ∙ ap (λ l. lesser (towards d) best (least (towards d) (values_at place (arguments_of l)))) (sym (next ms i m lt is))
+    ∙ ap (lesser (towards d) best) (sym (least_one d (not_null (argument_at (row_of m) place)) (values_at place (rows_of (drop (i + 1) ms)))))
+    ∙ ap (λ l. lesser (towards d) best (least (towards d) (values_at place (rows_of l)))) (sym (next ms i m lt is))
     ∙ so_far

@@ -1,6 +1,6 @@
 pub mod Members
 pub mod Groups
-pub mod Runs
+pub mod Classes
 pub mod Aggregates
 pub mod GroupRow
 pub mod View

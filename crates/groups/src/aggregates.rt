@@ -9,9 +9,8 @@ ghost use Rattle.value.specs.Orders as orders;
 ghost use Rattle.expr.specs.View.{aggregate_call_of, aggregate_calls_of};
 ghost use Rattle.groups.specs.Aggregates as spec;
 ghost use Rattle.groups.specs.Aggregates.{argument_at, not_null, values_at, towards, or_null};
-ghost use Rattle.groups.specs.View.{arguments_of};
+ghost use Rattle.groups.specs.View.{rows_of};
 
-use crate::members::Member;
 use expr::AggregateCall;
 use memory::{Failure, Heap};
 use std::alloc::AllocError;
@@ -31,12 +30,12 @@ fn value_at<A: Heap>(arguments: &[Value<A>], place: usize) -> Option<&Value<A>>
 }
 
 // How many arguments at a place are not null.
-fn count<A: Heap>(members: &[Member<A>], place: usize) -> usize
-    ensures { result ≡ length (values_at place (arguments_of members.now)) }
+fn count<A: Heap>(members: &[Items<Value<A>, A>], place: usize) -> usize
+    ensures { result ≡ length (values_at place (rows_of members.now)) }
 {
     let mut count = 0;
     for member in members {
-        if let Some(_) = value_at(member.arguments.as_slice(), place) {
+        if let Some(_) = value_at(member.as_slice(), place) {
             count += 1;
         }
     }
@@ -55,12 +54,12 @@ fn number<A: Heap>(arguments: &[Value<A>], place: usize) -> i64
 }
 
 // The exact sum of the numbers at a place: that of up to 2^64 numbers of 64 bits fits in 128.
-fn exact_sum<A: Heap>(members: &[Member<A>], place: usize) -> i128
-    ensures { result ≡ spec.exact_sum (values_at place (arguments_of members.now)) }
+fn exact_sum<A: Heap>(members: &[Items<Value<A>, A>], place: usize) -> i128
+    ensures { result ≡ spec.exact_sum (values_at place (rows_of members.now)) }
 {
     let mut sum = 0_i128;
     for member in members {
-        sum += i128::from(number(member.arguments.as_slice(), place));
+        sum += i128::from(number(member.as_slice(), place));
     }
     sum
 }
@@ -97,12 +96,16 @@ fn better<'m, A: Heap>(
 
 // The least argument at a place that is not null; where it descends, the greatest.
 #[tactic(auto, using(crate::proofs::Totals::best_alone))]
-fn extreme<A: Heap>(members: &[Member<A>], place: usize, descends: bool) -> Option<&Value<A>>
-    ensures { option_map (λ v. datum v.now) result ≡ least (towards descends) (values_at place (arguments_of members.now)) }
+fn extreme<A: Heap>(
+    members: &[Items<Value<A>, A>],
+    place: usize,
+    descends: bool,
+) -> Option<&Value<A>>
+    ensures { option_map (λ v. datum v.now) result ≡ least (towards descends) (values_at place (rows_of members.now)) }
 {
     let mut best = None;
     for member in members {
-        if let Some(value) = value_at(member.arguments.as_slice(), place) {
+        if let Some(value) = value_at(member.as_slice(), place) {
             best = Some(better(best, value, descends));
         }
     }
@@ -156,10 +159,10 @@ fn copy_or_null<A: Heap>(alloc: A, value: Option<&Value<A>>) -> Result<Value<A>,
 fn aggregate_of<A: Heap>(
     alloc: A,
     call: &AggregateCall<'_, A>,
-    members: &[Member<A>],
+    members: &[Items<Value<A>, A>],
     place: usize,
 ) -> Result<Value<A>, Failure<Fault>>
-    ensures { Gives (λ v. datum v) result (spec.aggregate_of call.now.aggregate call.now.offset (values_at place (arguments_of members.now))) }
+    ensures { Gives (λ v. datum v) result (spec.aggregate_of call.now.aggregate call.now.offset (values_at place (rows_of members.now))) }
 {
     match call.aggregate {
         Aggregate::Count => number_at(call.offset, counted(count(members, place))),
@@ -180,9 +183,9 @@ fn aggregate_of<A: Heap>(
 pub fn totals_of<A: Heap>(
     alloc: A,
     calls: &[AggregateCall<'_, A>],
-    members: &[Member<A>],
+    members: &[Items<Value<A>, A>],
 ) -> Result<Items<Value<A>, A>, Failure<Fault>>
-    ensures { Gives (λ values. row_of values) result (spec.totals (aggregate_calls_of calls.now) 0 (arguments_of members.now)) }
+    ensures { Gives (λ values. row_of values) result (spec.totals (aggregate_calls_of calls.now) 0 (rows_of members.now)) }
 {
     let mut values = Items::new(alloc);
     for (place, call) in calls.iter().enumerate() {

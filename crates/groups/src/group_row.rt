@@ -1,19 +1,17 @@
 //! The row of a group, and the cells that HAVING and items read of it.
 
-ghost use Rattle.std.specs.Prelude.{◌≡◌, IfOk};
+ghost use Rattle.std.specs.Prelude.{◌≡◌};
 ghost use Rattle.memory.specs.Gives.{Gives};
 ghost use Rattle.value.specs.Datum.{datum_of, row_of};
 ghost use Rattle.expr.specs.View.{aggregate_calls_of};
 ghost use Rattle.groups.specs.GroupRow as spec;
-ghost use Rattle.groups.specs.Runs.{grouped};
-ghost use Rattle.groups.specs.View.{arguments_of, group_row_of};
+ghost use Rattle.groups.specs.Classes.{grouped};
+ghost use Rattle.groups.specs.View.{group_row_of, rows_of};
 
 use crate::aggregates::totals_of;
-use crate::members::Member;
 use eval::Row;
 use expr::{AggregateCall, ColumnId, is_column};
 use memory::{Failure, Heap};
-use std::alloc::AllocError;
 use text::Items;
 use value::{Fault, Val, Value};
 
@@ -77,27 +75,15 @@ impl<A: Heap> Row<A> for GroupCells<'_, A> {
     }
 }
 
-// A copy of a key.
-fn copy_key<A: Heap>(alloc: A, key: &[Value<A>]) -> Result<Items<Value<A>, A>, AllocError>
-    ensures { IfOk result (λ copy. row_of copy ≡ row_of key.now) }
-{
-    let mut copy = Items::new(alloc);
-    for value in key {
-        copy.push(value.copy(alloc)?)?;
-    }
-    Ok(copy)
-}
-
-/// The row of the group of a key and its members, or the first fault of the aggregates.
+/// The row of the group of a key and the arguments of its members, or the first fault of the aggregates.
 pub fn row_of_group<A: Heap>(
     alloc: A,
     calls: &[AggregateCall<'_, A>],
-    key: &[Value<A>],
-    members: &[Member<A>],
+    key: Items<Value<A>, A>,
+    members: &[Items<Value<A>, A>],
 ) -> Result<GroupRow<A>, Failure<Fault>>
-    ensures { Gives (λ g. group_row_of g) result (spec.group_row (aggregate_calls_of calls.now) (grouped (row_of key.now) (arguments_of members.now))) }
+    ensures { Gives (λ g. group_row_of g) result (spec.group_row (aggregate_calls_of calls.now) (grouped (row_of key) (rows_of members.now))) }
 {
-    let key = copy_key(alloc, key)?;
     let totals = totals_of(alloc, calls, members)?;
     Ok(GroupRow { key, totals })
 }

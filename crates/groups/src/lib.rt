@@ -2,8 +2,10 @@
 #![tactic(auto)]
 
 mod aggregates;
+mod classes;
 mod group_row;
 mod groups;
+mod keys;
 mod laws;
 mod members;
 
