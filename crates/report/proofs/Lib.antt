@@ -1,4 +1,5 @@
 pub mod Fields
+pub mod FirstRows
 pub mod OutputOrder
 pub mod Restricting
 pub mod SameCombinations

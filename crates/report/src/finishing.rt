@@ -45,7 +45,12 @@ fn rows_of_kept<A: Heap>(
         (spec.rows_of_kept world.now.role.now (world_of world.now).query (map (λ c. stands_for (world_of world.now).tables c.now) combos.now)) }
 {
     match rows_of(alloc, world, combos) {
-        Ok(rows) => Ok(ordered(world.query.order_by.as_slice(), world.query.limit, rows)),
+        Ok(rows) => Ok(ordered(
+            alloc,
+            world.query.order_by.as_slice(),
+            world.query.limit,
+            rows,
+        )?),
         Err(failure) => Err(failure),
     }
 }

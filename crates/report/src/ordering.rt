@@ -1,6 +1,6 @@
 //! ORDER BY and LIMIT.
 
-ghost use Rattle.std.specs.Prelude.{◌≡◌, map};
+ghost use Rattle.std.specs.Prelude.{◌≡◌, IfOk, map, take};
 ghost use Rattle.bags.specs.Sorting.{sorted_by};
 ghost use Rattle.value.specs.Datum.{row_of};
 ghost use Rattle.value.specs.Orders.{datum_cmp};
@@ -8,11 +8,16 @@ ghost use Rattle.access.specs.Access.{cell};
 ghost use Rattle.report.specs.Ordered as spec;
 ghost use Rattle.report.specs.Ordered.{by_key, by_keys, output_cmp, limited};
 
+use itertools::Itertools;
 use memory::Heap;
 use scope::OutputKey;
+use std::alloc::AllocError;
 use std::cmp::Ordering;
 use text::Items;
 use value::{Value, cmp_rows, cmp_values};
+
+// A limit up to this one is met without sorting all rows.
+const FEW: u64 = 64;
 
 fn cmp_cells<A: Heap>(a: &[Value<A>], b: &[Value<A>], place: usize) -> Ordering
     ensures { result ≡ datum_cmp (cell (row_of a.now) place) (cell (row_of b.now) place) }
@@ -72,8 +77,8 @@ fn limit_rows<A: Heap>(limit: Option<u64>, rows: &mut Vec<Items<Value<A>, A>, A>
     }
 }
 
-// The rows in the order of the keys, cut by the limit. It takes no memory.
-pub(crate) fn ordered<A: Heap>(
+// All rows are sorted and then cut.
+fn sorted_rows<A: Heap>(
     keys: &[OutputKey],
     limit: Option<u64>,
     rows: Items<Items<Value<A>, A>, A>,
@@ -84,4 +89,38 @@ pub(crate) fn ordered<A: Heap>(
     sort_outputs(keys, &mut rows);
     limit_rows(limit, &mut rows);
     Items::from(rows)
+}
+
+// The first n rows are picked in one pass, which keeps the least n so far.
+fn first_rows<A: Heap>(
+    alloc: A,
+    keys: &[OutputKey],
+    n: usize,
+    rows: Items<Items<Value<A>, A>, A>,
+) -> Result<Items<Items<Value<A>, A>, A>, AllocError>
+    ensures { IfOk result (λ rs. map (λ r. row_of r) rs ≡ take n (sorted_by (output_cmp keys.now) (map (λ r. row_of r) rows))) }
+{
+    let rows = rows.into_vec().into_iter();
+    let least = rows.k_smallest_by(
+        alloc,
+        n,
+        |a, b| cmp_outputs(keys, a.as_slice(), b.as_slice()),
+    )?;
+    let least: Vec<Items<Value<A>, A>, A> = least.collect(alloc)?;
+    Ok(Items::from(least))
+}
+
+// The rows in the order of the keys, cut by the limit.
+pub(crate) fn ordered<A: Heap>(
+    alloc: A,
+    keys: &[OutputKey],
+    limit: Option<u64>,
+    rows: Items<Items<Value<A>, A>, A>,
+) -> Result<Items<Items<Value<A>, A>, A>, AllocError>
+    ensures { IfOk result (λ rs. map (λ r. row_of r) rs ≡ spec.ordered keys.now limit (map (λ r. row_of r) rows)) }
+{
+    match limit {
+        Some(n) if n <= FEW => first_rows(alloc, keys, n as usize, rows),
+        _ => Ok(sorted_rows(keys, limit, rows)),
+    }
 }
