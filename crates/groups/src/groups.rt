@@ -40,8 +40,9 @@ fn row_of_all<A: Heap>(
 ) -> Result<Items<GroupRow<A>, A>, Failure<Fault>>
     ensures { Gives (λ rows. map (λ g. group_row_of g) rows) result (stage (gives (spec.group_row (aggregate_calls_of calls.now) (grouped [] (rows_of members.now))) ∷ [])) }
 {
+    let key = Items::new(alloc);
     let mut stage = Stage::new(alloc);
-    stage.add(gives(row_of_group(alloc, calls, Items::new(alloc), members)))?;
+    stage.add(gives(row_of_group(alloc, calls, key, members)))?;
     stage.end()
 }
 

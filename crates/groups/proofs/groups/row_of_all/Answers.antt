@@ -12,5 +12,5 @@ returns g c =
     let fate = gives (group_row (aggregate_calls_of c.args.calls.now) (grouped [] (rows_of c.args.members.now))) in
     stage_end (λ r. group_row_of r) c.add.new.self.least c.add.new.self.given c.end.result [] _ refl c.end.ensures
     (stage_next (λ r. group_row_of r) _ fate c.new-stage.result c.add.new.self _ [] _ refl
-    (rw c.gives.ensures (gives_some (λ r. group_row_of r) _ _ (rw c.new.ensures at c.row_of_group.ensures))) c.in_ok-add.ensures
+    (rw c.gives.ensures (gives_some (λ r. group_row_of r) _ _ (rw c.new-key.ensures at c.row_of_group.ensures))) c.in_ok-add.ensures
     (stage_start (λ r. group_row_of r) c.new-stage.result (fate ∷ []) c.new-stage.ensures.given c.new-stage.ensures.least))
