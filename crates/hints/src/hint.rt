@@ -53,11 +53,7 @@ fn push_denial<A: Heap>(
 
 /// What the refusal or denial of a text means, in a line, and where it has a place the line of the text and a caret below
 /// the place; nothing for rows and for a fault.
-pub fn hint<A: Heap>(
-    alloc: A,
-    text: &str,
-    refusal: &Reply<A>,
-) -> Result<Vec<u8, A>, AllocError>
+pub fn hint<A: Heap>(alloc: A, text: &str, refusal: &Reply<A>) -> Result<Vec<u8, A>, AllocError>
     ensures { IfOk result (λ lines. lines.items ≡ spec.hint text.now (reply_of refusal.now)) }
 {
     let mut lines = Vec::new(alloc);

@@ -26,7 +26,8 @@ fn meaning(code: Refusal) -> &'static str
         Refusal::UndefinedColumn => "no column of this name is in reach here",
         Refusal::UndefinedObject => "no role or policy has this name",
         Refusal::DuplicateObject => "the role, the policy or the index is there already",
-        Refusal::DuplicateAlias => "an earlier entry of FROM has this name; give one of them an alias",
+        Refusal::DuplicateAlias =>
+            "an earlier entry of FROM has this name; give one of them an alias",
         Refusal::GroupingError => {
             "an aggregate may not be here, or the column is not in GROUP BY and under no aggregate"
         }
@@ -38,7 +39,8 @@ fn meaning(code: Refusal) -> &'static str
         Refusal::InvalidColumnReference => "the answer has no column of this number",
         Refusal::InvalidObjectDefinition => "the condition of a policy may not be able to fail",
         Refusal::OutOfMemory => "out of memory",
-        Refusal::ProgramLimitExceeded => "the text is too long or too deeply nested, or the schema has too many objects",
+        Refusal::ProgramLimitExceeded =>
+            "the text is too long or too deeply nested, or the schema has too many objects",
     }
 }
 
@@ -54,10 +56,7 @@ fn fault_meaning(kind: FaultKind) -> &'static str
 }
 
 /// Adds the line of a refusal.
-pub(crate) fn push_refusal<A: Heap>(
-    lines: &mut Vec<u8, A>,
-    code: Refusal,
-) -> Result<(), AllocError>
+pub(crate) fn push_refusal<A: Heap>(lines: &mut Vec<u8, A>, code: Refusal) -> Result<(), AllocError>
     ensures { OnOk result (lines.new.items ≡ lines.old.items ++ refusal_line code) }
 {
     push_str(lines, code.code())?;

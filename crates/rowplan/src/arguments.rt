@@ -58,13 +58,30 @@ fn query_command<'a>(alloc: Global) -> Result<Command<'a>, ProgramError> {
         .help("The query; after -- where it starts with a minus")
         .required_unless_present("file")?
         .action(ArgAction::Set);
-    let file = option(alloc, "file", "FILE", "A file with the query in place of TEXT, or - for standard input");
+    let file = option(
+        alloc,
+        "file",
+        "FILE",
+        "A file with the query in place of TEXT, or - for standard input",
+    );
     let explain = Arg::new(alloc, "explain-refusal")
         .long("explain-refusal")
-        .help("Says on standard error what a refusal or a denial means, and where it is in the text")
+        .help(
+            "Says on standard error what a refusal or a denial means, and where it is in the text",
+        )
         .action(ArgAction::SetTrue);
-    let schema = option(alloc, "schema", "FILE", "The schema text, or - for standard input");
-    let dir = option(alloc, "dir", "DIR", "The folder with a file T.csv for each table T");
+    let schema = option(
+        alloc,
+        "schema",
+        "FILE",
+        "The schema text, or - for standard input",
+    );
+    let dir = option(
+        alloc,
+        "dir",
+        "DIR",
+        "The folder with a file T.csv for each table T",
+    );
     let role = option(alloc, "role", "NAME", "The role that asks");
     let command = Command::new(alloc, "query")
         .about("Writes the reply to a role's query as comma-separated text")
@@ -79,8 +96,9 @@ fn query_command<'a>(alloc: Global) -> Result<Command<'a>, ProgramError> {
 }
 
 fn command<'a>(alloc: Global) -> Result<Command<'a>, ProgramError> {
-    let codes = Command::new(alloc, "codes")
-        .about("Lists the codes of refusals and faults with their meaning");
+    let codes = Command::new(alloc, "codes").about(
+        "Lists the codes of refusals and faults with their meaning",
+    );
     let program = Command::new(alloc, "rowplan")
         .version(VERSION)
         .about("Queries over tables with row security")

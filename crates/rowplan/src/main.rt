@@ -17,7 +17,11 @@ use std::process::ExitCode;
 use std::{env, io};
 
 // The text of the query.
-fn query_text(rt: &HostRuntime, alloc: Global, text: QueryText<'_>) -> Result<String, ProgramError> {
+fn query_text(
+    rt: &HostRuntime,
+    alloc: Global,
+    text: QueryText<'_>,
+) -> Result<String, ProgramError> {
     match text {
         QueryText::Given(text) => Ok(String::from_str(alloc, text)?),
         QueryText::File(path) => Ok(read_text(rt, alloc, path)?),
