@@ -145,7 +145,8 @@ fn refusal_of_query<A: Heap>(
     }
 }
 
-/// The refusal or denial of a role's text, or none where rows decide the reply. No row is read for it.
+/// The refusal or denial of a role's text, or none where rows decide the reply. No row is read for it. It fails where memory
+/// runs out. `refusal(alloc, store.catalog(), "zed", "SELECT id FROM t")` is a refusal by 42704 where no role is zed.
 pub fn refusal<A: Heap>(
     alloc: A,
     catalog: &Catalog<A>,

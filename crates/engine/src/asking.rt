@@ -85,7 +85,8 @@ fn answer<A: Heap>(
     }
 }
 
-/// The reply to a role's text: a refusal, a denial, the rows, or the first fault of their evaluation. Where memory runs out it is the refusal 53200.
+/// The reply to a role's text: a refusal, a denial, the rows, or the first fault of their evaluation. Where memory runs out
+/// it is the refusal 53200. `ask(alloc, &store, "root", "SELECT id FROM t")` is `Reply::Rows` with the heading `id`.
 pub fn ask<A: Heap>(alloc: A, store: &Store<A>, role: &str, text: &str) -> Reply<A>
     ensures { IsReply (reply_of result) (reply_to store.now.catalog (rows_of store.now) role.now text.now) }
 {

@@ -1,4 +1,15 @@
 //! A database whose rows are secured: its tables and their rows, and the replies to queries.
+//!
+//! A store is made, changed by statements, loaded from readers, and asked; crates/embed is a whole program.
+//!
+//! ```text
+//! let mut store = Store::new(alloc)?;
+//! let statement = syntax::parse_statement(alloc, "CREATE TABLE t (id bigint)")?;
+//! store.change("root", &statement)?;
+//! store.load("t", "id\n1\n2\n".as_bytes())?;
+//! let mut out = Output { inner: Vec::new(alloc), failed: 0 };
+//! let status = serve(alloc, &store, "root", "SELECT id FROM t", &mut out);   // 0, and out.inner is "id\n1\n2\n"
+//! ```
 #![tactic(auto)]
 
 mod admission;

@@ -111,7 +111,7 @@ fn table_place<A: Heap>(tables: &[Stored<A>], name: &str) -> Option<usize>
 }
 
 impl<A: Heap> Store<A> {
-    /// A store with the superuser `root` and no table.
+    /// A store with the superuser `root` and no table. It fails where memory runs out.
     pub fn new(alloc: A) -> Result<Store<A>, AllocError>
         ensures { IfOk result (λ store. store ≡ at_start) }
     {
@@ -156,7 +156,9 @@ impl<A: Heap> Store<A> {
         }
     }
 
-    /// Applies a schema statement of an actor; a new table has no rows. A refused statement changes nothing.
+    /// Applies a schema statement of an actor; a new table has no rows. It is refused by the first of its checks that fails,
+    /// as `Refusal::DuplicateTable` (42P07) where a table of that name is there, or where memory runs out (53200), and a
+    /// refused statement changes nothing. `store.change("root", &statement)` is what a schema text does.
     /// REVOKE, the settings of row security and DROP POLICY take no memory.
     pub fn change(&mut self, actor: &str, statement: &Statement<A>) -> Result<(), Refusal>
         ensures change { IsChange self.old self.new (changed_database self.old actor.now (statement_of statement.now)) result }
@@ -205,8 +207,9 @@ impl<A: Heap> Store<A> {
     }
 
     /// Adds the rows of the records that a reader gives, of which the first is the names of the columns, to the table of that
-    /// name. A refusal changes nothing. A read may fail, which is reported at the row that was not read; another fault is the
-    /// first one of the records.
+    /// name; `UndefinedTable` where there is none, else `Data` with the first fault. A refusal changes nothing. A read may fail,
+    /// which is reported at the row that was not read; another fault is the first one of the records.
+    /// `store.load("t", "id\n1\n".as_bytes())` adds one row to a table of one column `id`.
     pub fn load<R: Read + Drop>(
         &mut self,
         table: &str,
