@@ -3,3 +3,4 @@ pub mod HiddenRows
 pub mod Places
 pub mod Loads
 pub mod Statuses
+pub mod Admitted

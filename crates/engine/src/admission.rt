@@ -1,12 +1,15 @@
 //! What is decided of a text before any row is read.
 
-ghost use Rattle.std.specs.Prelude.{◌≡◌, IfOk, ForSome, map, option_map};
+ghost use Rattle.std.specs.Prelude.{◌≡◌, ℕ, List, Some, IfOk, map, option_map};
 ghost use Rattle.std.specs.Result.{result_err};
+ghost use Rattle.row_ast.specs.Ast.{Name};
 ghost use Rattle.row_ast.specs.View.{query_of};
+ghost use Rattle.catalog.specs.Catalog as cat;
 ghost use Rattle.access.specs.Access.{denial};
 ghost use Rattle.access.specs.View.{privilege_of};
 ghost use Rattle.resolve.specs.Needed.{needed};
 ghost use Rattle.resolve.specs.View.{bound_of};
+ghost use Rattle.report.specs.Reply as report;
 ghost use Rattle.report.specs.View.{reply_of};
 ghost use Rattle.engine.specs.Admission as spec;
 ghost use Rattle.engine.specs.Admission.{denied_reply, refusal_to};
@@ -65,7 +68,7 @@ fn unless_denied<'s, A: Heap>(
     role: &str,
     bound: Bound<'s, A>,
 ) -> Result<Result<Bound<'s, A>, Reply<A>>, AllocError>
-    ensures { IfOk result (λ found. admitted_of found ≡ spec.unless_denied (bound_of bound) (denial catalog.now role.now (needed (bound_of bound).entries (bound_of bound).query))) }
+    ensures { IfOk result (λ found. admitted_of found ≡ spec.unless_denied (bound_of bound.entry) (denial catalog.now role.now (needed (bound_of bound.entry).entries (bound_of bound.entry).query))) }
 {
     match first_missing(alloc, catalog, role, &bound) {
         Ok(None) => Ok(Ok(bound)),
@@ -153,9 +156,7 @@ pub fn refusal<A: Heap>(
     role: &str,
     text: &str,
 ) -> Result<Option<Reply<A>>, AllocError>
-    ensures refused { IfOk result (λ refusal. option_map (λ r. reply_of r) refusal ≡ refusal_to catalog.now role.now text.now) }
-    // Whatever the rows, it is the reply.
-    ensures replied { (rows : Rows) → IfOk result (λ refusal. ForSome refusal (λ r. reply_to catalog.now rows role.now text.now ≡ reply_of r)) }
+    ensures { IfOk result (λ refusal. option_map (λ r. reply_of r) refusal ≡ refusal_to catalog.now role.now text.now) }
 {
     match read_query(alloc, catalog, role, text)? {
         Ok(query) => {
@@ -166,3 +167,9 @@ pub fn refusal<A: Heap>(
         Err(reply) => Ok(Some(reply)),
     }
 }
+
+/// A refusal or denial is the reply, whatever the rows.
+#[tactic(auto, using(crate::proofs::Admitted::refusal_is_reply))]
+pub fn law_refusals_read_no_row()
+    ensures { (catalog : cat.Catalog) (rows : Rows) (role : Name) (text : List ℕ) (reply : report.Reply) → refusal_to catalog role text ≡ Some reply → reply_to catalog rows role text ≡ reply }
+{}

@@ -61,7 +61,7 @@ fn answer_query<A: Heap>(
 ) -> Result<Reply<A>, AllocError>
     ensures { IfOk result (λ reply. reply_of reply ≡ admitted_reply store.now.catalog (rows_of store.now) role.now (admitted_query store.now.catalog role.now (query_of query.now))) }
 {
-    match admit(alloc, &store.catalog, role, query)? {
+    match admit(alloc, store.catalog(), role, query)? {
         Ok(bound) => answer_bound(alloc, store, role, &bound),
         Err(reply) => Ok(reply),
     }
@@ -75,7 +75,7 @@ fn answer<A: Heap>(
 ) -> Result<Reply<A>, AllocError>
     ensures { IfOk result (λ reply. reply_of reply ≡ reply_to store.now.catalog (rows_of store.now) role.now text.now) }
 {
-    match read_query(alloc, &store.catalog, role, text)? {
+    match read_query(alloc, store.catalog(), role, text)? {
         Ok(query) => {
             let reply = answer_query(alloc, store, role, &query);
             drop(query);

@@ -18,7 +18,7 @@ mod asking;
 mod store;
 mod writing;
 
-pub use admission::refusal;
+pub use admission::{law_refusals_read_no_row, refusal};
 pub use asking::ask;
 pub use store::{Store, StoreError};
 pub use writing::{law_hidden_rows, serve};
