@@ -4,40 +4,34 @@
 use engine::{Store, ask, serve};
 use memory::Failure;
 use output::Output;
-use report::Reply;
+use report::{Reply, reply_status};
 use setup::{Fault, Folder, open_store, report};
 use std::alloc::Global;
-use std::io;
-use std::io::Write;
+use std::io::{Write, writer};
 use std::process::ExitCode;
 use text::Text;
 
 // The members of sales may read the deals, and each sees the own alone.
-const SCHEMA: &str = "CREATE ROLE sales; CREATE ROLE alice; CREATE ROLE bob;
-GRANT sales TO alice; GRANT sales TO bob;
-CREATE TABLE deal (id bigint, owner text, region bigint, amount bigint);
+const SCHEMA: &str = "CREATE ROLE sales; CREATE ROLE alice; CREATE ROLE bob; GRANT sales TO alice;
+GRANT sales TO bob; CREATE TABLE deal (id bigint, owner text, region bigint);
 ALTER TABLE deal ENABLE ROW LEVEL SECURITY; GRANT SELECT ON deal TO sales;
-CREATE POLICY own ON deal FOR SELECT TO sales USING (owner = CURRENT_USER);
+CREATE POLICY own ON deal TO sales USING (owner = CURRENT_USER);
 CREATE TABLE region (id bigint, name text); GRANT SELECT ON region TO PUBLIC;";
 
-const DEALS: &str =
-    "id,owner,region,amount\n1,alice,1,100\n2,alice,2,50\n3,bob,1,70\n4,bob,2,\\N\n";
+const QUERY: &str = "SELECT d.id, r.name FROM deal d JOIN region r ON d.region = r.id";
 
-const QUERY: &str = "SELECT d.id, r.name, d.amount FROM deal d JOIN region r ON d.region = r.id";
-
-/// The texts of the tables. A reader of any kind may stand in their place.
+/// The texts of the tables, in memory. A reader of any kind may stand in their place.
 struct Tables;
 
 impl Folder<Global> for Tables {
     type File = &'static [u8];
 
-    // What a fault calls a table that has no text.
     ghost path = { λ _ table. table };
 
-    // The text of a table. Each table of the schema is asked for once, in order of creation.
+    // The text of a table of the schema, or a fault with its name.
     fn open(&self, alloc: Global, table: &str) -> Result<&'static [u8], Failure<Fault<Global>>> {
         match table {
-            "deal" => Ok(DEALS.as_bytes()),
+            "deal" => Ok("id,owner,region\n1,alice,1\n2,alice,2\n3,bob,1\n4,bob,\\N\n".as_bytes()),
             "region" => Ok("id,name\n1,north\n2,south\n".as_bytes()),
             _ => Err(Failure::Fault(Fault::Input {
                 path: Text::new(alloc, table)?,
@@ -51,16 +45,22 @@ fn output<W: Write>(inner: W) -> Output<W> {
     Output { inner, failed: 0 }
 }
 
-// Prints the reply to a role: rows, a denial, a refusal or a fault. No byte goes out before the reply is whole, and none
-// depends on a row that is hidden from the role. An error is the status 7, out of memory, or 8, a writer that failed.
+// The program goes on after each reply but for 7, out of memory, and 8, a writer that failed.
+fn replied(status: u8) -> Result<(), u8> {
+    match status {
+        7 | 8 => Err(status),
+        _ => Ok(()),
+    }
+}
+
+// Prints the reply to a role, once it is whole. No byte depends on a row that the role does not see.
 fn print_reply(rt: &HostRuntime, store: &Store<Global>, role: &str) -> Result<(), u8> {
-    let status = serve(rt.alloc(), store, role, QUERY, &mut output(io::writer(rt)));
-    if status < 7 { Ok(()) } else { Err(status) }
+    replied(serve(rt.alloc(), store, role, QUERY, &mut output(writer(rt))))
 }
 
 // Adds rows to the deals: all of them, or none.
 fn add_deals(rt: &HostRuntime, store: &mut Store<Global>) -> Result<(), u8> {
-    match store.load("deal", "id,owner,region,amount\n5,bob,2,30\n".as_bytes()) {
+    match store.load("deal", "id,owner,region\n5,bob,2\n".as_bytes()) {
         Ok(()) => Ok(()),
         Err(Failure::OutOfMemory) => Err(7),
         Err(Failure::Fault(error)) => match eprintln!(rt; "deal: {error}") {
@@ -70,7 +70,7 @@ fn add_deals(rt: &HostRuntime, store: &mut Store<Global>) -> Result<(), u8> {
     }
 }
 
-// Prints which reply it is. The text that `serve` writes of a reply is that of `report::reply_text`.
+// Prints which reply it is; `report::reply_text` is the text that `serve` writes of it.
 fn print_kind(rt: &HostRuntime, reply: &Reply<Global>) -> Result<(), u8> {
     let printed = match reply {
         Reply::Rows { rows, .. } => println!(rt; "{} rows", rows.len()),
@@ -78,7 +78,8 @@ fn print_kind(rt: &HostRuntime, reply: &Reply<Global>) -> Result<(), u8> {
         Reply::Refused { code, .. } => println!(rt; "refused: {code}"),
         Reply::Faulted { fault } => println!(rt; "a fault at byte {}", fault.offset),
     };
-    printed.map_err(|_| 8)
+    printed.map_err(|_| 8)?;
+    replied(reply_status(reply))
 }
 
 // Asks as both roles, adds deals, and asks again.
@@ -89,11 +90,10 @@ fn converse(rt: &HostRuntime, store: &mut Store<Global>) -> Result<(), u8> {
     print_kind(rt, &ask(rt.alloc(), store, "bob", QUERY))
 }
 
+// A refused schema or refused rows end the program, with their line on standard error and its status.
 fn main(rt: HostRuntime) -> ExitCode {
-    let end = match open_store(rt.alloc(), SCHEMA, &Tables) {
-        Ok(mut store) => converse(&rt, &mut store),
-        // The line of a refused schema or of refused rows goes to standard error, and its status is returned.
-        Err(failure) => Err(report(rt.alloc(), &failure, &mut output(rt.stderr()))),
-    };
-    ExitCode::from(end.err().unwrap_or(0))
+    match open_store(rt.alloc(), SCHEMA, &Tables) {
+        Ok(mut store) => ExitCode::from(converse(&rt, &mut store).err().unwrap_or(0)),
+        Err(failure) => ExitCode::from(report(rt.alloc(), &failure, &mut output(rt.stderr()))),
+    }
 }
