@@ -2,7 +2,7 @@
 #![tactic(auto)]
 
 use engine::{Store, ask, serve};
-use memory::Failure;
+use memory::{Failure, Heap};
 use output::Output;
 use report::{Reply, reply_status};
 use setup::{Fault, Folder, open_store, report};
@@ -23,13 +23,13 @@ const QUERY: &str = "SELECT d.id, r.name FROM deal d JOIN region r ON d.region =
 /// The texts of the tables, in memory. A reader of any kind may stand in their place.
 struct Tables;
 
-impl Folder<Global> for Tables {
+impl<A: Heap> Folder<A> for Tables {
     type File = &'static [u8];
 
     ghost path = { λ _ table. table };
 
     // The text of a table of the schema, or a fault with its name.
-    fn open(&self, alloc: Global, table: &str) -> Result<&'static [u8], Failure<Fault<Global>>> {
+    fn open(&self, alloc: A, table: &str) -> Result<&'static [u8], Failure<Fault<A>>> {
         match table {
             "deal" => Ok("id,owner,region\n1,alice,1\n2,alice,2\n3,bob,1\n4,bob,\\N\n".as_bytes()),
             "region" => Ok("id,name\n1,north\n2,south\n".as_bytes()),
