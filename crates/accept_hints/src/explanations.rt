@@ -18,7 +18,7 @@ static SAID: [(&str, &str, &str); 10] = [
     (
         "alice",
         "SELECT id FROM deal WHERE",
-        "42601: syntax error: the text cannot go on with this token\nLINE 1: SELECT id FROM deal WHERE\n                                 ^\n",
+        "42601: syntax error: the text cannot go on like this from here\nLINE 1: SELECT id FROM deal WHERE\n                                 ^\n",
     ),
     (
         "alice",
@@ -96,7 +96,7 @@ const CODES: &str = "0LP01: the grant would make a role belong to itself
 22012: division by zero
 22P02: the text is no number or no truth value
 42501: the role lacks the privilege or does not own the table
-42601: syntax error: the text cannot go on with this token
+42601: syntax error: the text cannot go on like this from here
 42701: the table has two columns of this name
 42702: several columns have this name
 42703: no column of this name is in reach here

@@ -3,7 +3,8 @@
 use access::RequiredPrivilege;
 use catalog::Catalog;
 use memory::{Failure, Heap, boxed};
-use resolve::{bind, bind_query, entries, needed};
+use query_parts::needed;
+use resolve::{bind, bind_query, entries};
 use row_ast::{Query, Statement};
 use scope::NameFault;
 use std::alloc::{AllocError, Global};

@@ -2,16 +2,15 @@
 use Rattle.std.specs.Prelude.{not, ◌&&◌, List, [], ◌∷◌}
 use Rattle.value.specs.declared.refusal.Refusal.TheVariants as r
 use Rattle.row_ast.specs.Ast.{Name}
-use Rattle.row_objects.specs.Memberships.{with_membership}
-use Rattle.catalog.specs.Catalog.{Catalog, belongs, is_role, is_superuser}
+use Rattle.row_objects.specs.Memberships.{closes_loop, with_membership}
+use Rattle.catalog.specs.Catalog.{Catalog, is_role, is_superuser}
 use Rattle.catalog.specs.Checks.{Check}
 
 abbrev pub checks_grant_role : Catalog → Name → Name → Name → List Check
 checks_grant_role cat actor group member =
     (not (is_superuser cat actor), r.InsufficientPrivilege)
     ∷ (not (is_role cat group && is_role cat member), r.UndefinedObject)
-    -- the group would belong to itself
-    ∷ (belongs cat group member, r.InvalidGrantOperation) ∷ []
+    ∷ (closes_loop cat.memberships group member, r.InvalidGrantOperation) ∷ []
 
 abbrev pub after_grant_role : Catalog → Name → Name → Catalog
 after_grant_role cat group member = record cat { memberships = with_membership group member cat.memberships }

@@ -24,7 +24,7 @@ fn check_grant_role<A: Heap>(
         Some(Refusal::InsufficientPrivilege)
     } else if !(catalog.is_role(group) && catalog.is_role(member)) {
         Some(Refusal::UndefinedObject)
-    } else if catalog.is_member(group, member) {
+    } else if catalog.closes_loop(group, member) {
         Some(Refusal::InvalidGrantOperation)
     } else {
         None

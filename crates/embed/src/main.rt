@@ -4,7 +4,7 @@
 use engine::{Store, ask, serve};
 use memory::{Failure, Heap};
 use output::Output;
-use report::{Reply, reply_status};
+use replies::{Reply, reply_status};
 use setup::{Fault, Folder, open_store, report};
 use std::alloc::Global;
 use std::io::{Write, writer};
@@ -70,7 +70,7 @@ fn add_deals(rt: &HostRuntime, store: &mut Store<Global>) -> Result<(), u8> {
     }
 }
 
-// Prints which reply it is; `report::reply_text` is the text that `serve` writes of it.
+// Prints which reply it is; `replies::reply_text` is the text that `serve` writes of it.
 fn print_kind(rt: &HostRuntime, reply: &Reply<Global>) -> Result<(), u8> {
     let printed = match reply {
         Reply::Rows { rows, .. } => println!(rt; "{} rows", rows.len()),

@@ -3,7 +3,7 @@ use Rattle.std.proofs.Common.{◌≡◌, ℕ, List, refl, ap, Result, Ok, Err}
 use Rattle.row_ast.specs.Ast.{Name}
 use Rattle.catalog.specs.Catalog.{Catalog}
 use Rattle.resolve.specs.Resolved.{Bound}
-use Rattle.report.specs.Reply.{Reply}
+use Rattle.replies.specs.Reply.{Reply}
 use Rattle.report.specs.Restricted as tables
 use Rattle.report.proofs.HiddenRows.{same_answer_over}
 use Rattle.engine.specs.Database.{Rows}

@@ -2,7 +2,7 @@
 use Rattle.std.proofs.Common.{◌≡◌, Some, None, refl, ap, arith}
 use Rattle.value.specs.declared.refusal.Refusal.{Refusal}
 use Rattle.value.specs.declared.refusal.Refusal.TheVariants as r
-use Rattle.report.specs.Reply.{Reply, Refused, Denied, Faulted, Rows, no_memory, refusal_status, reply_status}
+use Rattle.replies.specs.Reply.{Reply, Refused, Denied, Faulted, Rows, no_memory, refusal_status, reply_status}
 
 only_out_of_memory : (code : Refusal) → refusal_status code ≡ 7 → code ≡ r.OutOfMemory
 only_out_of_memory r.OutOfMemory is = refl

@@ -10,10 +10,10 @@ use Rattle.scope.specs.declared.fault.NameFault.{NameFault}
 use Rattle.scope.specs.Entry.{and_then}
 use Rattle.catalog.specs.Catalog.{Catalog, is_role}
 use Rattle.access.specs.Access.{RequiredPrivilege, denial}
-use Rattle.resolve.specs.Needed.{needed}
+use Rattle.query_parts.specs.Needed.{needed}
 use Rattle.resolve.specs.Resolved.{Bound, bound}
-use Rattle.report.specs.Reply as reply
-use Rattle.report.specs.Reply.{Reply}
+use Rattle.replies.specs.Reply as reply
+use Rattle.replies.specs.Reply.{Reply}
 
 -- ---- the role and the grammar
 

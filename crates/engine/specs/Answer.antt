@@ -9,8 +9,8 @@ use Rattle.catalog.specs.Catalog.{Catalog}
 use Rattle.access.specs.Access.{visible}
 use Rattle.resolve.specs.Resolved.{Bound}
 use Rattle.report.specs.Answer.{answer_over}
-use Rattle.report.specs.Reply as reply
-use Rattle.report.specs.Reply.{Reply}
+use Rattle.replies.specs.Reply as reply
+use Rattle.replies.specs.Reply.{Reply}
 use Rattle.engine.specs.Database.{Rows}
 use Rattle.engine.specs.Admission.{admitted}
 

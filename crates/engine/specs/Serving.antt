@@ -1,8 +1,8 @@
 -- What is given out.
 use Rattle.std.specs.Prelude.{◌≡◌, ◌⊎◌, ◌<◌, ℕ, List, length, take, Option}
 use Rattle.std.specs.Io.KnownBytes.{Appends}
-use Rattle.report.specs.Reply.{Reply, no_memory, reply_status}
-use Rattle.report.specs.ReplyText.{reply_text}
+use Rattle.replies.specs.Reply.{Reply, no_memory, reply_status}
+use Rattle.replies.specs.ReplyText.{reply_text}
 
 -- this is the reply that is due, or memory ran out
 abbrev pub IsReply : Reply → Reply → Type 0

@@ -7,9 +7,9 @@ use Rattle.row_ast.specs.declared.query.Query as ast
 use Rattle.resolve.specs.Resolved.{Bound}
 use Rattle.resolve.specs.View.{bound_of}
 use Rattle.resolve.specs.declared.resolved.Bound as resolve
-use Rattle.report.specs.Reply.{Reply}
-use Rattle.report.specs.View.{reply_of}
-use Rattle.report.specs.declared.reply.Reply as report
+use Rattle.replies.specs.Reply.{Reply}
+use Rattle.replies.specs.View.{reply_of}
+use Rattle.replies.specs.declared.reply.Reply as report
 use Rattle.engine.specs.declared.store.Stored.{Stored}
 use Rattle.engine.specs.declared.store.Store.TheInside.{Inside}
 use Rattle.engine.specs.Database.{Database}

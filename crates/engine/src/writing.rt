@@ -5,8 +5,8 @@ ghost use Rattle.std.specs.Io.KnownBytes.{Appends};
 ghost use Rattle.output.specs.Taken.{one_more};
 ghost use Rattle.row_ast.specs.Ast.{Name};
 ghost use Rattle.catalog.specs.Catalog.{Catalog};
-ghost use Rattle.report.specs.Reply.{no_memory};
-ghost use Rattle.report.specs.ReplyText.{reply_text};
+ghost use Rattle.replies.specs.Reply.{no_memory};
+ghost use Rattle.replies.specs.ReplyText.{reply_text};
 ghost use Rattle.engine.specs.Database.{Rows, rows_of};
 ghost use Rattle.engine.specs.Answer.{reply_to};
 ghost use Rattle.engine.specs.Serving.{IsWhole, Begins};
@@ -16,7 +16,7 @@ use crate::asking::ask;
 use crate::store::Store;
 use memory::Heap;
 use output::{Out, write_whole};
-use report::{reply_status, reply_text};
+use replies::{reply_status, reply_text};
 
 // Writes a text: its status, or 8 where the writer failed.
 fn send<W: Out>(out: &mut W, text: &[u8], status: u8) -> u8

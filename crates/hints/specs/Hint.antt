@@ -1,6 +1,6 @@
 -- The hint for a refusal or a denial.
 use Rattle.std.specs.Prelude.{ℕ, List, [], ◌++◌, codes, Option, Some, None}
-use Rattle.report.specs.Reply.{Reply, Refused, Denied, Faulted, Rows}
+use Rattle.replies.specs.Reply.{Reply, Refused, Denied, Faulted, Rows}
 use Rattle.hints.specs.Meanings.{refusal_line}
 use Rattle.hints.specs.Places.{place_lines}
 

@@ -12,7 +12,7 @@ use Rattle.eval.specs.Meaning.{◌>>=◌}
 use Rattle.stages.specs.Stages.{fault_cmp, fault_in, given_in, gives, gives_if, stage, unless_fault}
 use Rattle.groups.proofs.SameGroups.{map-map}
 use Rattle.scope.specs.BoundQuery.{BoundQuery}
-use Rattle.resolve.specs.Conjuncts.{conjuncts, fragile, fragile_conjuncts, movable_conjuncts}
+use Rattle.query_parts.specs.Conjuncts.{conjuncts, fragile, fragile_conjuncts, movable_conjuncts}
 use Rattle.operators.specs.Combinations.{Combination, combinations, joined_cells, all_hold, passing}
 use Rattle.report.specs.Answer.{keeps, where_fate, where_stage, items_fate, arguments_fate, rows_of_members, rows_of, in_order, rows_of_kept, answer, answer_over}
 use Rattle.report.specs.Restricted.{named_columns, SeesSame}

@@ -1,4 +1,3 @@
-pub mod Fields
 pub mod FirstRows
 pub mod OutputOrder
 pub mod Restricting

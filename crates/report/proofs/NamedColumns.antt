@@ -15,7 +15,7 @@ use Rattle.eval.proofs.Agreement.{agree_left, agree_right, same_meaning, same_ho
 use Rattle.stages.specs.Stages.{first_then}
 use Rattle.groups.specs.Members.{argument, arguments, key_on, with_key, member_on}
 use Rattle.scope.specs.BoundQuery.{BoundItem, BoundQuery}
-use Rattle.resolve.specs.Conjuncts.{members, conjuncts_of, conjuncts_in, conjuncts}
+use Rattle.query_parts.specs.Conjuncts.{members, conjuncts_of, conjuncts_in, conjuncts}
 use Rattle.report.specs.Answer.{truth_in, unless_dropped, keeps, values_of, item_aggregates, query_aggregates}
 use Rattle.report.specs.Restricted.{item_columns, condition_columns, named_columns}
 

@@ -13,7 +13,7 @@ use Rattle.stages.specs.Stages.{Fate, first_then, gives, gives_if, stage}
 use Rattle.groups.specs.Members.{Member, member_on}
 use Rattle.groups.specs.GroupRow.{GroupRow, group_cells, group_rows}
 use Rattle.scope.specs.BoundQuery.{BoundItem, BoundQuery}
-use Rattle.resolve.specs.Conjuncts.{fragile_conjuncts, movable_conjuncts}
+use Rattle.query_parts.specs.Conjuncts.{fragile_conjuncts, movable_conjuncts}
 use Rattle.operators.specs.Combinations.{Combination, combinations, joined_cells, passing}
 use Rattle.report.specs.Ordered.{ordered}
 

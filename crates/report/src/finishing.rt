@@ -15,7 +15,7 @@ use crate::ungrouped::{items_stage, where_stage};
 use combo::Combo;
 use memory::{Failure, Heap};
 use operators::{World, run_nested};
-use resolve::fragile_conjuncts;
+use query_parts::fragile_conjuncts;
 use text::Items;
 use value::{Fault, Value};
 

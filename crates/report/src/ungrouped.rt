@@ -4,7 +4,7 @@ ghost use Rattle.std.specs.Prelude.{◌≡◌, map, option_map};
 ghost use Rattle.memory.specs.Gives.{Gives};
 ghost use Rattle.value.specs.Datum.{row_of};
 ghost use Rattle.expr.specs.View.{bound_expr_of};
-ghost use Rattle.resolve.specs.Conjuncts.{fragile_conjuncts};
+ghost use Rattle.query_parts.specs.Conjuncts.{fragile_conjuncts};
 ghost use Rattle.operators.specs.View.{world_of};
 ghost use Rattle.operators.specs.World.{stands_for};
 ghost use Rattle.report.specs.Answer as spec;

@@ -19,6 +19,10 @@ Leads ms r s (m ∷ path) = Contains ms m × (r ≡ m.member) × Leads ms m.grou
 abbrev pub HasNoLoop : List Membership → Type 0
 HasNoLoop ms = (r : Name) (m : Membership) (path : List Membership) → Leads ms r r (m ∷ path) → ⊥
 
+-- of a grant of a group to a member: the group belongs to the member already, so that a role would belong to itself
+abbrev pub closes_loop : List Membership → Name → Name → Bool
+closes_loop ms group member = belongs_by ms group member
+
 -- ---- the set of memberships
 
 abbrev pub is_membership : Name → Name → Membership → Bool

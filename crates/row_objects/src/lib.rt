@@ -14,7 +14,8 @@ pub use by_name::ByName;
 pub use grants::{add_grants, remove_grants};
 pub use indexes::{any_index, is_indexed, new_index};
 pub use memberships::{
-    MOST_ROLES, add_membership, belongs_by, law_belongs_by_paths, law_no_loop, remove_membership,
+    MOST_ROLES, add_membership, belongs_by, closes_loop, law_belongs_by_paths, law_no_loop,
+    remove_membership,
 };
 pub use names::{are_columns, column_named, has_name_twice, is_qualified, place};
 pub use objects::{Grant, Index, Membership, Policy, Role, Table, TableDef};

@@ -5,7 +5,7 @@ ghost use Rattle.std.specs.List.{list_all, list_any};
 ghost use Rattle.row_ast.specs.Ast.{Name};
 ghost use Rattle.row_objects.specs.Objects as spec;
 ghost use Rattle.row_objects.specs.Objects.{most_roles};
-ghost use Rattle.row_objects.specs.Memberships.{belongs_by, is_membership, with_membership, without_membership, Leads, HasNoLoop};
+ghost use Rattle.row_objects.specs.Memberships.{belongs_by, closes_loop, is_membership, with_membership, without_membership, Leads, HasNoLoop};
 ghost use Rattle.row_objects.specs.Reached.{is_marked, is_of_roles, next_group};
 ghost use Rattle.row_objects.specs.View.{membership_of};
 
@@ -68,6 +68,20 @@ pub fn belongs_by<V, A: Heap>(
         marks[next] = true;
     }
     is_marked(roles, &marks, s)
+}
+
+/// Whether a grant of the group to the member would make a role belong to itself: whether the group belongs to the member.
+pub fn closes_loop<V, A: Heap>(
+    roles: &ByName<V, A>,
+    memberships: &[Membership<A>],
+    group: &str,
+    member: &str,
+) -> bool
+    requires few { length roles.now ≤ most_roles }
+    requires known { list_all (is_of_roles roles.now) (map (λ m. membership_of m) memberships.now) ≡ true }
+    ensures { result ≡ closes_loop (map (λ m. membership_of m) memberships.now) group.now member.now }
+{
+    belongs_by(roles, memberships, group, member)
 }
 
 // ---- the set of memberships

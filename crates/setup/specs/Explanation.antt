@@ -3,7 +3,7 @@ use Rattle.std.specs.Prelude.{◌⊎◌, ℕ, List, [], ◌∷◌, ◌++◌, Opt
 use Rattle.std.specs.Io.KnownBytes.{Appends}
 use Rattle.row_ast.specs.Ast.{Name}
 use Rattle.catalog.specs.Catalog.{Catalog}
-use Rattle.report.specs.Reply.{Reply}
+use Rattle.replies.specs.Reply.{Reply}
 use Rattle.hints.specs.Hint.{hint}
 use Rattle.engine.specs.Admission.{refusal_to}
 use Rattle.setup.specs.Lines.{memory_line}

@@ -3,8 +3,8 @@
 ghost use Rattle.std.specs.Prelude.{◌≡◌, ◌≢◌, ◌⊎◌};
 ghost use Rattle.std.specs.Io.KnownBytes.{Appends};
 ghost use Rattle.output.specs.Taken.{one_more};
-ghost use Rattle.report.specs.Reply.{no_memory};
-ghost use Rattle.report.specs.ReplyText.{reply_text};
+ghost use Rattle.replies.specs.Reply.{no_memory};
+ghost use Rattle.replies.specs.ReplyText.{reply_text};
 ghost use Rattle.engine.specs.Answer.{reply_to};
 ghost use Rattle.engine.specs.Database.{rows_of};
 ghost use Rattle.engine.specs.Serving.{Begins, IsWhole};

@@ -10,10 +10,10 @@ use Rattle.scope.specs.declared.fault.NameFault.{NameFault}
 use Rattle.scope.specs.declared.lookup.Reach.{Reach}
 use Rattle.scope.specs.Entry.{Entry, fault}
 use Rattle.scope.specs.Lookup.{everywhere, on_reach}
-use Rattle.typing.specs.Offsets.{least_of}
+use Rattle.grouping.specs.Offsets.{least_of}
 use Rattle.typing.specs.Typing.{Typed, typed, typed_condition}
 use Rattle.expr.specs.Bound.{is_column}
-use Rattle.typing.specs.Grouping.{misplaced}
+use Rattle.grouping.specs.Grouping.{misplaced}
 
 -- ---- aggregates
 

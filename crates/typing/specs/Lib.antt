@@ -1,4 +1,2 @@
-pub mod Offsets
 pub mod Typing
-pub mod Grouping
 pub mod Clauses

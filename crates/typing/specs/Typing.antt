@@ -11,7 +11,7 @@ use Rattle.scope.specs.declared.fault.NameFault.{NameFault}
 use Rattle.scope.specs.declared.lookup.Reach.{Reach}
 use Rattle.scope.specs.Entry.{and_then, Entry}
 use Rattle.scope.specs.Lookup.{find_column}
-use Rattle.typing.specs.Offsets.{both}
+use Rattle.grouping.specs.Offsets.{both}
 
 -- a type, or none: that of NULL, which fits every type
 abbrev pub TypeOf : Type 0

@@ -6,10 +6,9 @@ ghost use Rattle.row_ast.specs.View.{condition_of, expr_of, query_of, select_ite
 ghost use Rattle.scope.specs.View.{entry_of};
 ghost use Rattle.typing.specs.Clauses as spec;
 
-use crate::grouping::{is_among, misplaced};
-use crate::offsets::least_of;
 use crate::types::{Typed, typed, typed_condition};
 use expr::ColumnId;
+use grouping::{is_among, least_of, misplaced};
 use memory::Heap;
 use row_ast::{Condition, Expr, Query, SelectItem, SelectList};
 use scope::{Entry, NameFault, Reach, everywhere, on_reach};

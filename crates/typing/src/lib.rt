@@ -2,8 +2,6 @@
 #![tactic(auto)]
 
 mod clauses;
-mod grouping;
-mod offsets;
 mod types;
 
 pub use clauses::{clause_fault, condition_fault, is_grouped};

@@ -7,8 +7,8 @@ ghost use Rattle.row_ast.specs.View.{arms as arms_of};
 ghost use Rattle.scope.specs.View.{entry_of};
 ghost use Rattle.typing.specs.Typing as spec;
 
-use crate::offsets::both;
 use expr::ColumnId;
+use grouping::both;
 use memory::Heap;
 use row_ast::{Arm, Expr};
 use scope::{Entry, NameFault, Reach, find_column};

@@ -1,4 +1,4 @@
--- The codes of refusals.
+-- The codes of refusals, and what they mean.
 use Rattle.std.specs.Prelude.{ℕ, List, codes}
 use Rattle.value.specs.declared.refusal.Refusal.{Refusal}
 use Rattle.value.specs.declared.refusal.Refusal.TheVariants as r
@@ -27,3 +27,28 @@ code_of r.InvalidColumnReference = codes "42P10"
 code_of r.InvalidObjectDefinition = codes "42P17"
 code_of r.OutOfMemory = codes "53200"
 code_of r.ProgramLimitExceeded = codes "54000"
+
+abbrev pub meaning_of : Refusal → List ℕ
+meaning_of r.ConnectionDoesNotExist = codes "no such session"
+meaning_of r.FeatureNotSupported = codes "not supported yet"
+meaning_of r.InvalidGrantOperation = codes "the grant would make a role belong to itself"
+meaning_of r.InvalidSqlStatementName = codes "no prepared statement has this name"
+meaning_of r.InvalidCursorName = codes "no cursor has this name"
+meaning_of r.InsufficientPrivilege = codes "the role lacks the privilege or does not own the table"
+meaning_of r.SyntaxError = codes "syntax error: the text cannot go on like this from here"
+meaning_of r.DuplicateColumn = codes "the table has two columns of this name"
+meaning_of r.AmbiguousColumn = codes "several columns have this name"
+meaning_of r.UndefinedColumn = codes "no column of this name is in reach here"
+meaning_of r.UndefinedObject = codes "no role or policy has this name"
+meaning_of r.DuplicateObject = codes "the role, the policy or the index is there already"
+meaning_of r.DuplicateAlias = codes "an earlier entry of FROM has this name; give one of them an alias"
+meaning_of r.GroupingError = codes "an aggregate may not be here, or the column is not in GROUP BY and under no aggregate"
+meaning_of r.DatatypeMismatch = codes "the value has the wrong type"
+meaning_of r.UndefinedTable = codes "no table, or no entry of FROM, has this name"
+meaning_of r.DuplicateCursor = codes "a cursor has this name already"
+meaning_of r.DuplicatePreparedStatement = codes "a prepared statement has this name already"
+meaning_of r.DuplicateTable = codes "a table has this name already"
+meaning_of r.InvalidColumnReference = codes "the answer has no column of this number"
+meaning_of r.InvalidObjectDefinition = codes "the condition of a policy may not be able to fail"
+meaning_of r.OutOfMemory = codes "out of memory"
+meaning_of r.ProgramLimitExceeded = codes "the text is too long or too deeply nested, or the schema has too many objects"

@@ -1,4 +1,4 @@
--- The kinds of faults: their order and their codes.
+-- The kinds of faults: their order, their codes, and what they mean.
 use Rattle.std.specs.Prelude.{ℕ, List, codes}
 use Rattle.std.specs.declared.cmp.Ordering.{Ordering}
 use Rattle.std.specs.Ordering.{nat_cmp, on}
@@ -18,3 +18,8 @@ abbrev pub kind_code : FaultKind → List ℕ
 kind_code Div0 = codes "22012"
 kind_code Range = codes "22003"
 kind_code BadText = codes "22P02"
+
+abbrev pub kind_meaning : FaultKind → List ℕ
+kind_meaning Div0 = codes "division by zero"
+kind_meaning Range = codes "the number does not fit in a bigint"
+kind_meaning BadText = codes "the text is no number or no truth value"

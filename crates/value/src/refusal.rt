@@ -1,81 +1,59 @@
 //! Why a text or a statement is refused.
 
 ghost use Rattle.std.specs.Prelude.{◌≡◌};
-ghost use Rattle.value.specs.Codes.{code_of};
+ghost use Rattle.value.specs.Codes.{code_of, meaning_of};
 
-use thiserror::Error;
+use std::error::Error;
+use std::fmt;
 
 /// The reasons, named after PostgreSQL's conditions (PostgreSQL: Error Codes), with the codes of this project's profile.
-#[derive(Clone, Copy, Debug, Error, PartialEq, Eq)]
+#[derive(Clone, Copy, Debug, PartialEq, Eq)]
 pub enum Refusal {
     /// No such session (08003).
-    #[error("session does not exist")]
     ConnectionDoesNotExist,
     /// Not supported yet (0A000).
-    #[error("not supported yet")]
     FeatureNotSupported,
     /// A grant that would make a role belong to itself (0LP01).
-    #[error("a role cannot belong to itself")]
     InvalidGrantOperation,
     /// No such prepared statement (26000).
-    #[error("prepared statement does not exist")]
     InvalidSqlStatementName,
     /// No such cursor (34000).
-    #[error("cursor does not exist")]
     InvalidCursorName,
     /// The actor may not do this (42501).
-    #[error("permission denied")]
     InsufficientPrivilege,
     /// No text of the grammar (42601).
-    #[error("syntax error")]
     SyntaxError,
     /// A column of that name is there already (42701).
-    #[error("column already exists")]
     DuplicateColumn,
     /// A name that several columns have (42702).
-    #[error("column name is ambiguous")]
     AmbiguousColumn,
     /// No such column (42703).
-    #[error("column does not exist")]
     UndefinedColumn,
     /// No such role or policy (42704).
-    #[error("object does not exist")]
     UndefinedObject,
     /// A role, a policy or an index of a column is there already (42710).
-    #[error("object already exists")]
     DuplicateObject,
     /// An alias that an earlier entry of FROM has (42712).
-    #[error("alias is used twice")]
     DuplicateAlias,
     /// An aggregate where none may be, or a column that is not grouped (42803).
-    #[error("wrong use of an aggregate or of a column that is not grouped")]
     GroupingError,
     /// A value of the wrong type (42804).
-    #[error("value of the wrong type")]
     DatatypeMismatch,
     /// No such table or alias (42P01).
-    #[error("table does not exist")]
     UndefinedTable,
     /// A cursor of that name is there already (42P03).
-    #[error("cursor already exists")]
     DuplicateCursor,
     /// A prepared statement of that name is there already (42P05).
-    #[error("prepared statement already exists")]
     DuplicatePreparedStatement,
     /// A table or an index of that name is there already (42P07).
-    #[error("table already exists")]
     DuplicateTable,
     /// A number that names no output column (42P10).
-    #[error("no output column of that number")]
     InvalidColumnReference,
     /// A policy whose expression can fail (42P17).
-    #[error("policy expression can fail")]
     InvalidObjectDefinition,
     /// Memory ran out (53200).
-    #[error("out of memory")]
     OutOfMemory,
     /// A limit is passed (54000).
-    #[error("limit exceeded")]
     ProgramLimitExceeded,
 }
 
@@ -110,4 +88,52 @@ impl Refusal {
             Refusal::ProgramLimitExceeded => "54000",
         }
     }
+
+    /// What the code means, in words.
+    pub fn meaning(self) -> &'static str
+        ensures { result.now ≡ meaning_of self }
+    {
+        match self {
+            Refusal::ConnectionDoesNotExist => "no such session",
+            Refusal::FeatureNotSupported => "not supported yet",
+            Refusal::InvalidGrantOperation => "the grant would make a role belong to itself",
+            Refusal::InvalidSqlStatementName => "no prepared statement has this name",
+            Refusal::InvalidCursorName => "no cursor has this name",
+            Refusal::InsufficientPrivilege =>
+                "the role lacks the privilege or does not own the table",
+            Refusal::SyntaxError => "syntax error: the text cannot go on like this from here",
+            Refusal::DuplicateColumn => "the table has two columns of this name",
+            Refusal::AmbiguousColumn => "several columns have this name",
+            Refusal::UndefinedColumn => "no column of this name is in reach here",
+            Refusal::UndefinedObject => "no role or policy has this name",
+            Refusal::DuplicateObject => "the role, the policy or the index is there already",
+            Refusal::DuplicateAlias =>
+                "an earlier entry of FROM has this name; give one of them an alias",
+            Refusal::GroupingError => {
+                "an aggregate may not be here, or the column is not in GROUP BY and under no aggregate"
+            }
+            Refusal::DatatypeMismatch => "the value has the wrong type",
+            Refusal::UndefinedTable => "no table, or no entry of FROM, has this name",
+            Refusal::DuplicateCursor => "a cursor has this name already",
+            Refusal::DuplicatePreparedStatement => "a prepared statement has this name already",
+            Refusal::DuplicateTable => "a table has this name already",
+            Refusal::InvalidColumnReference => "the answer has no column of this number",
+            Refusal::InvalidObjectDefinition => "the condition of a policy may not be able to fail",
+            Refusal::OutOfMemory => "out of memory",
+            Refusal::ProgramLimitExceeded =>
+                "the text is too long or too deeply nested, or the schema has too many objects",
+        }
+    }
 }
+
+impl fmt::Display for Refusal {
+    ghost use Rattle.std.specs.Prelude.{Some};
+
+    ghost output = { λ code. Some (meaning_of code) };
+
+    fn fmt<W: fmt::Write>(&self, f: &mut fmt::Formatter<W>) -> fmt::Result {
+        f.write_str(self.meaning())
+    }
+}
+
+impl Error for Refusal {}

@@ -4,7 +4,6 @@ use memory::Heap;
 use std::alloc::AllocError;
 use std::borrow::CowStr;
 use text::Text;
-use thiserror::Error;
 
 /// A value that owns its text.
 #[derive(Debug, Drop)]
@@ -44,16 +43,13 @@ pub enum ColType {
 }
 
 /// What an evaluation can fail by, in the order in which faults are reported.
-#[derive(Clone, Copy, Debug, Error, PartialEq, Eq, PartialOrd, Ord)]
+#[derive(Clone, Copy, Debug, PartialEq, Eq, PartialOrd, Ord)]
 pub enum FaultKind {
     /// Division by zero (22012).
-    #[error("division by zero")]
     Div0,
     /// A number out of range (22003).
-    #[error("number out of range")]
     Range,
     /// A text that is no value of the type (22P02).
-    #[error("text is no value of the type")]
     BadText,
 }
 

@@ -1,7 +1,7 @@
 use Rattle.std.proofs.Common.{◌∙◌, sym, ap, subst, inr, arith}
 use Rattle.std.specs.Io.KnownBytes.{Appends}
-use Rattle.report.specs.ReplyText.{reply_text}
-use Rattle.report.specs.View.{reply_of}
+use Rattle.replies.specs.ReplyText.{reply_text}
+use Rattle.replies.specs.View.{reply_of}
 use Rattle.engine.proofs.Statuses.{only_no_memory}
 use Rattle.engine.proofs.writing.write_reply.Goals as goal
 

@@ -5,7 +5,7 @@ use Rattle.scope.specs.View.{bound_query_of, entry_of}
 use Rattle.typing.specs.Clauses.{clause_fault}
 use Rattle.resolve.specs.Resolved.{ordered}
 use Rattle.resolve.specs.View.{bound_of}
-use Rattle.resolve.proofs.Parts.{fault_found, none_found}
+use Rattle.resolve.proofs.FaultFirst.{fault_found, none_found}
 use Rattle.resolve.proofs.resolved.checked.Goals as goal
 
 pub returns-in-Some : goal.returns-in-Some

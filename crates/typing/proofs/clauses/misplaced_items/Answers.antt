@@ -2,8 +2,8 @@ use Rattle.std.proofs.Common.{◌∙◌, ap, refl, arith, map}
 use Rattle.row_ast.specs.View.{select_item_of}
 use Rattle.scope.specs.View.{entry_of}
 use Rattle.scope.specs.Lookup.{everywhere}
-use Rattle.typing.specs.Offsets.{least_of}
-use Rattle.typing.specs.Grouping.{misplaced}
+use Rattle.grouping.specs.Offsets.{least_of}
+use Rattle.grouping.specs.Grouping.{misplaced}
 use Rattle.typing.specs.Clauses.{misplaced_items}
 use Rattle.scope.proofs.Lists.{known_next}
 use Rattle.typing.proofs.Walks.{known_over}

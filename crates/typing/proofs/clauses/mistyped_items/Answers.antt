@@ -2,7 +2,7 @@ use Rattle.std.proofs.Common.{◌∙◌, ap, refl, arith, map}
 use Rattle.row_ast.specs.View.{select_item_of}
 use Rattle.scope.specs.View.{entry_of}
 use Rattle.scope.specs.Lookup.{everywhere}
-use Rattle.typing.specs.Offsets.{least_of}
+use Rattle.grouping.specs.Offsets.{least_of}
 use Rattle.typing.specs.Typing.{typed}
 use Rattle.typing.specs.Clauses.{mistyped, mistyped_items}
 use Rattle.scope.proofs.Lists.{known_next}

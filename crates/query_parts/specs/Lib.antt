@@ -1,0 +1,2 @@
+pub mod Conjuncts
+pub mod Needed

@@ -1,0 +1,3 @@
+pub mod Reply
+pub mod ReplyText
+pub mod View

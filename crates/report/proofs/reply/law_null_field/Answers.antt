@@ -1,5 +1,0 @@
-use Rattle.report.proofs.Fields.{null_field}
-use Rattle.report.proofs.reply.law_null_field.Goals as goal
-
-pub returns : goal.returns
-returns c = null_field
