@@ -2,9 +2,10 @@
 
 use access::RequiredPrivilege;
 use catalog::Catalog;
+use from_clause::entries;
 use memory::{Failure, Heap, boxed};
 use query_parts::needed;
-use resolve::{bind, bind_query, entries};
+use resolve::{bind, bind_query};
 use row_ast::{Query, Statement};
 use scope::NameFault;
 use std::alloc::{AllocError, Global};

@@ -55,7 +55,10 @@ impl<A: Heap> Model for Store<A> {
 }
 
 /// The contents of the table of that name.
-pub(crate) fn contents_of<'a, A: Heap>(tables: &'a [Stored<A>], name: &str) -> Option<&'a Table<A>>
+pub(crate) fn contents_named<'a, A: Heap>(
+    tables: &'a [Stored<A>],
+    name: &str,
+) -> Option<&'a Table<A>>
     ensures { option_map (λ t. t.now) result ≡ contents_named (map (λ t. stored_of t) tables.now) name.now }
 {
     match table_place(tables, name) {
@@ -176,14 +179,14 @@ impl<A: Heap> Store<A> {
     pub(crate) fn contents(&self, name: &str) -> Option<&Table<A>>
         ensures { option_map (λ t. t.now) result ≡ contents_named self.now.tables name.now }
     {
-        contents_of(&self.tables, name)
+        contents_named(&self.tables, name)
     }
 
     /// The columns of the table of that name; none where it is not there.
     pub fn columns(&self, table: &str) -> &[Column<A>]
         ensures { map (λ c. column_of c) result.now ≡ columns_in self.now.tables table.now }
     {
-        match contents_of(&self.tables, table) {
+        match contents_named(&self.tables, table) {
             Some(contents) => contents.columns(),
             None => &[],
         }

@@ -57,7 +57,7 @@ fn write_reply<A: Heap, W: Out>(
 }
 
 /// Writes the reply to a role's text, and gives its status: 0 rows, 3 a refused text, 4 a denial, 5 a fault, 6 an unknown
-/// role, 7 out of memory, 8 a writer that failed. Nothing is written before the reply is whole.
+/// role, 7 out of memory, 8 a writer that failed. Nothing is written before the reply is whole, and the writer is not flushed.
 /// `serve(alloc, &store, "root", "SELECT nosuch FROM t", &mut out)` writes `refused 42703 at 7` and gives 3.
 pub fn serve<A: Heap, W: Out>(alloc: A, store: &Store<A>, role: &str, text: &str, out: &mut W) -> u8
     // The whole reply, and its status.

@@ -16,9 +16,11 @@ pub enum Reply<A: Heap> {
         /// The byte of the text where it is refused, from 0, if it is refused at a byte.
         offset: Option<u32>,
     },
-    /// SELECT is missing on this column of this table, or on each part of it.
+    /// A privilege is missing (42501).
     Denied {
+        /// The column on which SELECT is missing, or none where it is missing on every part of the table.
         column: Option<Text<A>>,
+        /// The table.
         table: Text<A>,
     },
     /// The evaluation of an expression failed.
@@ -26,9 +28,11 @@ pub enum Reply<A: Heap> {
         /// Where, and by what.
         fault: Fault,
     },
-    /// The headings, and the rows in order.
+    /// The rows of the answer.
     Rows {
+        /// The name of each column.
         headings: Items<Text<A>, A>,
+        /// The rows in order, each with a value for each heading.
         rows: Items<Items<Value<A>, A>, A>,
     },
 }

@@ -1,5 +1,5 @@
 -- What follows a check.
-use Rattle.std.proofs.Common.{◌≡◌, Option, Some, None, Result, Ok, Err, refl}
+use Rattle.std.proofs.Common.{◌≡◌, Option, Some, None, Result, Err, refl}
 use Rattle.scope.specs.declared.fault.NameFault.{NameFault}
 use Rattle.scope.specs.Entry.{and_then}
 use Rattle.resolve.specs.Resolved.{unless_fault}

@@ -1,4 +1,3 @@
-pub mod Entries
 pub mod BoundQueries
 pub mod Resolved
 pub mod View

@@ -7,7 +7,7 @@ use Rattle.scope.specs.declared.query.OutputKey.{OutputKey}
 use Rattle.scope.specs.Entry.{Entry, and_then}
 use Rattle.scope.specs.BoundQuery.{BoundQuery}
 use Rattle.typing.specs.Clauses.{clause_fault}
-use Rattle.resolve.specs.Entries.{entries}
+use Rattle.from_clause.specs.Entries.{entries}
 use Rattle.resolve.specs.BoundQueries.{bound_query}
 use Rattle.resolve.specs.OrderBy.{output_keys}
 

@@ -1,14 +1,8 @@
--- What the tables of FROM and the resolved queries of the program are.
-use Rattle.std.specs.Prelude.{map, option_map}
-use Rattle.row_ast.specs.View.{condition_of, table_ref_of}
+-- What the resolved queries of the program are.
+use Rattle.std.specs.Prelude.{map}
 use Rattle.scope.specs.View.{bound_query_of, entry_of}
-use Rattle.resolve.specs.declared.from.JoinedTable as joined
 use Rattle.resolve.specs.declared.resolved.Bound as bound
-use Rattle.resolve.specs.Entries.{JoinedTable}
 use Rattle.resolve.specs.Resolved.{Bound}
-
-abbrev pub joined_table_of : {A : Type 0} → joined.JoinedTable A → JoinedTable
-joined_table_of j = record { table = table_ref_of j.table.now; first = j.first; on = option_map (λ c. condition_of c.now) j.on }
 
 abbrev pub bound_of : {A : Type 0} → bound.Bound A → Bound
 bound_of b = record { entries = map entry_of b.entries; query = bound_query_of b.query.value }

@@ -1,11 +1,9 @@
 //! What a query stands for in a catalogue.
 #![tactic(auto)]
 
-mod from;
 mod order_by;
 mod queries;
 mod resolved;
 
-pub use from::entries;
 pub use queries::{bind_condition, bind_query};
 pub use resolved::{Bound, bind};

@@ -7,10 +7,10 @@ ghost use Rattle.scope.specs.View.{bound_query_of, entry_of};
 ghost use Rattle.resolve.specs.Resolved as spec;
 ghost use Rattle.resolve.specs.View.{bound_of};
 
-use crate::from::entries;
 use crate::order_by::output_keys;
 use crate::queries::bind_query;
 use catalog::Catalog;
+use from_clause::entries;
 use memory::{Failure, Heap};
 use row_ast::Query;
 use scope::{BoundQuery, Entry, NameFault, OutputKey};

@@ -1,7 +1,6 @@
 //! Schema statements, from tokens.
 #![tactic(auto)]
 
-mod create;
 mod statements;
 
 pub use statements::{schema, statement};

@@ -11,9 +11,9 @@ ghost use Rattle.row_statements.specs.Schemas as rules;
 ghost use Rattle.row_ast.specs.View.{statement_of};
 ghost use Rattle.row_statements.specs.View.{granting_of};
 
-use crate::create::create;
 use memory::Heap;
 use row_ast::{Grant, RowSecurity, Statement};
+use row_creates::create;
 use row_reader::names::{name, names};
 use row_reader::reader::{Parsed, Reader, before, expect, sees};
 use row_tokens::{Token, TokenKind};
@@ -196,7 +196,7 @@ fn drop_policy<'t, A: Heap>(reader: Reader<A>, tokens: &'t [Token<'t>]) -> Parse
 }
 
 /// One of these statements.
-#[tactic(auto, unfolding(crate::specs::Schemas::statement, crate::specs::Schemas::create, crate::specs::Schemas::alter, crate::specs::Schemas::grant, crate::specs::Schemas::revoke))]
+#[tactic(auto, unfolding(crate::specs::Schemas::statement, row_creates::specs::Creates::create, crate::specs::Schemas::alter, crate::specs::Schemas::grant, crate::specs::Schemas::revoke))]
 pub fn statement<'t, A: Heap>(
     reader: Reader<A>,
     tokens: &'t [Token<'t>],
@@ -230,7 +230,7 @@ fn ended_statement<'t, A: Heap>(
 }
 
 // Whether a statement comes next.
-#[tactic(auto, unfolding(crate::specs::Schemas::ended_statement, crate::specs::Schemas::statement, crate::specs::Schemas::create, crate::specs::Schemas::alter, crate::specs::Schemas::grant, crate::specs::Schemas::revoke, crate::specs::Schemas::drop))]
+#[tactic(auto, unfolding(crate::specs::Schemas::ended_statement, crate::specs::Schemas::statement, row_creates::specs::Creates::create, crate::specs::Schemas::alter, crate::specs::Schemas::grant, crate::specs::Schemas::revoke, crate::specs::Schemas::drop))]
 fn sees_statement(tokens: &[Token<'_>]) -> bool
     ensures { result ≡ head_in kind_of (first language nested_first rules.ended_statement) (words_of tokens.now) }
 {

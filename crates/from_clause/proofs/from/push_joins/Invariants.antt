@@ -1,8 +1,8 @@
 use Rattle.std.proofs.Common.{◌≡◌, ◌++◌, drop, map}
 use Rattle.row_ast.specs.View.{join_of}
-use Rattle.resolve.specs.Entries.{joined_by}
-use Rattle.resolve.specs.View.{joined_table_of}
-use Rattle.resolve.proofs.from.push_joins.Given as goal
+use Rattle.from_clause.specs.Entries.{joined_by}
+use Rattle.from_clause.specs.View.{joined_table_of}
+use Rattle.from_clause.proofs.from.push_joins.Given as goal
 
 abbrev pub invariant-loop-join : goal.invariant-loop-join
 invariant-loop-join g l =

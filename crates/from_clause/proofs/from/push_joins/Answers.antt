@@ -1,9 +1,9 @@
 use Rattle.std.proofs.Common.{arith}
 use Rattle.row_ast.specs.View.{join_of}
-use Rattle.resolve.specs.Entries.{joined_by}
-use Rattle.resolve.specs.View.{joined_table_of}
+use Rattle.from_clause.specs.Entries.{joined_by}
+use Rattle.from_clause.specs.View.{joined_table_of}
 use Rattle.scope.proofs.Lists.{map_next, map_over, pushed}
-use Rattle.resolve.proofs.from.push_joins.Goals as goal
+use Rattle.from_clause.proofs.from.push_joins.Goals as goal
 
 pub loop-join-preserved : goal.loop-join-preserved
 loop-join-preserved g c =

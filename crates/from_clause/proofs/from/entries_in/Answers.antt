@@ -1,11 +1,11 @@
 use Rattle.std.proofs.Common.{refl, map, ◌∷◌, [], ◌++◌}
-use Rattle.resolve.specs.Entries.{entry_in, entries_in}
+use Rattle.from_clause.specs.Entries.{entry_in, entries_in}
 use Rattle.scope.specs.View.{entry_of}
-use Rattle.resolve.specs.View.{joined_table_of}
+use Rattle.from_clause.specs.View.{joined_table_of}
 use Rattle.scope.specs.declared.entry.Entry.{Entry}
 use Rattle.scope.proofs.Lists.{pushed}
 use Rattle.scope.proofs.Found.{failed, walk_opened, walk_next}
-use Rattle.resolve.proofs.from.entries_in.Goals as goal
+use Rattle.from_clause.proofs.from.entries_in.Goals as goal
 
 pub returns-in-Err : goal.returns-in-Err
 returns-in-Err g c =

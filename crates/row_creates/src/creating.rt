@@ -5,7 +5,7 @@ ghost use Rattle.row_grammar.specs.Limits.{reads};
 ghost use Rattle.row_tokens.specs.View.{word_of, words_of};
 ghost use Rattle.row_reader.specs.Expressions.{grammar};
 ghost use Rattle.row_reader.specs.Reading.{Parses};
-ghost use Rattle.row_statements.specs.Schemas as rules;
+ghost use Rattle.row_creates.specs.Creates as rules;
 ghost use Rattle.row_ast.specs.View.{statement_of};
 ghost use Rattle.value.specs.Columns as columns;
 ghost use Rattle.value.specs.Columns.{column_of};
@@ -22,7 +22,7 @@ use text::{Items, Text};
 use value::{ColType, Column};
 
 // `[SUPERUSER]`.
-#[tactic(auto, unfolding(crate::specs::Schemas::superuser))]
+#[tactic(auto, unfolding(crate::specs::Creates::superuser))]
 fn superuser<'t, A: Heap>(reader: Reader<A>, tokens: &'t [Token<'t>]) -> Parsed<'t, bool>
     ensures { Parses (λ t. t) rules.superuser reader tokens.now result }
 {
@@ -34,7 +34,7 @@ fn superuser<'t, A: Heap>(reader: Reader<A>, tokens: &'t [Token<'t>]) -> Parsed<
 }
 
 // `[BYPASSRLS]`.
-#[tactic(auto, unfolding(crate::specs::Schemas::bypass_rls))]
+#[tactic(auto, unfolding(crate::specs::Creates::bypass_rls))]
 fn bypass_rls<'t, A: Heap>(reader: Reader<A>, tokens: &'t [Token<'t>]) -> Parsed<'t, bool>
     ensures { Parses (λ t. t) rules.bypass_rls reader tokens.now result }
 {
@@ -46,7 +46,7 @@ fn bypass_rls<'t, A: Heap>(reader: Reader<A>, tokens: &'t [Token<'t>]) -> Parsed
 }
 
 // `ROLE name [SUPERUSER] [BYPASSRLS]`.
-#[tactic(auto, unfolding(crate::specs::Schemas::new_role))]
+#[tactic(auto, unfolding(crate::specs::Creates::new_role))]
 fn new_role<'t, A: Heap>(reader: Reader<A>, tokens: &'t [Token<'t>]) -> Parsed<'t, Statement<A>>
     ensures { Parses (λ t. statement_of t) rules.new_role reader tokens.now result }
 {
@@ -63,7 +63,7 @@ fn new_role<'t, A: Heap>(reader: Reader<A>, tokens: &'t [Token<'t>]) -> Parsed<'
 }
 
 // `bigint`, `text` or `boolean`.
-#[tactic(auto, unfolding(crate::specs::Schemas::column_type))]
+#[tactic(auto, unfolding(crate::specs::Creates::column_type))]
 fn column_type<'t, A: Heap>(reader: Reader<A>, tokens: &'t [Token<'t>]) -> Parsed<'t, ColType>
     ensures { Parses (λ t. t) rules.column_type reader tokens.now result }
 {
@@ -76,7 +76,7 @@ fn column_type<'t, A: Heap>(reader: Reader<A>, tokens: &'t [Token<'t>]) -> Parse
 }
 
 // `[NOT NULL]`.
-#[tactic(auto, unfolding(crate::specs::Schemas::not_null))]
+#[tactic(auto, unfolding(crate::specs::Creates::not_null))]
 fn not_null<'t, A: Heap>(reader: Reader<A>, tokens: &'t [Token<'t>]) -> Parsed<'t, bool>
     ensures { Parses (λ t. t) rules.not_null reader tokens.now result }
 {
@@ -100,7 +100,7 @@ impl<A: Heap> Parser<A> for ColumnDefParser {
 
     ghost rule = { rules.column_def };
 
-    #[tactic(auto, unfolding(crate::specs::Schemas::column_def))]
+    #[tactic(auto, unfolding(crate::specs::Creates::column_def))]
     fn parse<'t>(reader: Reader<A>, tokens: &'t [Token<'t>]) -> Parsed<'t, Column<A>>
         ensures { Parses (λ c. column_of c) rules.column_def reader tokens.now result }
     {
@@ -119,7 +119,7 @@ impl<A: Heap> Parser<A> for ColumnDefParser {
 }
 
 // `name type [NOT NULL] {, name type [NOT NULL]}`.
-#[tactic(auto, unfolding(crate::specs::Schemas::column_defs))]
+#[tactic(auto, unfolding(crate::specs::Creates::column_defs))]
 fn column_defs<'t, A: Heap>(
     reader: Reader<A>,
     tokens: &'t [Token<'t>],
@@ -130,7 +130,7 @@ fn column_defs<'t, A: Heap>(
 }
 
 // `TABLE name ( columns )`.
-#[tactic(auto, unfolding(crate::specs::Schemas::new_table))]
+#[tactic(auto, unfolding(crate::specs::Creates::new_table))]
 fn new_table<'t, A: Heap>(reader: Reader<A>, tokens: &'t [Token<'t>]) -> Parsed<'t, Statement<A>>
     ensures { Parses (λ t. statement_of t) rules.new_table reader tokens.now result }
 {
@@ -143,7 +143,7 @@ fn new_table<'t, A: Heap>(reader: Reader<A>, tokens: &'t [Token<'t>]) -> Parsed<
 }
 
 // `INDEX name ON table ( column )`.
-#[tactic(auto, unfolding(crate::specs::Schemas::new_index))]
+#[tactic(auto, unfolding(crate::specs::Creates::new_index))]
 fn new_index<'t, A: Heap>(reader: Reader<A>, tokens: &'t [Token<'t>]) -> Parsed<'t, Statement<A>>
     ensures { Parses (λ t. statement_of t) rules.new_index reader tokens.now result }
 {
@@ -163,7 +163,7 @@ fn new_index<'t, A: Heap>(reader: Reader<A>, tokens: &'t [Token<'t>]) -> Parsed<
 }
 
 // `[AS PERMISSIVE | AS RESTRICTIVE]`; whether restrictive.
-#[tactic(auto, unfolding(crate::specs::Schemas::strength))]
+#[tactic(auto, unfolding(crate::specs::Creates::strength))]
 fn strength<'t, A: Heap>(reader: Reader<A>, tokens: &'t [Token<'t>]) -> Parsed<'t, bool>
     ensures { Parses (λ t. t) rules.strength reader tokens.now result }
 {
@@ -181,7 +181,7 @@ fn strength<'t, A: Heap>(reader: Reader<A>, tokens: &'t [Token<'t>]) -> Parsed<'
 }
 
 // `[FOR ALL | FOR SELECT]`.
-#[tactic(auto, unfolding(crate::specs::Schemas::command))]
+#[tactic(auto, unfolding(crate::specs::Creates::command))]
 fn command<'t, A: Heap>(reader: Reader<A>, tokens: &'t [Token<'t>]) -> Parsed<'t, Option<Token<'t>>>
     ensures { Parses (λ t. option_map (λ w. word_of w) t) rules.command reader tokens.now result }
 {
@@ -199,7 +199,7 @@ fn command<'t, A: Heap>(reader: Reader<A>, tokens: &'t [Token<'t>]) -> Parsed<'t
 }
 
 // `[TO names]`, and everyone where no roles are named.
-#[tactic(auto, unfolding(crate::specs::Schemas::policy_roles))]
+#[tactic(auto, unfolding(crate::specs::Creates::policy_roles))]
 fn policy_roles<'t, A: Heap>(
     reader: Reader<A>,
     tokens: &'t [Token<'t>],
@@ -217,7 +217,7 @@ fn policy_roles<'t, A: Heap>(
 }
 
 // `USING ( condition )`.
-#[tactic(auto, unfolding(crate::specs::Schemas::using))]
+#[tactic(auto, unfolding(crate::specs::Creates::using))]
 fn using<'t, A: Heap>(reader: Reader<A>, tokens: &'t [Token<'t>]) -> Parsed<'t, Located<A>>
     ensures { Parses (λ t. located t) rules.using reader tokens.now result }
 {
@@ -229,7 +229,7 @@ fn using<'t, A: Heap>(reader: Reader<A>, tokens: &'t [Token<'t>]) -> Parsed<'t, 
 }
 
 // `POLICY name ON table [AS ..] [FOR ..] [TO roles] USING ( condition )`.
-#[tactic(auto, unfolding(crate::specs::Schemas::new_policy))]
+#[tactic(auto, unfolding(crate::specs::Creates::new_policy))]
 fn new_policy<'t, A: Heap>(reader: Reader<A>, tokens: &'t [Token<'t>]) -> Parsed<'t, Statement<A>>
     ensures { Parses (λ t. statement_of t) rules.new_policy reader tokens.now result }
 {
@@ -252,7 +252,7 @@ fn new_policy<'t, A: Heap>(reader: Reader<A>, tokens: &'t [Token<'t>]) -> Parsed
 }
 
 /// `CREATE` and a role, a table, an index or a policy.
-#[tactic(auto, unfolding(crate::specs::Schemas::create, crate::specs::Schemas::new_role, crate::specs::Schemas::new_table, crate::specs::Schemas::new_index))]
+#[tactic(auto, unfolding(crate::specs::Creates::create, crate::specs::Creates::new_role, crate::specs::Creates::new_table, crate::specs::Creates::new_index))]
 pub fn create<'t, A: Heap>(reader: Reader<A>, tokens: &'t [Token<'t>]) -> Parsed<'t, Statement<A>>
     ensures { Parses (λ t. statement_of t) rules.create reader tokens.now result }
 {

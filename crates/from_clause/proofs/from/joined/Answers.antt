@@ -1,8 +1,8 @@
 use Rattle.std.proofs.Common.{refl}
 use Rattle.row_ast.specs.View.{from_item_of}
-use Rattle.resolve.specs.Entries.{joined, with_item}
+use Rattle.from_clause.specs.Entries.{joined, with_item}
 use Rattle.scope.proofs.Lists.{known_next}
-use Rattle.resolve.proofs.from.joined.Goals as goal
+use Rattle.from_clause.proofs.from.joined.Goals as goal
 
 pub loop-item-preserved : goal.loop-item-preserved
 loop-item-preserved g c =

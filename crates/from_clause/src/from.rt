@@ -4,9 +4,9 @@ ghost use Rattle.std.specs.Prelude.{◌≡◌, ◌++◌, OnOk, IfOk, [], Some, m
 ghost use Rattle.memory.specs.Gives.{Gives};
 ghost use Rattle.row_ast.specs.View.{from_item_of, join_of, table_ref_of};
 ghost use Rattle.row_objects.specs.View.{table_of};
-ghost use Rattle.resolve.specs.Entries as spec;
+ghost use Rattle.from_clause.specs.Entries as spec;
 ghost use Rattle.scope.specs.View.{entry_of};
-ghost use Rattle.resolve.specs.View.{joined_table_of};
+ghost use Rattle.from_clause.specs.View.{joined_table_of};
 
 use catalog::Catalog;
 use memory::{Failure, Heap};

@@ -1,9 +1,9 @@
 use Rattle.std.proofs.Common.{refl, ap, ◌∙◌, ◌++◌, map}
 use Rattle.row_ast.specs.View.{join_of, from_item_of}
-use Rattle.resolve.specs.Entries.{first_table, joined_by}
-use Rattle.resolve.specs.View.{joined_table_of}
+use Rattle.from_clause.specs.Entries.{first_table, joined_by}
+use Rattle.from_clause.specs.View.{joined_table_of}
 use Rattle.scope.proofs.Lists.{numbered}
-use Rattle.resolve.proofs.from.push_item.Goals as goal
+use Rattle.from_clause.proofs.from.push_item.Goals as goal
 
 pub returns : goal.returns
 returns g c =

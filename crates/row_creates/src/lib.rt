@@ -1,0 +1,6 @@
+//! CREATE statements, from tokens.
+#![tactic(auto)]
+
+mod creating;
+
+pub use creating::create;
