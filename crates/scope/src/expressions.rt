@@ -38,11 +38,18 @@ fn copies<A: Heap>(alloc: A, values: &[Value<A>]) -> Result<Items<Value<A>, A>, 
     Ok(copies)
 }
 
+// A node in a box of its own.
+fn made<A: Heap>(alloc: A, node: BoundExpr<A>) -> BindResult<A>
+    ensures { (stated : Result SpecExpr SpecFault) → stated ≡ Ok (bound_expr_of node) → Gives (λ b. bound_expr_of b.value) result stated }
+{
+    Ok(boxed(alloc, node)?)
+}
+
 fn conjunction<A: Heap>(alloc: A, offset: u32, members: Members<A>) -> BindResult<A>
     ensures { (stated : Result (List SpecExpr) SpecFault) → Gives (λ v. map bound_expr_of v.items) members stated → Gives (λ b. bound_expr_of b.value) result (spec.conjunction offset stated) }
 {
     match members {
-        Ok(members) => Ok(boxed(alloc, BoundExpr::And { offset, members })?),
+        Ok(members) => made(alloc, BoundExpr::And { offset, members }),
         Err(failure) => Err(failure),
     }
 }
@@ -51,7 +58,7 @@ fn disjunction<A: Heap>(alloc: A, offset: u32, members: Members<A>) -> BindResul
     ensures { (stated : Result (List SpecExpr) SpecFault) → Gives (λ v. map bound_expr_of v.items) members stated → Gives (λ b. bound_expr_of b.value) result (spec.disjunction offset stated) }
 {
     match members {
-        Ok(members) => Ok(boxed(alloc, BoundExpr::Or { offset, members })?),
+        Ok(members) => made(alloc, BoundExpr::Or { offset, members }),
         Err(failure) => Err(failure),
     }
 }
@@ -62,14 +69,14 @@ fn without_otherwise<A: Heap>(alloc: A, offset: u32, arms: Arms<A>) -> BindResul
     match arms {
         Ok(arms) => {
             let otherwise = None;
-            Ok(boxed(
+            made(
                 alloc,
                 BoundExpr::Case {
                     offset,
                     arms,
                     otherwise,
                 },
-            )?)
+            )
         }
         Err(failure) => Err(failure),
     }
@@ -90,14 +97,14 @@ fn with_otherwise<A: Heap>(
     match otherwise {
         Ok(value) => {
             let otherwise = Some(value);
-            Ok(boxed(
+            made(
                 alloc,
                 BoundExpr::Case {
                     offset,
                     arms,
                     otherwise,
                 },
-            )?)
+            )
         }
         Err(failure) => Err(failure),
     }
@@ -131,18 +138,18 @@ pub fn bind_expr<A: Heap>(
 {
     match expression {
         Expr::Column(column) => match find_column(entries, reach, column) {
-            Ok(id) => Ok(boxed(alloc, BoundExpr::Column(id))?),
+            Ok(id) => made(alloc, BoundExpr::Column(id)),
             Err(fault) => Err(Failure::Fault(fault)),
         },
         Expr::Literal(value) => {
             let value = value.copy(alloc)?;
-            Ok(boxed(alloc, BoundExpr::Literal(value))?)
+            made(alloc, BoundExpr::Literal(value))
         }
-        Expr::CurrentUser => Ok(boxed(alloc, BoundExpr::CurrentUser)?),
+        Expr::CurrentUser => made(alloc, BoundExpr::CurrentUser),
         Expr::Negate { offset, operand } => {
             let offset = *offset;
             let operand = bind_expr(alloc, entries, reach, operand)?;
-            Ok(boxed(alloc, BoundExpr::Negate { offset, operand })?)
+            made(alloc, BoundExpr::Negate { offset, operand })
         }
         Expr::Arithmetic {
             operator,
@@ -158,7 +165,7 @@ pub fn bind_expr<A: Heap>(
                 left,
                 right,
             };
-            Ok(boxed(alloc, whole)?)
+            made(alloc, whole)
         }
         Expr::Comparison {
             operator,
@@ -174,7 +181,7 @@ pub fn bind_expr<A: Heap>(
                 left,
                 right,
             };
-            Ok(boxed(alloc, whole)?)
+            made(alloc, whole)
         }
         Expr::Between {
             negated,
@@ -193,7 +200,7 @@ pub fn bind_expr<A: Heap>(
                 low,
                 high,
             };
-            Ok(boxed(alloc, whole)?)
+            made(alloc, whole)
         }
         Expr::In {
             negated,
@@ -209,7 +216,7 @@ pub fn bind_expr<A: Heap>(
                 values,
                 operand,
             };
-            Ok(boxed(alloc, whole)?)
+            made(alloc, whole)
         }
         Expr::IsNull {
             negated,
@@ -222,12 +229,12 @@ pub fn bind_expr<A: Heap>(
                 offset: *offset,
                 operand,
             };
-            Ok(boxed(alloc, whole)?)
+            made(alloc, whole)
         }
         Expr::Not { offset, operand } => {
             let offset = *offset;
             let operand = bind_expr(alloc, entries, reach, operand)?;
-            Ok(boxed(alloc, BoundExpr::Not { offset, operand })?)
+            made(alloc, BoundExpr::Not { offset, operand })
         }
         Expr::And { offset, members } => {
             conjunction(alloc, *offset, bind_members(alloc, entries, reach, members))
@@ -246,7 +253,7 @@ pub fn bind_expr<A: Heap>(
                 to: *to,
                 operand,
             };
-            Ok(boxed(alloc, whole)?)
+            made(alloc, whole)
         }
         Expr::Case {
             offset,
@@ -262,7 +269,7 @@ pub fn bind_expr<A: Heap>(
                 None => without_otherwise(alloc, *offset, arms),
             }
         }
-        Expr::CountStar { offset } => Ok(boxed(alloc, BoundExpr::CountStar { offset: *offset })?),
+        Expr::CountStar { offset } => made(alloc, BoundExpr::CountStar { offset: *offset }),
         Expr::Call {
             aggregate,
             offset,
@@ -274,7 +281,7 @@ pub fn bind_expr<A: Heap>(
                 offset: *offset,
                 argument,
             };
-            Ok(boxed(alloc, whole)?)
+            made(alloc, whole)
         }
     }
 }

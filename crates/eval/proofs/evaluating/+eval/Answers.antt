@@ -179,3 +179,39 @@ disjunction-loop-member-init g t c = record {
   memory = λ p. p;
   lighter = omega arith;
 }
+
+pub eval-eval-requires : goal.eval-eval-requires
+eval-eval-requires g t c κs within = let w = ap weight (ap bound_expr_of c.in-Negate.is) in search rules
+
+pub eval-eval-requires-in-Arithmetic : goal.eval-eval-requires-in-Arithmetic
+eval-eval-requires-in-Arithmetic g t c κs within = let w = ap weight (ap bound_expr_of c.in-Arithmetic.is) in search rules
+
+pub eval-eval-requires-in-Arithmetic-2 : goal.eval-eval-requires-in-Arithmetic-2
+eval-eval-requires-in-Arithmetic-2 g t c κs within = let w = ap weight (ap bound_expr_of c.in-Arithmetic.is) in search rules
+
+pub eval-eval-requires-in-Comparison : goal.eval-eval-requires-in-Comparison
+eval-eval-requires-in-Comparison g t c κs within = let w = ap weight (ap bound_expr_of c.in-Comparison.is) in search rules
+
+pub eval-eval-requires-in-Comparison-2 : goal.eval-eval-requires-in-Comparison-2
+eval-eval-requires-in-Comparison-2 g t c κs within = let w = ap weight (ap bound_expr_of c.in-Comparison.is) in search rules
+
+pub eval-eval-requires-in-Between : goal.eval-eval-requires-in-Between
+eval-eval-requires-in-Between g t c κs within = let w = ap weight (ap bound_expr_of c.in-Between.is) in search rules
+
+pub eval-eval-requires-in-Between-2 : goal.eval-eval-requires-in-Between-2
+eval-eval-requires-in-Between-2 g t c κs within = let w = ap weight (ap bound_expr_of c.in-Between.is) in search rules
+
+pub eval-eval-requires-in-Between-3 : goal.eval-eval-requires-in-Between-3
+eval-eval-requires-in-Between-3 g t c κs within = let w = ap weight (ap bound_expr_of c.in-Between.is) in search rules
+
+pub eval-eval-requires-in-In : goal.eval-eval-requires-in-In
+eval-eval-requires-in-In g t c κs within = let w = ap weight (ap bound_expr_of c.in-In.is) in search rules
+
+pub eval-eval-requires-in-IsNull : goal.eval-eval-requires-in-IsNull
+eval-eval-requires-in-IsNull g t c κs within = let w = ap weight (ap bound_expr_of c.in-IsNull.is) in search rules
+
+pub eval-eval-requires-in-Not : goal.eval-eval-requires-in-Not
+eval-eval-requires-in-Not g t c κs within = let w = ap weight (ap bound_expr_of c.in-Not.is) in search rules
+
+pub eval-eval-requires-in-Cast : goal.eval-eval-requires-in-Cast
+eval-eval-requires-in-Cast g t c κs within = let w = ap weight (ap bound_expr_of c.in-Cast.is) in search rules

@@ -2,6 +2,7 @@ use Rattle.std.proofs.Common.{ap, refl, rules, arith}
 use Rattle.expr.specs.Aggregates.{aggregates, all_aggregates, arms_aggregates}
 use Rattle.expr.specs.Weights.{weight}
 use Rattle.expr.proofs.Walks.{Gathers, parts_step, parts_over, arm_parts_step, arm_parts_over, case_parts_none, case_parts_some, and_is, or_is, case_none, case_some, case_lighter, exprs_still, arms_still}
+use Rattle.expr.specs.View.{bound_expr_of}
 use Rattle.expr.proofs.aggregates.+aggregates.Goals as goal
 
 gathers : Gathers aggregates all_aggregates arms_aggregates
@@ -51,3 +52,39 @@ push_aggregates-returns-in-None g t c =
     case_parts_none aggregates all_aggregates arms_aggregates gathers _ _ c.in-Case.offset _ _
     (case_none c.args.expression.now c.in-Case.offset c.in-Case.arms c.deref-in-Case.result.now c.deref-in-Case.ensures.value c.in-Case.otherwise c.in-Case.is c.in-None.is)
     c.in_ok-push_arms_aggregates-in-Case.ensures
+
+pub push_aggregates-push_aggregates-requires : goal.push_aggregates-push_aggregates-requires
+push_aggregates-push_aggregates-requires g t c κs within = let w = ap weight (ap bound_expr_of c.in-Negate.is) in search rules
+
+pub push_aggregates-push_aggregates-requires-in-Arithmetic : goal.push_aggregates-push_aggregates-requires-in-Arithmetic
+push_aggregates-push_aggregates-requires-in-Arithmetic g t c κs within = let w = ap weight (ap bound_expr_of c.in-Arithmetic.is) in search rules
+
+pub push_aggregates-push_aggregates-requires-in-Arithmetic-2 : goal.push_aggregates-push_aggregates-requires-in-Arithmetic-2
+push_aggregates-push_aggregates-requires-in-Arithmetic-2 g t c κs within = let w = ap weight (ap bound_expr_of c.in-Arithmetic.is) in search rules
+
+pub push_aggregates-push_aggregates-requires-in-Comparison : goal.push_aggregates-push_aggregates-requires-in-Comparison
+push_aggregates-push_aggregates-requires-in-Comparison g t c κs within = let w = ap weight (ap bound_expr_of c.in-Comparison.is) in search rules
+
+pub push_aggregates-push_aggregates-requires-in-Comparison-2 : goal.push_aggregates-push_aggregates-requires-in-Comparison-2
+push_aggregates-push_aggregates-requires-in-Comparison-2 g t c κs within = let w = ap weight (ap bound_expr_of c.in-Comparison.is) in search rules
+
+pub push_aggregates-push_aggregates-requires-in-Between : goal.push_aggregates-push_aggregates-requires-in-Between
+push_aggregates-push_aggregates-requires-in-Between g t c κs within = let w = ap weight (ap bound_expr_of c.in-Between.is) in search rules
+
+pub push_aggregates-push_aggregates-requires-in-Between-2 : goal.push_aggregates-push_aggregates-requires-in-Between-2
+push_aggregates-push_aggregates-requires-in-Between-2 g t c κs within = let w = ap weight (ap bound_expr_of c.in-Between.is) in search rules
+
+pub push_aggregates-push_aggregates-requires-in-Between-3 : goal.push_aggregates-push_aggregates-requires-in-Between-3
+push_aggregates-push_aggregates-requires-in-Between-3 g t c κs within = let w = ap weight (ap bound_expr_of c.in-Between.is) in search rules
+
+pub push_aggregates-push_aggregates-requires-in-In : goal.push_aggregates-push_aggregates-requires-in-In
+push_aggregates-push_aggregates-requires-in-In g t c κs within = let w = ap weight (ap bound_expr_of c.in-In.is) in search rules
+
+pub push_aggregates-push_aggregates-requires-in-IsNull : goal.push_aggregates-push_aggregates-requires-in-IsNull
+push_aggregates-push_aggregates-requires-in-IsNull g t c κs within = let w = ap weight (ap bound_expr_of c.in-IsNull.is) in search rules
+
+pub push_aggregates-push_aggregates-requires-in-Not : goal.push_aggregates-push_aggregates-requires-in-Not
+push_aggregates-push_aggregates-requires-in-Not g t c κs within = let w = ap weight (ap bound_expr_of c.in-Not.is) in search rules
+
+pub push_aggregates-push_aggregates-requires-in-Cast : goal.push_aggregates-push_aggregates-requires-in-Cast
+push_aggregates-push_aggregates-requires-in-Cast g t c κs within = let w = ap weight (ap bound_expr_of c.in-Cast.is) in search rules

@@ -2,6 +2,7 @@ use Rattle.std.proofs.Common.{ap, refl, rules, arith}
 use Rattle.expr.specs.Columns.{columns, all_columns, arms_columns}
 use Rattle.expr.specs.Weights.{weight}
 use Rattle.expr.proofs.Walks.{Gathers, parts_step, parts_over, arm_parts_step, arm_parts_over, case_parts_none, case_parts_some, and_is, or_is, case_none, case_some, case_lighter, exprs_still, arms_still}
+use Rattle.expr.specs.View.{bound_expr_of}
 use Rattle.expr.proofs.columns.+columns.Goals as goal
 
 gathers : Gathers columns all_columns arms_columns
@@ -51,3 +52,42 @@ push_columns-returns-in-None g t c =
     case_parts_none columns all_columns arms_columns gathers _ _ c.in-Case.offset _ _
     (case_none c.args.expression.now c.in-Case.offset c.in-Case.arms c.deref-in-Case.result.now c.deref-in-Case.ensures.value c.in-Case.otherwise c.in-Case.is c.in-None.is)
     c.in_ok-push_arms_columns-in-Case.ensures
+
+pub push_columns-push_columns-requires : goal.push_columns-push_columns-requires
+push_columns-push_columns-requires g t c κs within = let w = ap weight (ap bound_expr_of c.in-Negate.is) in search rules
+
+pub push_columns-push_columns-requires-in-Arithmetic : goal.push_columns-push_columns-requires-in-Arithmetic
+push_columns-push_columns-requires-in-Arithmetic g t c κs within = let w = ap weight (ap bound_expr_of c.in-Arithmetic.is) in search rules
+
+pub push_columns-push_columns-requires-in-Arithmetic-2 : goal.push_columns-push_columns-requires-in-Arithmetic-2
+push_columns-push_columns-requires-in-Arithmetic-2 g t c κs within = let w = ap weight (ap bound_expr_of c.in-Arithmetic.is) in search rules
+
+pub push_columns-push_columns-requires-in-Comparison : goal.push_columns-push_columns-requires-in-Comparison
+push_columns-push_columns-requires-in-Comparison g t c κs within = let w = ap weight (ap bound_expr_of c.in-Comparison.is) in search rules
+
+pub push_columns-push_columns-requires-in-Comparison-2 : goal.push_columns-push_columns-requires-in-Comparison-2
+push_columns-push_columns-requires-in-Comparison-2 g t c κs within = let w = ap weight (ap bound_expr_of c.in-Comparison.is) in search rules
+
+pub push_columns-push_columns-requires-in-Between : goal.push_columns-push_columns-requires-in-Between
+push_columns-push_columns-requires-in-Between g t c κs within = let w = ap weight (ap bound_expr_of c.in-Between.is) in search rules
+
+pub push_columns-push_columns-requires-in-Between-2 : goal.push_columns-push_columns-requires-in-Between-2
+push_columns-push_columns-requires-in-Between-2 g t c κs within = let w = ap weight (ap bound_expr_of c.in-Between.is) in search rules
+
+pub push_columns-push_columns-requires-in-Between-3 : goal.push_columns-push_columns-requires-in-Between-3
+push_columns-push_columns-requires-in-Between-3 g t c κs within = let w = ap weight (ap bound_expr_of c.in-Between.is) in search rules
+
+pub push_columns-push_columns-requires-in-In : goal.push_columns-push_columns-requires-in-In
+push_columns-push_columns-requires-in-In g t c κs within = let w = ap weight (ap bound_expr_of c.in-In.is) in search rules
+
+pub push_columns-push_columns-requires-in-IsNull : goal.push_columns-push_columns-requires-in-IsNull
+push_columns-push_columns-requires-in-IsNull g t c κs within = let w = ap weight (ap bound_expr_of c.in-IsNull.is) in search rules
+
+pub push_columns-push_columns-requires-in-Not : goal.push_columns-push_columns-requires-in-Not
+push_columns-push_columns-requires-in-Not g t c κs within = let w = ap weight (ap bound_expr_of c.in-Not.is) in search rules
+
+pub push_columns-push_columns-requires-in-Cast : goal.push_columns-push_columns-requires-in-Cast
+push_columns-push_columns-requires-in-Cast g t c κs within = let w = ap weight (ap bound_expr_of c.in-Cast.is) in search rules
+
+pub push_columns-push_columns-requires-in-Call : goal.push_columns-push_columns-requires-in-Call
+push_columns-push_columns-requires-in-Call g t c κs within = let w = ap weight (ap bound_expr_of c.in-Call.is) in search rules

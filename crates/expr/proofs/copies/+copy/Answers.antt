@@ -56,3 +56,42 @@ copy_expr-returns-in-Some g t c =
 pub copy_expr-returns-in-None : goal.copy_expr-returns-in-None
 copy_expr-returns-in-None g t c =
     rw (case_none c.args.expression.now c.in-Case.offset c.in-Case.arms c.deref-in-Case.result.now c.deref-in-Case.ensures.value c.in-Case.otherwise c.in-Case.is c.in-None.is) (c.without_otherwise.ensures _ c.copy_arms-arms.ensures)
+
+pub copy_expr-copy_expr-requires : goal.copy_expr-copy_expr-requires
+copy_expr-copy_expr-requires g t c κs within = let w = ap weight (ap bound_expr_of c.in-Negate.is) in search rules
+
+pub copy_expr-copy_expr-requires-in-Arithmetic : goal.copy_expr-copy_expr-requires-in-Arithmetic
+copy_expr-copy_expr-requires-in-Arithmetic g t c κs within = let w = ap weight (ap bound_expr_of c.in-Arithmetic.is) in search rules
+
+pub copy_expr-copy_expr-requires-in-Arithmetic-2 : goal.copy_expr-copy_expr-requires-in-Arithmetic-2
+copy_expr-copy_expr-requires-in-Arithmetic-2 g t c κs within = let w = ap weight (ap bound_expr_of c.in-Arithmetic.is) in search rules
+
+pub copy_expr-copy_expr-requires-in-Comparison : goal.copy_expr-copy_expr-requires-in-Comparison
+copy_expr-copy_expr-requires-in-Comparison g t c κs within = let w = ap weight (ap bound_expr_of c.in-Comparison.is) in search rules
+
+pub copy_expr-copy_expr-requires-in-Comparison-2 : goal.copy_expr-copy_expr-requires-in-Comparison-2
+copy_expr-copy_expr-requires-in-Comparison-2 g t c κs within = let w = ap weight (ap bound_expr_of c.in-Comparison.is) in search rules
+
+pub copy_expr-copy_expr-requires-in-Between : goal.copy_expr-copy_expr-requires-in-Between
+copy_expr-copy_expr-requires-in-Between g t c κs within = let w = ap weight (ap bound_expr_of c.in-Between.is) in search rules
+
+pub copy_expr-copy_expr-requires-in-Between-2 : goal.copy_expr-copy_expr-requires-in-Between-2
+copy_expr-copy_expr-requires-in-Between-2 g t c κs within = let w = ap weight (ap bound_expr_of c.in-Between.is) in search rules
+
+pub copy_expr-copy_expr-requires-in-Between-3 : goal.copy_expr-copy_expr-requires-in-Between-3
+copy_expr-copy_expr-requires-in-Between-3 g t c κs within = let w = ap weight (ap bound_expr_of c.in-Between.is) in search rules
+
+pub copy_expr-copy_expr-requires-in-In : goal.copy_expr-copy_expr-requires-in-In
+copy_expr-copy_expr-requires-in-In g t c κs within = let w = ap weight (ap bound_expr_of c.in-In.is) in search rules
+
+pub copy_expr-copy_expr-requires-in-IsNull : goal.copy_expr-copy_expr-requires-in-IsNull
+copy_expr-copy_expr-requires-in-IsNull g t c κs within = let w = ap weight (ap bound_expr_of c.in-IsNull.is) in search rules
+
+pub copy_expr-copy_expr-requires-in-Not : goal.copy_expr-copy_expr-requires-in-Not
+copy_expr-copy_expr-requires-in-Not g t c κs within = let w = ap weight (ap bound_expr_of c.in-Not.is) in search rules
+
+pub copy_expr-copy_expr-requires-in-Cast : goal.copy_expr-copy_expr-requires-in-Cast
+copy_expr-copy_expr-requires-in-Cast g t c κs within = let w = ap weight (ap bound_expr_of c.in-Cast.is) in search rules
+
+pub copy_expr-copy_expr-requires-in-Call : goal.copy_expr-copy_expr-requires-in-Call
+copy_expr-copy_expr-requires-in-Call g t c κs within = let w = ap weight (ap bound_expr_of c.in-Call.is) in search rules

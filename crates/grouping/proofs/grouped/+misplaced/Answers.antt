@@ -52,3 +52,42 @@ misplaced-returns-in-Some g t c =
 pub misplaced-returns-in-None : goal.misplaced-returns-in-None
 misplaced-returns-in-None g t c =
     rw (case_none c.args.expression.now c.in-Case.offset c.in-Case.arms c.deref-in-Case.result.now c.deref-in-Case.ensures.value c.in-Case.otherwise c.in-Case.is c.in-None.is) (c.least_of-in-None.ensures ∙ ap (λ r. least_of r None) c.misplaced_arms-arms.ensures)
+
+pub misplaced-misplaced-requires : goal.misplaced-misplaced-requires
+misplaced-misplaced-requires g t c κs within = let w = ap weight (ap expr_of c.in-Negate.is) in search rules
+
+pub misplaced-misplaced-requires-in-Arithmetic : goal.misplaced-misplaced-requires-in-Arithmetic
+misplaced-misplaced-requires-in-Arithmetic g t c κs within = let w = ap weight (ap expr_of c.in-Arithmetic.is) in search rules
+
+pub misplaced-misplaced-requires-in-Comparison : goal.misplaced-misplaced-requires-in-Comparison
+misplaced-misplaced-requires-in-Comparison g t c κs within = let w = ap weight (ap expr_of c.in-Comparison.is) in search rules
+
+pub misplaced-misplaced-requires-in-In : goal.misplaced-misplaced-requires-in-In
+misplaced-misplaced-requires-in-In g t c κs within = let w = ap weight (ap expr_of c.in-In.is) in search rules
+
+pub misplaced-misplaced-requires-in-IsNull : goal.misplaced-misplaced-requires-in-IsNull
+misplaced-misplaced-requires-in-IsNull g t c κs within = let w = ap weight (ap expr_of c.in-IsNull.is) in search rules
+
+pub misplaced-misplaced-requires-in-Not : goal.misplaced-misplaced-requires-in-Not
+misplaced-misplaced-requires-in-Not g t c κs within = let w = ap weight (ap expr_of c.in-Not.is) in search rules
+
+pub misplaced-misplaced-requires-in-Cast : goal.misplaced-misplaced-requires-in-Cast
+misplaced-misplaced-requires-in-Cast g t c κs within = let w = ap weight (ap expr_of c.in-Cast.is) in search rules
+
+pub misplaced-misplaced-left-requires : goal.misplaced-misplaced-left-requires
+misplaced-misplaced-left-requires g t c κs within = let w = ap weight (ap expr_of c.in-Arithmetic.is) in search rules
+
+pub misplaced-misplaced-left-requires-in-Comparison : goal.misplaced-misplaced-left-requires-in-Comparison
+misplaced-misplaced-left-requires-in-Comparison g t c κs within = let w = ap weight (ap expr_of c.in-Comparison.is) in search rules
+
+pub misplaced-misplaced-operand-requires : goal.misplaced-misplaced-operand-requires
+misplaced-misplaced-operand-requires g t c κs within = let w = ap weight (ap expr_of c.in-Between.is) in search rules
+
+pub misplaced-misplaced-low-requires : goal.misplaced-misplaced-low-requires
+misplaced-misplaced-low-requires g t c κs within = let w = ap weight (ap expr_of c.in-Between.is) in search rules
+
+pub misplaced-misplaced-high-requires : goal.misplaced-misplaced-high-requires
+misplaced-misplaced-high-requires g t c κs within = let w = ap weight (ap expr_of c.in-Between.is) in search rules
+
+pub misplaced-misplaced-inner-requires : goal.misplaced-misplaced-inner-requires
+misplaced-misplaced-inner-requires g t c κs within = let w = ap weight (ap expr_of c.in-Call.is) in search rules

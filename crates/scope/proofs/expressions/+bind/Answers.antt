@@ -78,3 +78,69 @@ bind_expr-returns-in-Some g t c =
 pub bind_expr-returns-in-None : goal.bind_expr-returns-in-None
 bind_expr-returns-in-None g t c =
     rw (case_none c.args.expression.now c.in-Case.offset c.in-Case.arms c.deref-in-Case.result.now c.deref-in-Case.ensures.value c.in-Case.otherwise c.in-Case.is c.in-None.is) (c.without_otherwise.ensures _ c.bind_arms-arms.ensures)
+
+pub bind_expr-bind_expr-requires : goal.bind_expr-bind_expr-requires
+bind_expr-bind_expr-requires g t c κs within = let w = ap weight (ap expr_of c.in-Negate.is) in search rules
+
+pub bind_expr-bind_expr-requires-in-Arithmetic : goal.bind_expr-bind_expr-requires-in-Arithmetic
+bind_expr-bind_expr-requires-in-Arithmetic g t c κs within = let w = ap weight (ap expr_of c.in-Arithmetic.is) in search rules
+
+pub bind_expr-bind_expr-requires-in-Arithmetic-2 : goal.bind_expr-bind_expr-requires-in-Arithmetic-2
+bind_expr-bind_expr-requires-in-Arithmetic-2 g t c κs within = let w = ap weight (ap expr_of c.in-Arithmetic.is) in search rules
+
+pub bind_expr-bind_expr-requires-in-Comparison : goal.bind_expr-bind_expr-requires-in-Comparison
+bind_expr-bind_expr-requires-in-Comparison g t c κs within = let w = ap weight (ap expr_of c.in-Comparison.is) in search rules
+
+pub bind_expr-bind_expr-requires-in-Comparison-2 : goal.bind_expr-bind_expr-requires-in-Comparison-2
+bind_expr-bind_expr-requires-in-Comparison-2 g t c κs within = let w = ap weight (ap expr_of c.in-Comparison.is) in search rules
+
+pub bind_expr-bind_expr-requires-in-Between : goal.bind_expr-bind_expr-requires-in-Between
+bind_expr-bind_expr-requires-in-Between g t c κs within = let w = ap weight (ap expr_of c.in-Between.is) in search rules
+
+pub bind_expr-bind_expr-requires-in-Between-2 : goal.bind_expr-bind_expr-requires-in-Between-2
+bind_expr-bind_expr-requires-in-Between-2 g t c κs within = let w = ap weight (ap expr_of c.in-Between.is) in search rules
+
+pub bind_expr-bind_expr-requires-in-Between-3 : goal.bind_expr-bind_expr-requires-in-Between-3
+bind_expr-bind_expr-requires-in-Between-3 g t c κs within = let w = ap weight (ap expr_of c.in-Between.is) in search rules
+
+pub bind_expr-bind_expr-requires-in-In : goal.bind_expr-bind_expr-requires-in-In
+bind_expr-bind_expr-requires-in-In g t c κs within = let w = ap weight (ap expr_of c.in-In.is) in search rules
+
+pub bind_expr-bind_expr-requires-in-IsNull : goal.bind_expr-bind_expr-requires-in-IsNull
+bind_expr-bind_expr-requires-in-IsNull g t c κs within = let w = ap weight (ap expr_of c.in-IsNull.is) in search rules
+
+pub bind_expr-bind_expr-requires-in-Not : goal.bind_expr-bind_expr-requires-in-Not
+bind_expr-bind_expr-requires-in-Not g t c κs within = let w = ap weight (ap expr_of c.in-Not.is) in search rules
+
+pub bind_expr-bind_expr-requires-in-Cast : goal.bind_expr-bind_expr-requires-in-Cast
+bind_expr-bind_expr-requires-in-Cast g t c κs within = let w = ap weight (ap expr_of c.in-Cast.is) in search rules
+
+pub bind_expr-bind_expr-requires-in-Call : goal.bind_expr-bind_expr-requires-in-Call
+bind_expr-bind_expr-requires-in-Call g t c κs within = let w = ap weight (ap expr_of c.in-Call.is) in search rules
+
+pub bind_expr-returns-in_ok-operand-in-Negate : goal.bind_expr-returns-in_ok-operand-in-Negate
+bind_expr-returns-in_ok-operand-in-Negate g t c = c.made-in-Negate.ensures _ (let w = ap (bound_expr (map (λ e. entry_of e) c.args.entries.now) c.args.reach) (ap expr_of c.in-Negate.is) in search rules)
+
+pub bind_expr-returns-in_ok-right-in-Arithmetic : goal.bind_expr-returns-in_ok-right-in-Arithmetic
+bind_expr-returns-in_ok-right-in-Arithmetic g t c = c.made-in-Arithmetic.ensures _ (let w = ap (bound_expr (map (λ e. entry_of e) c.args.entries.now) c.args.reach) (ap expr_of c.in-Arithmetic.is) in search rules)
+
+pub bind_expr-returns-in_ok-right-in-Comparison : goal.bind_expr-returns-in_ok-right-in-Comparison
+bind_expr-returns-in_ok-right-in-Comparison g t c = c.made-in-Comparison.ensures _ (let w = ap (bound_expr (map (λ e. entry_of e) c.args.entries.now) c.args.reach) (ap expr_of c.in-Comparison.is) in search rules)
+
+pub bind_expr-returns-in_ok-high-in-Between : goal.bind_expr-returns-in_ok-high-in-Between
+bind_expr-returns-in_ok-high-in-Between g t c = c.made-in-Between.ensures _ (let w = ap (bound_expr (map (λ e. entry_of e) c.args.entries.now) c.args.reach) (ap expr_of c.in-Between.is) in search rules)
+
+pub bind_expr-returns-in_ok-values-in-In : goal.bind_expr-returns-in_ok-values-in-In
+bind_expr-returns-in_ok-values-in-In g t c = c.made-in-In.ensures _ (let w = ap (bound_expr (map (λ e. entry_of e) c.args.entries.now) c.args.reach) (ap expr_of c.in-In.is) in search rules)
+
+pub bind_expr-returns-in_ok-operand-in-IsNull : goal.bind_expr-returns-in_ok-operand-in-IsNull
+bind_expr-returns-in_ok-operand-in-IsNull g t c = c.made-in-IsNull.ensures _ (let w = ap (bound_expr (map (λ e. entry_of e) c.args.entries.now) c.args.reach) (ap expr_of c.in-IsNull.is) in search rules)
+
+pub bind_expr-returns-in_ok-operand-in-Not : goal.bind_expr-returns-in_ok-operand-in-Not
+bind_expr-returns-in_ok-operand-in-Not g t c = c.made-in-Not.ensures _ (let w = ap (bound_expr (map (λ e. entry_of e) c.args.entries.now) c.args.reach) (ap expr_of c.in-Not.is) in search rules)
+
+pub bind_expr-returns-in_ok-operand-in-Cast : goal.bind_expr-returns-in_ok-operand-in-Cast
+bind_expr-returns-in_ok-operand-in-Cast g t c = c.made-in-Cast.ensures _ (let w = ap (bound_expr (map (λ e. entry_of e) c.args.entries.now) c.args.reach) (ap expr_of c.in-Cast.is) in search rules)
+
+pub bind_expr-returns-in_ok-argument-in-Call : goal.bind_expr-returns-in_ok-argument-in-Call
+bind_expr-returns-in_ok-argument-in-Call g t c = c.made-in-Call.ensures _ (let w = ap (bound_expr (map (λ e. entry_of e) c.args.entries.now) c.args.reach) (ap expr_of c.in-Call.is) in search rules)

@@ -1,5 +1,6 @@
+use Rattle.std.proofs.Common.{refl}
 use Rattle.scope.proofs.Binds.{or_made}
 use Rattle.scope.proofs.expressions.disjunction.Goals as goal
 
-pub returns-in_ok-boxed-in-Ok : goal.returns-in_ok-boxed-in-Ok
-returns-in_ok-boxed-in-Ok g c = λ stated h. or_made c.args.offset c.in-Ok.members stated (rw c.in-Ok.is at h) c.in_ok-boxed-in-Ok.field-0.value c.in_ok-boxed-in-Ok.ensures
+pub returns-in-Ok : goal.returns-in-Ok
+returns-in-Ok g c = λ stated h. c.made.ensures _ (or_made c.args.offset c.in-Ok.members stated (rw c.in-Ok.is at h) _ refl)

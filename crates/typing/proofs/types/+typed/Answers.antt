@@ -53,3 +53,42 @@ pub typed-returns-in-None : goal.typed-returns-in-None
 typed-returns-in-None g t c =
     rw (case_none c.args.expression.now c.in-Case.offset c.in-Case.arms c.deref-in-Case.result.now c.deref-in-Case.ensures.value c.in-Case.otherwise c.in-Case.is c.in-None.is)
     (c.case_type-in-None.ensures ∙ ap (λ r. case_type c.in-Case.offset r (Ok None)) c.typed_arms-known.ensures)
+
+pub typed-typed-requires : goal.typed-typed-requires
+typed-typed-requires g t c κs within = let w = ap weight (ap expr_of c.in-Negate.is) in search rules
+
+pub typed-typed-requires-in-Arithmetic : goal.typed-typed-requires-in-Arithmetic
+typed-typed-requires-in-Arithmetic g t c κs within = let w = ap weight (ap expr_of c.in-Arithmetic.is) in search rules
+
+pub typed-typed-requires-in-Arithmetic-2 : goal.typed-typed-requires-in-Arithmetic-2
+typed-typed-requires-in-Arithmetic-2 g t c κs within = let w = ap weight (ap expr_of c.in-Arithmetic.is) in search rules
+
+pub typed-typed-requires-in-Comparison : goal.typed-typed-requires-in-Comparison
+typed-typed-requires-in-Comparison g t c κs within = let w = ap weight (ap expr_of c.in-Comparison.is) in search rules
+
+pub typed-typed-requires-in-Comparison-2 : goal.typed-typed-requires-in-Comparison-2
+typed-typed-requires-in-Comparison-2 g t c κs within = let w = ap weight (ap expr_of c.in-Comparison.is) in search rules
+
+pub typed-typed-requires-in-In : goal.typed-typed-requires-in-In
+typed-typed-requires-in-In g t c κs within = let w = ap weight (ap expr_of c.in-In.is) in search rules
+
+pub typed-typed-requires-in-IsNull : goal.typed-typed-requires-in-IsNull
+typed-typed-requires-in-IsNull g t c κs within = let w = ap weight (ap expr_of c.in-IsNull.is) in search rules
+
+pub typed-typed-requires-in-Not : goal.typed-typed-requires-in-Not
+typed-typed-requires-in-Not g t c κs within = let w = ap weight (ap expr_of c.in-Not.is) in search rules
+
+pub typed-typed-requires-in-Cast : goal.typed-typed-requires-in-Cast
+typed-typed-requires-in-Cast g t c κs within = let w = ap weight (ap expr_of c.in-Cast.is) in search rules
+
+pub typed-typed-requires-in-Call : goal.typed-typed-requires-in-Call
+typed-typed-requires-in-Call g t c κs within = let w = ap weight (ap expr_of c.in-Call.is) in search rules
+
+pub typed-typed-operand-requires : goal.typed-typed-operand-requires
+typed-typed-operand-requires g t c κs within = let w = ap weight (ap expr_of c.in-Between.is) in search rules
+
+pub typed-typed-low-requires : goal.typed-typed-low-requires
+typed-typed-low-requires g t c κs within = let w = ap weight (ap expr_of c.in-Between.is) in search rules
+
+pub typed-typed-high-requires : goal.typed-typed-high-requires
+typed-typed-high-requires g t c κs within = let w = ap weight (ap expr_of c.in-Between.is) in search rules
