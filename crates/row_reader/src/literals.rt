@@ -1,17 +1,21 @@
 //! Literals, from tokens.
 
-ghost use Rattle.std.specs.Prelude.{◌≡◌, pos, neg_ℤ, map};
+ghost use Rattle.std.specs.Prelude.{◌≡◌, pos, neg_ℤ, map, IfOk};
 ghost use Rattle.row_grammar.specs.Limits.{reads};
 ghost use Rattle.row_tokens.specs.View.{words_of};
+ghost use Rattle.row_tokens.specs.Words.{quoted_value};
 ghost use Rattle.row_reader.specs.Expressions as rules;
 ghost use Rattle.row_reader.specs.Expressions.{grammar, number_of};
 ghost use Rattle.row_reader.specs.Reading.{Parses};
-ghost use Rattle.value.specs.Datum.{Datum, int, datum};
+ghost use Rattle.value.specs.Datum.{Datum, int, text, datum};
 
 use crate::comma_list::comma_list;
-use crate::reader::{Class, Parsed, Parser, Reader, expect, expect_any, sees, sees_any};
+use crate::reader::{
+    Class, Parsed, Parser, Reader, expect, expect_any, placed, sees, sees_any, unplaced, with_rest,
+};
 use memory::Heap;
 use row_tokens::{Token, TokenKind, unquoted};
+use std::alloc::AllocError;
 use text::Items;
 use value::Value;
 
@@ -38,15 +42,20 @@ fn word_literal<'t, A: Heap>(
     ensures { Parses (λ t. (t.0, datum t.1)) rules.word_literal reader tokens.now result }
 {
     if sees(TokenKind::True, tokens) {
-        let (word, rest) = expect(TokenKind::True, tokens)?;
-        Ok(((word.offset, Value::Bool(true)), rest))
+        placed(TokenKind::True, Value::Bool(true), tokens)
     } else if sees(TokenKind::False, tokens) {
-        let (word, rest) = expect(TokenKind::False, tokens)?;
-        Ok(((word.offset, Value::Bool(false)), rest))
+        placed(TokenKind::False, Value::Bool(false), tokens)
     } else {
-        let (word, rest) = expect(TokenKind::Null, tokens)?;
-        Ok(((word.offset, Value::Null), rest))
+        placed(TokenKind::Null, Value::Null, tokens)
     }
+}
+
+// The value of a string literal, and where it starts.
+fn quoted<A: Heap>(alloc: A, word: &Token<'_>) -> Result<(u32, Value<A>), AllocError>
+    ensures { IfOk result (λ t. (t.0 ≡ word.now.offset) × (datum t.1 ≡ text (quoted_value word.now.text.now))) }
+{
+    let value = unquoted(alloc, word.text)?;
+    Ok((word.offset, Value::Text(value)))
 }
 
 // A number, a string literal, or one of these words, and where it starts.
@@ -62,8 +71,7 @@ fn unsigned_literal<'t, A: Heap>(
         Ok(((word.offset, Value::Int(positive(word.number))), rest))
     } else if sees(TokenKind::Quoted, tokens) {
         let (word, rest) = expect(TokenKind::Quoted, tokens)?;
-        let value = Value::Text(unquoted(reader.alloc, word.text)?);
-        Ok(((word.offset, value), rest))
+        with_rest(quoted(reader.alloc, &word), rest)
     } else {
         word_literal(reader, tokens)
     }
@@ -96,8 +104,7 @@ fn value<'t, A: Heap>(reader: Reader<A>, tokens: &'t [Token<'t>]) -> Parsed<'t, 
         let (word, rest) = expect_any(Class::Magnitude, rest)?;
         Ok((Value::Int(negative(word.number)), rest))
     } else {
-        let ((_, value), rest) = unsigned_literal(reader, tokens)?;
-        Ok((value, rest))
+        unplaced(unsigned_literal(reader, tokens))
     }
 }
 

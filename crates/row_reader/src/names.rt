@@ -10,7 +10,9 @@ ghost use Rattle.row_ast.specs.Ast as ast;
 ghost use Rattle.row_ast.specs.View.{column_ref_of};
 
 use crate::comma_list::comma_list;
-use crate::reader::{Class, Parsed, Parser, Reader, expect, expect_any, sees};
+use crate::reader::{
+    Class, Parsed, Parser, Reader, expect, expect_any, meant, present, sees, with_rest,
+};
 use memory::Heap;
 use row_ast::ColumnRef;
 use row_tokens::{Token, TokenKind, folded};
@@ -24,7 +26,7 @@ pub fn name<'t, A: Heap>(reader: Reader<A>, tokens: &'t [Token<'t>]) -> Parsed<'
     ensures { Parses (λ t. t) rules.name reader tokens.now result }
 {
     let (token, rest) = expect_any(Class::Name, tokens)?;
-    Ok((folded(reader.alloc, token.text)?, rest))
+    with_rest(folded(reader.alloc, token.text), rest)
 }
 
 /// `[. name]`.
@@ -39,8 +41,7 @@ pub fn dot_name<'t, A: Heap>(
         return Ok((None, tokens));
     }
     let (_, rest) = expect(TokenKind::Dot, tokens)?;
-    let (name, rest) = name(reader, rest)?;
-    Ok((Some(name), rest))
+    present(name(reader, rest))
 }
 
 /// A column of a word and a name after the dot, if there is one.
@@ -74,7 +75,7 @@ pub fn column<'t, A: Heap>(reader: Reader<A>, tokens: &'t [Token<'t>]) -> Parsed
 {
     let (word, rest) = expect_any(Class::Name, tokens)?;
     let (dotted, rest) = dot_name(reader, rest)?;
-    Ok((column_ref(reader.alloc, &word, dotted)?, rest))
+    with_rest(column_ref(reader.alloc, &word, dotted), rest)
 }
 
 /// `bigint` or `text`.
@@ -83,11 +84,9 @@ pub fn type_name<'t, A: Heap>(reader: Reader<A>, tokens: &'t [Token<'t>]) -> Par
     ensures { Parses (λ t. t) rules.type_name reader tokens.now result }
 {
     if sees(TokenKind::Bigint, tokens) {
-        let (_, rest) = expect(TokenKind::Bigint, tokens)?;
-        Ok((ColType::Bigint, rest))
+        meant(TokenKind::Bigint, ColType::Bigint, tokens)
     } else {
-        let (_, rest) = expect(TokenKind::Text, tokens)?;
-        Ok((ColType::Text, rest))
+        meant(TokenKind::Text, ColType::Text, tokens)
     }
 }
 

@@ -6,7 +6,7 @@ ghost use Rattle.row_reader.specs.Expressions as rules;
 ghost use Rattle.row_reader.specs.Expressions.{grammar};
 ghost use Rattle.row_reader.specs.Reading.{Parses};
 
-use crate::reader::{Class, Parsed, Reader, expect, expect_any, sees};
+use crate::reader::{Class, Parsed, Reader, expect_any, expect_as, placed, sees};
 use memory::Heap;
 use row_tokens::{Token, TokenKind};
 use value::{Aggregate, Arithmetic, Comparison};
@@ -20,14 +20,11 @@ pub fn multiplication<'t, A: Heap>(
     ensures { Parses (λ t. t) rules.multiplication reader tokens.now result }
 {
     if sees(TokenKind::Star, tokens) {
-        let (word, rest) = expect(TokenKind::Star, tokens)?;
-        Ok(((word.offset, Arithmetic::Multiply), rest))
+        placed(TokenKind::Star, Arithmetic::Multiply, tokens)
     } else if sees(TokenKind::Slash, tokens) {
-        let (word, rest) = expect(TokenKind::Slash, tokens)?;
-        Ok(((word.offset, Arithmetic::Divide), rest))
+        placed(TokenKind::Slash, Arithmetic::Divide, tokens)
     } else {
-        let (word, rest) = expect(TokenKind::Percent, tokens)?;
-        Ok(((word.offset, Arithmetic::Remainder), rest))
+        placed(TokenKind::Percent, Arithmetic::Remainder, tokens)
     }
 }
 
@@ -40,8 +37,7 @@ pub fn addition<'t, A: Heap>(
     ensures { Parses (λ t. t) rules.addition reader tokens.now result }
 {
     if sees(TokenKind::Plus, tokens) {
-        let (word, rest) = expect(TokenKind::Plus, tokens)?;
-        Ok(((word.offset, Arithmetic::Add), rest))
+        placed(TokenKind::Plus, Arithmetic::Add, tokens)
     } else {
         let (word, rest) = expect_any(Class::Sign, tokens)?;
         Ok(((word.offset, Arithmetic::Subtract), rest))
@@ -57,23 +53,17 @@ pub fn comparison_sign<'t, A: Heap>(
     ensures { Parses (λ t. t) rules.comparison_sign reader tokens.now result }
 {
     if sees(TokenKind::Equal, tokens) {
-        let (word, rest) = expect(TokenKind::Equal, tokens)?;
-        Ok(((word.offset, Comparison::Equal), rest))
+        placed(TokenKind::Equal, Comparison::Equal, tokens)
     } else if sees(TokenKind::NotEqual, tokens) {
-        let (word, rest) = expect(TokenKind::NotEqual, tokens)?;
-        Ok(((word.offset, Comparison::NotEqual), rest))
+        placed(TokenKind::NotEqual, Comparison::NotEqual, tokens)
     } else if sees(TokenKind::Less, tokens) {
-        let (word, rest) = expect(TokenKind::Less, tokens)?;
-        Ok(((word.offset, Comparison::Less), rest))
+        placed(TokenKind::Less, Comparison::Less, tokens)
     } else if sees(TokenKind::LessEqual, tokens) {
-        let (word, rest) = expect(TokenKind::LessEqual, tokens)?;
-        Ok(((word.offset, Comparison::LessOrEqual), rest))
+        placed(TokenKind::LessEqual, Comparison::LessOrEqual, tokens)
     } else if sees(TokenKind::Greater, tokens) {
-        let (word, rest) = expect(TokenKind::Greater, tokens)?;
-        Ok(((word.offset, Comparison::Greater), rest))
+        placed(TokenKind::Greater, Comparison::Greater, tokens)
     } else {
-        let (word, rest) = expect(TokenKind::GreaterEqual, tokens)?;
-        Ok(((word.offset, Comparison::GreaterOrEqual), rest))
+        placed(TokenKind::GreaterEqual, Comparison::GreaterOrEqual, tokens)
     }
 }
 
@@ -86,13 +76,10 @@ pub fn aggregate_name<'t, A: Heap>(
     ensures { Parses (λ t. (word_of t.0, t.1)) rules.aggregate_name reader tokens.now result }
 {
     if sees(TokenKind::Sum, tokens) {
-        let (word, rest) = expect(TokenKind::Sum, tokens)?;
-        Ok(((word, Aggregate::Sum), rest))
+        expect_as(TokenKind::Sum, Aggregate::Sum, tokens)
     } else if sees(TokenKind::Min, tokens) {
-        let (word, rest) = expect(TokenKind::Min, tokens)?;
-        Ok(((word, Aggregate::Min), rest))
+        expect_as(TokenKind::Min, Aggregate::Min, tokens)
     } else {
-        let (word, rest) = expect(TokenKind::Max, tokens)?;
-        Ok(((word, Aggregate::Max), rest))
+        expect_as(TokenKind::Max, Aggregate::Max, tokens)
     }
 }

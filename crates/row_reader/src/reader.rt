@@ -5,12 +5,13 @@ ghost use Rattle.memory.specs.Gives.{Gives};
 ghost use Rattle.row_grammar.specs.Decoder.{head_in, word_at, opened_at};
 ghost use Rattle.row_grammar.specs.Limits.{can_open};
 ghost use Rattle.row_tokens.specs.View.{word_of, words_of};
-ghost use Rattle.row_reader.specs.Reading.{paired};
+ghost use Rattle.row_reader.specs.Reading.{paired, with_rest, starting_at, wrapped, unplaced, worded_as, placed_as, meant_as, Closed};
 ghost use Rattle.row_reader.specs.Language.{next_at, is, of, is_plain, is_aggregate, is_name, is_sign, is_comparison, is_addition, is_multiplication, kind_of};
 
 use memory::{Failure, Heap};
 use row_grammar::ReadError;
 use row_tokens::{Token, TokenKind};
+use std::alloc::AllocError;
 
 /// What reading takes: memory, and the limits that are left.
 #[derive(Clone, Copy)]
@@ -72,6 +73,50 @@ pub fn before<'t, T: Drop, U: Drop>(value: T, next: Parsed<'t, U>) -> Parsed<'t,
     }
 }
 
+/// A value that was made of tokens, and those after it.
+pub fn with_rest<'t, T: Drop>(made: Result<T, AllocError>, rest: &'t [Token<'t>]) -> Parsed<'t, T>
+    ensures { result ≡ with_rest made rest.entry }
+{
+    match made {
+        Ok(value) => Ok((value, rest)),
+        Err(_) => Err(Failure::OutOfMemory),
+    }
+}
+
+/// The same, and where it starts.
+pub fn starting_at<'t, T: Drop>(
+    start: u32,
+    made: Result<T, AllocError>,
+    rest: &'t [Token<'t>],
+) -> Parsed<'t, (u32, T)>
+    ensures { result ≡ starting_at start made rest.entry }
+{
+    match made {
+        Ok(value) => Ok(((start, value), rest)),
+        Err(_) => Err(Failure::OutOfMemory),
+    }
+}
+
+/// What was read, where it may also be left out.
+pub fn present<'t, T: Drop>(read: Parsed<'t, T>) -> Parsed<'t, Option<T>>
+    ensures { result ≡ wrapped read.entry }
+{
+    match read {
+        Ok((value, rest)) => Ok((Some(value), rest)),
+        Err(error) => Err(error),
+    }
+}
+
+/// What was read, without where it starts.
+pub fn unplaced<'t, T: Drop>(read: Parsed<'t, (u32, T)>) -> Parsed<'t, T>
+    ensures { result ≡ unplaced read.entry }
+{
+    match read {
+        Ok(((_, value), rest)) => Ok((value, rest)),
+        Err(error) => Err(error),
+    }
+}
+
 #[tactic(auto, unfolding(crate::specs::Language::is))]
 fn same(a: TokenKind, b: TokenKind) -> bool
     ensures { result ≡ is a b }
@@ -113,6 +158,47 @@ pub fn expect<'t>(kind: TokenKind, tokens: &'t [Token<'t>]) -> Parsed<'t, Token<
         }
         [] => Err(Failure::Fault(ReadError::Syntax { left: 0 })),
     }
+}
+
+/// The token of this kind that comes next, and the value that it stands for.
+pub fn expect_as<'t, T: Drop>(
+    kind: TokenKind,
+    value: T,
+    tokens: &'t [Token<'t>],
+) -> Parsed<'t, (Token<'t>, T)>
+    ensures { Gives (λ x. ((word_of x.0.0, x.0.1), words_of x.1.now)) result (worded_as value (word_at kind_of (is kind) (words_of tokens.now))) }
+{
+    let (word, rest) = expect(kind, tokens)?;
+    Ok(((word, value), rest))
+}
+
+/// The value that the token of this kind stands for, and where it starts.
+pub fn placed<'t, T: Drop>(
+    kind: TokenKind,
+    value: T,
+    tokens: &'t [Token<'t>],
+) -> Parsed<'t, (u32, T)>
+    ensures { Gives (λ x. (x.0, words_of x.1.now)) result (placed_as value (word_at kind_of (is kind) (words_of tokens.now))) }
+{
+    let (word, rest) = expect(kind, tokens)?;
+    Ok(((word.offset, value), rest))
+}
+
+/// The value that the token of this kind stands for.
+pub fn meant<'t, T: Drop>(kind: TokenKind, value: T, tokens: &'t [Token<'t>]) -> Parsed<'t, T>
+    ensures { Gives (λ x. (x.0, words_of x.1.now)) result (meant_as value (word_at kind_of (is kind) (words_of tokens.now))) }
+{
+    let (_, rest) = expect(kind, tokens)?;
+    Ok((value, rest))
+}
+
+/// What was read, and a closing parenthesis after it.
+pub fn closed<'t, T: Drop>(read: Parsed<'t, T>) -> Parsed<'t, T>
+    ensures { Closed read.entry result }
+{
+    let (value, rest) = read?;
+    let (_, rest) = expect(TokenKind::Close, rest)?;
+    Ok((value, rest))
 }
 
 /// The token of this kind that comes next and opens a level, where one may be opened.
