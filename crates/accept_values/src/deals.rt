@@ -2,6 +2,7 @@
 
 ghost use Rattle.std.specs.Prelude.{◌<◌, length};
 
+use crate::compared::same;
 use memory::{Failure, Heap};
 use std::alloc::{AllocError, Global};
 use std::io::Read;
@@ -18,22 +19,43 @@ pub const DEAL: &str =
 pub const DEAL_ROWS: &str =
     "1;'alice';1;4;t;/2;'alice';2;0;f;/3;'bob';1;7;t;/4;'bob';2;null;null;/5;'alice';null;5;f;/";
 
+// A name of a column, its type, and whether it refuses nulls.
+type Named = (&'static str, ColType, bool);
+
+static COLUMNS: [Named; 5] = [
+    ("id", ColType::Bigint, true),
+    ("owner", ColType::Text, true),
+    ("region", ColType::Bigint, false),
+    ("parts", ColType::Bigint, false),
+    ("open", ColType::Boolean, false),
+];
+
+fn names() -> &'static [Named] {
+    &COLUMNS
+}
+
+fn column<A: Heap>(alloc: A, named: &Named) -> Result<Column<A>, AllocError> {
+    let (name, data_type, not_null) = *named;
+    let name = Text::new(alloc, name)?;
+    Ok(Column {
+        name,
+        data_type,
+        not_null,
+    })
+}
+
+fn add_column<A: Heap>(
+    columns: &mut Items<Column<A>, A>,
+    alloc: A,
+    named: &Named,
+) -> Result<(), AllocError> {
+    columns.push(column(alloc, named)?)
+}
+
 fn deal_columns<A: Heap>(alloc: A) -> Result<Items<Column<A>, A>, AllocError> {
     let mut columns = Items::new(alloc);
-    let rows = [
-        ("id", ColType::Bigint, true),
-        ("owner", ColType::Text, true),
-        ("region", ColType::Bigint, false),
-        ("parts", ColType::Bigint, false),
-        ("open", ColType::Boolean, false),
-    ];
-    for (name, data_type, not_null) in rows {
-        let name = Text::new(alloc, name)?;
-        columns.push(Column {
-            name,
-            data_type,
-            not_null,
-        })?;
+    for named in names() {
+        add_column(&mut columns, alloc, named)?;
     }
     Ok(columns)
 }
@@ -43,44 +65,49 @@ pub fn load<A: Heap, R: Read + Drop>(alloc: A, reader: R) -> Result<Table<A>, Fa
     Table::load(alloc, reader, deal_columns(alloc)?)
 }
 
-/// The table of a text, which has to be one.
-pub fn loaded(rt: &(impl Abort + AllocGlobal), text: &str) -> Table<Global> {
-    match load(rt.alloc(), text.as_bytes()) {
+/// The table of a reader's text, which has to be one.
+pub fn loaded<A: Heap, R: Read + Drop>(
+    rt: &impl Abort,
+    alloc: A,
+    reader: R,
+    name: &str,
+    rows: &str,
+) -> Table<A> {
+    match load(alloc, reader) {
         Ok(table) => table,
-        Err(error) => panic!(rt; "{text}: {error:?}"),
+        Err(error) => panic!(rt; "{name}: {rows}: {error:?}"),
     }
 }
 
-fn shown_value<A: Heap>(alloc: Global, value: &Val<'_, A>) -> Result<String, AllocError> {
+/// Why a reader's text is no table, if it is none.
+pub fn refusal<R: Read + Drop>(alloc: Global, reader: R) -> Option<Failure<LoadError>> {
+    load(alloc, reader).err()
+}
+
+fn show_value<A: Heap>(text: &mut String, value: Val<'_, A>) -> Result<(), AllocError> {
     match value {
-        Val::Null => format!(in alloc; "null;"),
-        Val::Int(n) => format!(in alloc; "{n};"),
-        Val::Text(text) => format!(in alloc; "'{}';", text.as_str()),
-        Val::Bool(true) => format!(in alloc; "t;"),
-        Val::Bool(false) => format!(in alloc; "f;"),
+        Val::Null => text.push_str("null;"),
+        Val::Int(n) => write!(text, "{n};"),
+        Val::Text(found) => write!(text, "'{}';", found.as_str()),
+        Val::Bool(true) => text.push_str("t;"),
+        Val::Bool(false) => text.push_str("f;"),
     }
 }
 
-fn show_row<A: Heap>(
-    alloc: Global,
-    text: &mut String,
-    table: &Table<A>,
-    row: u64,
-) -> Result<(), AllocError>
+fn show_row<A: Heap>(text: &mut String, table: &Table<A>, row: u64) -> Result<(), AllocError>
     requires { row < length table.now.rows }
 {
     for column in 0..table.columns().len() {
-        text.push_str(shown_value(alloc, &table.cell(row, column as u64))?.as_str())?;
+        show_value(text, table.cell(row, column as u64))?;
     }
-    text.push('/')?;
-    Ok(())
+    text.push('/')
 }
 
 // The rows of a table in one text.
 fn shown<A: Heap>(alloc: Global, table: &Table<A>) -> Result<String, AllocError> {
     let mut text = String::new(alloc);
     for row in 0..table.rows() {
-        show_row(alloc, &mut text, table, row)?;
+        show_row(&mut text, table, row)?;
     }
     Ok(text)
 }
@@ -88,7 +115,7 @@ fn shown<A: Heap>(alloc: Global, table: &Table<A>) -> Result<String, AllocError>
 /// A table shows these rows.
 pub fn shows<A: Heap>(rt: &(impl Abort + AllocGlobal), table: &Table<A>, want: &str, name: &str) {
     match shown(rt.alloc(), table) {
-        Ok(text) => assert_eq!(rt; text.as_str(), want, "{name}"),
+        Ok(text) => same(rt, &text.as_str(), &want, name, &"rows"),
         Err(_) => panic!(rt; "{name}: out of memory"),
     }
 }

@@ -1,25 +1,34 @@
 //! Each request for memory refused in turn, where a table is loaded and appended to.
 
-use crate::deals::{DEAL, DEAL_ROWS, load, shows};
-use memory::Failure;
+use crate::compared::same;
+use crate::deals::{DEAL, DEAL_ROWS, load, loaded, shows};
+use memory::{Failure, Heap};
 use metered::Metered;
 use std::process::Abort;
 use std::test::Fail;
+use tables::{LoadError, Table};
+
+// A load gives the rows, or it is out of memory.
+fn loads<A: Heap>(rt: &(impl Abort + AllocGlobal), heap: A, nth: u64) -> bool {
+    match load(heap, DEAL.as_bytes()) {
+        Ok(table) => {
+            shows(rt, &table, DEAL_ROWS, "load");
+            true
+        }
+        Err(error) => {
+            same(rt, &error, &Failure::OutOfMemory, "load: at", &nth);
+            false
+        }
+    }
+}
 
 // A load whose nth request for memory is refused: it is out of memory, or there are fewer requests and it gives the rows.
 fn loads_without(rt: &(impl Abort + AllocGlobal), nth: u64) -> bool {
     let heap = Metered::refusing(rt.alloc(), nth);
-    match load(&heap, DEAL.as_bytes()) {
-        Ok(table) => {
-            shows(rt, &table, DEAL_ROWS, "load");
-            assert!(rt; heap.requests(nth) < nth, "at {nth}");
-            true
-        }
-        Err(error) => {
-            assert_eq!(rt; error, Failure::OutOfMemory, "at {nth}");
-            false
-        }
-    }
+    let whole = loads(rt, &heap, nth);
+    let fewer = heap.requests(nth) < nth;
+    assert!(rt; fewer || !whole, "at {nth}");
+    whole
 }
 
 fn load_or_refusal_of_memory(rt: &(impl Abort + AllocGlobal)) {
@@ -37,26 +46,36 @@ fn load_or_refusal_of_memory(rt: &(impl Abort + AllocGlobal)) {
 // How many requests a load takes.
 fn requests_of_load(rt: &(impl Abort + AllocGlobal)) -> u64 {
     let counting = Metered::counting(rt.alloc());
-    assert!(rt; load(&counting, DEAL.as_bytes()).is_ok());
+    assert!(rt; loads(rt, &counting, 0));
     counting.requests(0)
+}
+
+// A table shows all rows if an append was done, and else the rows as before.
+fn is_appended<A: Heap>(
+    rt: &(impl Abort + AllocGlobal),
+    table: &Table<A>,
+    done: Result<(), Failure<LoadError>>,
+    fewer: bool,
+    n: u64,
+    all: &str,
+) {
+    let (want, rows) = if fewer {
+        (Ok(()), all)
+    } else {
+        (Err(Failure::OutOfMemory), DEAL_ROWS)
+    };
+    same(rt, &done, &want, "append: at", &n);
+    shows(rt, table, rows, "append");
 }
 
 // An append whose nth request after the load is refused: it adds no row, or there are fewer requests and it adds them all.
 fn appends_without(rt: &(impl Abort + AllocGlobal), built: u64, n: u64, all: &str) -> bool {
     let nth = built.saturating_add(n);
     let heap = Metered::refusing(rt.alloc(), nth);
-    let Ok(mut table) = load(&heap, DEAL.as_bytes()) else {
-        panic!(rt; "loaded with fewer requests before");
-    };
+    let mut table = loaded(rt, &heap, DEAL.as_bytes(), "append", DEAL_ROWS);
     let done = table.append(DEAL.as_bytes());
     let fewer = heap.requests(nth) < nth;
-    let want = if fewer {
-        Ok(())
-    } else {
-        Err(Failure::OutOfMemory)
-    };
-    assert_eq!(rt; done, want, "at {n}");
-    shows(rt, &table, if fewer { all } else { DEAL_ROWS }, "append");
+    is_appended(rt, &table, done, fewer, n, all);
     fewer
 }
 

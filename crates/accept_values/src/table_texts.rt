@@ -1,6 +1,7 @@
 //! Tables that are read from comma-separated text, and how they are refused.
 
-use crate::deals::{DEAL, DEAL_ROWS, load, loaded, shows};
+use crate::compared::same;
+use crate::deals::{DEAL, DEAL_ROWS, loaded, refusal, shows};
 use fixtures::in_pieces;
 use memory::Failure;
 use std::alloc::{AllocError, Global};
@@ -8,6 +9,7 @@ use std::io::Read;
 use std::process::Abort;
 use std::test::Fail;
 use tables::{LoadError, Table};
+use value::Val;
 
 // A name, a text before each row and one after it, and the rows with the fault of the whole.
 type Group = (
@@ -193,8 +195,9 @@ fn is_refused(
 ) -> Result<(), AllocError> {
     let (before, row, after) = parts;
     let text = format!(in rt.alloc(); "{before}{row}{after}")?;
-    let found = load(rt.alloc(), text.as_str().as_bytes()).err();
-    assert_eq!(rt; found, Some(Failure::Fault(want)), "{name}: {text}");
+    let found = refusal(rt.alloc(), text.as_str().as_bytes());
+    let want = Some(Failure::Fault(want));
+    same(rt, &found, &want, name, &text.as_str());
     Ok(())
 }
 
@@ -207,10 +210,10 @@ fn are_refused(rt: &(impl Abort + AllocGlobal), group: &Group) -> Result<(), All
 }
 
 fn bytes_of_no_text_are_reported(rt: &(impl Abort + AllocGlobal)) {
-    for (bytes, want) in no_texts() {
-        let found = load(rt.alloc(), *bytes).err();
+    for (row, (bytes, want)) in no_texts().iter().enumerate() {
+        let found = refusal(rt.alloc(), *bytes);
         let want = Some(Failure::Fault(*want));
-        assert_eq!(rt; found, want, "bytes_of_no_text_are_reported");
+        same(rt, &found, &want, "bytes_of_no_text_are_reported", &row);
     }
 }
 
@@ -225,10 +228,8 @@ fn refused_texts_of_tables(rt: HostRuntime) -> Result<(), Fail> {
 
 // A reader gives a text, of which the rows are shown.
 fn gives<R: Read + Drop>(rt: &(impl Abort + AllocGlobal), name: &str, reader: R, want: &str) {
-    match load(rt.alloc(), reader) {
-        Ok(table) => shows(rt, &table, want, name),
-        Err(error) => panic!(rt; "{name}: {want}: {error:?}"),
-    }
+    let table = loaded(rt, rt.alloc(), reader, name, want);
+    shows(rt, &table, want, name);
 }
 
 fn rows_do_not_depend_on_pieces(rt: &(impl Abort + AllocGlobal), text: &str, want: &str) {
@@ -238,17 +239,26 @@ fn rows_do_not_depend_on_pieces(rt: &(impl Abort + AllocGlobal), text: &str, wan
     }
 }
 
-fn cells_by_their_place(rt: &(impl Abort + AllocGlobal)) {
-    let table = loaded(rt, DEAL);
-    assert_eq!(rt; table.rows(), 5);
-    assert_eq!(rt; table.columns().len(), 5);
+fn is_four(value: Val<'_, Global>) -> bool {
+    matches!(value, Val::Int(4))
+}
+
+// The last row whose first cell is 4, or else row 0.
+fn row_of_four(table: &Table<Global>) -> u64 {
     let mut found = 0u64;
     for row in 0..table.rows() {
-        if table.columns().len() > 1 && matches!(table.cell(row, 0), value::Val::Int(4)) {
+        if table.columns().len() > 1 && is_four(table.cell(row, 0)) {
             found = row;
         }
     }
-    assert_eq!(rt; found, 3);
+    found
+}
+
+fn cells_by_their_place(rt: &impl Abort, table: &Table<Global>) {
+    let name = "cells_by_their_place";
+    same(rt, &table.rows(), &5, name, &"rows");
+    same(rt, &table.columns().len(), &5, name, &"columns");
+    same(rt, &row_of_four(table), &3, name, &"the row of 4");
 }
 
 #[test]
@@ -257,7 +267,8 @@ fn rows_of_texts_whole_and_in_pieces(rt: HostRuntime) {
         gives(&rt, "rows_of_texts", text.as_bytes(), want);
         rows_do_not_depend_on_pieces(&rt, text, want);
     }
-    cells_by_their_place(&rt);
+    let table = loaded(&rt, rt.alloc(), DEAL.as_bytes(), "cells", DEAL_ROWS);
+    cells_by_their_place(&rt, &table);
 }
 
 // How many lines end among the first bytes of a text.
@@ -273,12 +284,12 @@ fn lines_in(text: &str, bytes: u64) -> u64 {
 
 // A load of which so many bytes are read: a failed read is reported at its row, or the table is whole.
 fn loads_after(rt: &(impl Abort + AllocGlobal), left: u64) -> bool {
-    match load(rt.alloc(), in_pieces(DEAL, 1, left)) {
-        Ok(_) => true,
-        Err(error) => {
+    match refusal(rt.alloc(), in_pieces(DEAL, 1, left)) {
+        None => true,
+        Some(error) => {
             let row = lines_in(DEAL, left);
             let want = Failure::Fault(LoadError::Reader { row });
-            assert_eq!(rt; error, want, "at {left}");
+            same(rt, &error, &want, "failed_read_gives_no_table: at", &left);
             false
         }
     }
@@ -299,12 +310,12 @@ fn failed_append(rt: &(impl Abort + AllocGlobal), table: &mut Table<Global>, lef
     let found = table.append(in_pieces(DEAL, 1, left)).err();
     let row = lines_in(DEAL, left);
     let want = Some(Failure::Fault(LoadError::Reader { row }));
-    assert_eq!(rt; found, want, "at {left}");
+    same(rt, &found, &want, "failed_read_adds_no_rows: at", &left);
     shows(rt, table, DEAL_ROWS, "failed_read_adds_no_rows");
 }
 
 fn failed_read_adds_no_rows(rt: &(impl Abort + AllocGlobal)) {
-    let mut table = loaded(rt, DEAL);
+    let mut table = loaded(rt, rt.alloc(), DEAL.as_bytes(), "append", DEAL_ROWS);
     for left in 0..80u64 {
         failed_append(rt, &mut table, left);
     }
@@ -330,26 +341,28 @@ fn more_refused() -> &'static [&'static str] {
 // A table that refuses texts shows its rows as before.
 fn adds_nothing(rt: &(impl Abort + AllocGlobal), table: &mut Table<Global>, want: &str) {
     for text in more_refused() {
-        assert!(rt; table.append(text.as_bytes()).is_err(), "{text}");
+        let refused = table.append(text.as_bytes()).is_err();
+        assert!(rt; refused, "{text}");
         shows(rt, table, want, text);
     }
 }
 
-fn appends(rt: &(impl Abort + AllocGlobal), want: &str) {
-    let mut table = loaded(rt, DEAL);
+fn appends(rt: &(impl Abort + AllocGlobal), table: &mut Table<Global>, want: &str) {
+    let name = "appended_rows_come_after_those_before";
     let more = "id,owner,region,parts,open\n6,carol,1,1,t\n";
-    assert_eq!(rt; table.append(more.as_bytes()), Ok(()));
-    shows(rt, &table, want, more);
-    adds_nothing(rt, &mut table, want);
-    let found = table.append("id,owner,region,parts,open\n7\n".as_bytes());
-    let want = Err(Failure::Fault(LoadError::Reader { row: 1 }));
-    assert_eq!(rt; found, want);
-    assert_eq!(rt; table.rows(), 6);
+    same(rt, &table.append(more.as_bytes()), &Ok(()), name, &more);
+    shows(rt, table, want, more);
+    adds_nothing(rt, table, want);
+    let cut = "id,owner,region,parts,open\n7\n";
+    let fault = Failure::Fault(LoadError::Reader { row: 1 });
+    same(rt, &table.append(cut.as_bytes()), &Err(fault), name, &cut);
+    same(rt, &table.rows(), &6, name, &"rows");
 }
 
 #[test]
 fn appended_rows_come_after_those_before(rt: HostRuntime) -> Result<(), Fail> {
     let want = format!(in rt.alloc(); "{DEAL_ROWS}6;'carol';1;1;t;/")?;
-    appends(&rt, want.as_str());
+    let mut table = loaded(&rt, rt.alloc(), DEAL.as_bytes(), "append", DEAL_ROWS);
+    appends(&rt, &mut table, want.as_str());
     Ok(())
 }

@@ -1,9 +1,9 @@
 //! Values: arithmetic, logic of three values, comparison, and texts.
 
+use crate::compared::same;
 use memory::Failure;
-use std::alloc::{AllocError, Global};
+use std::alloc::Global;
 use std::process::Abort;
-use std::test::Fail;
 use value::{
     ColType, FaultKind, Truth, Val, Value, add, and3, as_condition, cast, div, eq3, lt3, mul, neg,
     not3, of_truth, or3, read_bigint, read_value, rem, sub, text_of,
@@ -127,14 +127,20 @@ fn computed<'r>(
     }
 }
 
+// The number that was found, if it is one or null, or the fault.
+fn number_of<E: Copy>(found: Result<Val<'_, Global>, E>) -> Option<Result<Option<i64>, E>> {
+    match found {
+        Ok(Val::Int(n)) => Some(Ok(Some(n))),
+        Ok(Val::Null) => Some(Ok(None)),
+        Ok(_) => None,
+        Err(fault) => Some(Err(fault)),
+    }
+}
+
 fn gives(rt: &impl Abort, name: &str, row: usize, computation: &Computed) {
     let (operation, a, b, want) = *computation;
-    match computed(operation, &value_of(a), &value_of(b)) {
-        Ok(Val::Int(found)) => assert_eq!(rt; Ok(Some(found)), want, "{name}: row {row}"),
-        Ok(Val::Null) => assert_eq!(rt; Ok(None), want, "{name}: row {row}"),
-        Ok(_) => panic!(rt; "{name}: row {row}: no number"),
-        Err(kind) => assert_eq!(rt; Err(kind), want, "{name}: row {row}"),
-    }
+    let found = number_of(computed(operation, &value_of(a), &value_of(b)));
+    same(rt, &found, &Some(want), name, &row);
 }
 
 fn all_give(rt: &impl Abort, name: &str, rows: &[Computed]) {
@@ -186,20 +192,25 @@ fn negations() -> &'static [(Truth, Truth)] {
 }
 
 fn truth_tables(rt: &impl Abort) {
-    for (a, b, both, either) in truths() {
-        assert_eq!(rt; and3(*a, *b), *both, "{a:?} AND {b:?}");
-        assert_eq!(rt; or3(*a, *b), *either, "{a:?} OR {b:?}");
+    for (row, (a, b, both, either)) in truths().iter().enumerate() {
+        same(rt, &and3(*a, *b), both, "AND: row", &row);
+        same(rt, &or3(*a, *b), either, "OR: row", &row);
     }
 }
 
+// What a truth value is as a condition, by way of its value.
+fn condition_of(truth: Truth) -> Truth {
+    let value: Val<'_, Global> = of_truth(truth);
+    as_condition(&value)
+}
+
 fn conditions(rt: &impl Abort) {
-    for (truth, negated) in negations() {
-        assert_eq!(rt; not3(*truth), *negated, "NOT {truth:?}");
-        let value: Val<'_, Global> = of_truth(*truth);
-        assert_eq!(rt; as_condition(&value), *truth, "condition {truth:?}");
+    for (row, (truth, negated)) in negations().iter().enumerate() {
+        same(rt, &not3(*truth), negated, "NOT: row", &row);
+        same(rt, &condition_of(*truth), truth, "condition: row", &row);
     }
-    let number: Val<'_, Global> = Val::Int(1);
-    assert_eq!(rt; as_condition(&number), Truth::Unknown, "condition 1");
+    let number = as_condition(&value_of(Int(1)));
+    same(rt, &number, &Truth::Unknown, "condition", &1);
 }
 
 // Two values, and whether the first is less.
@@ -215,19 +226,20 @@ fn less() -> &'static [(Sample, Sample, Truth)] {
     &LESS
 }
 
+fn is_less(a: Sample, b: Sample) -> Truth {
+    lt3(&value_of(a), &value_of(b))
+}
+
+fn is_equal(a: Sample, b: Sample) -> Truth {
+    eq3(&value_of(a), &value_of(b))
+}
+
 fn comparisons(rt: &impl Abort) {
     for (row, (a, b, want)) in less().iter().enumerate() {
-        assert_eq!(rt;
-            lt3(&value_of(*a), &value_of(*b)),
-            *want,
-            "comparisons: row {row}"
-        );
+        same(rt, &is_less(*a, *b), want, "comparisons: row", &row);
     }
-    assert_eq!(rt;
-        eq3(&value_of(Null), &value_of(Null)),
-        Truth::Unknown,
-        "null = null"
-    );
+    let nulls = is_equal(Null, Null);
+    same(rt, &nulls, &Truth::Unknown, "comparisons", &"null = null");
 }
 
 #[test]
@@ -272,26 +284,25 @@ fn booleans() -> &'static [(&'static str, Result<bool, FaultKind>)] {
     &BOOLEANS
 }
 
-fn is_boolean(rt: &(impl Abort + AllocGlobal), text: &str, want: Result<bool, FaultKind>) {
-    match read_value(rt.alloc(), ColType::Boolean, text) {
-        Ok(Value::Bool(found)) => assert_eq!(rt; Ok(found), want, "texts_of_booleans: {text}"),
-        Ok(_) => panic!(rt; "texts_of_booleans: {text}: no boolean"),
-        Err(Failure::Fault(kind)) => {
-            assert_eq!(rt; Err(kind), want, "texts_of_booleans: {text}");
-        }
-        Err(Failure::OutOfMemory) => panic!(rt; "texts_of_booleans: {text}: out of memory"),
+// The truth value that a text is read as, if it is one, or the fault.
+fn boolean_of(alloc: Global, text: &str) -> Option<Result<bool, FaultKind>> {
+    match read_value(alloc, ColType::Boolean, text) {
+        Ok(Value::Bool(found)) => Some(Ok(found)),
+        Err(Failure::Fault(kind)) => Some(Err(kind)),
+        Ok(_) | Err(Failure::OutOfMemory) => None,
     }
 }
 
 fn texts_of_booleans(rt: &(impl Abort + AllocGlobal)) {
     for (text, want) in booleans() {
-        is_boolean(rt, text, *want);
+        let found = boolean_of(rt.alloc(), text);
+        same(rt, &found, &Some(*want), "texts_of_booleans", text);
     }
 }
 
 fn texts_of_bigints(rt: &impl Abort) {
     for (text, want) in bigints() {
-        assert_eq!(rt; read_bigint(text), *want, "texts_of_bigints: {text}");
+        same(rt, &read_bigint(text), want, "texts_of_bigints", text);
     }
 }
 
@@ -309,16 +320,13 @@ fn samples() -> &'static [(Sample, Option<&'static str>)] {
     &WRITTEN
 }
 
-fn written(
-    rt: &(impl Abort + AllocGlobal),
-    value: &Val<'_, Global>,
-    want: Option<&str>,
-) -> Result<(), AllocError> {
-    match text_of(rt.alloc(), value)? {
-        Some(text) => assert_eq!(rt; Some(text.as_str()), want, "texts_of_values"),
-        None => assert_eq!(rt; None, want, "texts_of_values"),
+fn written(rt: &(impl Abort + AllocGlobal), value: &Val<'_, Global>, want: Option<&str>) {
+    let name = "texts_of_values";
+    match text_of(rt.alloc(), value) {
+        Ok(Some(text)) => same(rt, &Some(text.as_str()), &want, name, &"a text"),
+        Ok(None) => same(rt, &None, &want, name, &"no text"),
+        Err(_) => panic!(rt; "{name}: out of memory"),
     }
-    Ok(())
 }
 
 fn text_value(rt: &(impl Abort + AllocGlobal), text: &str) -> Value<Global> {
@@ -328,50 +336,54 @@ fn text_value(rt: &(impl Abort + AllocGlobal), text: &str) -> Value<Global> {
     }
 }
 
-fn texts_of_values(rt: &(impl Abort + AllocGlobal)) -> Result<(), AllocError> {
+fn texts_of_values(rt: &(impl Abort + AllocGlobal)) {
     for (sample, want) in samples() {
-        written(rt, &value_of(*sample), *want)?;
+        written(rt, &value_of(*sample), *want);
     }
     let text = text_value(rt, "a,\u{e9}");
-    written(rt, &text.as_val(), Some("a,\u{e9}"))
+    written(rt, &text.as_val(), Some("a,\u{e9}"));
 }
 
-fn casts(rt: &(impl Abort + AllocGlobal)) -> Result<(), AllocError> {
-    let alloc = rt.alloc();
-    match cast(alloc, ColType::Text, Val::Int(-12)) {
+// The number that a value is cast to.
+fn cast_number(
+    alloc: Global,
+    value: Val<'_, Global>,
+) -> Option<Result<Option<i64>, Failure<FaultKind>>> {
+    number_of(cast(alloc, ColType::Bigint, value))
+}
+
+fn number_there_and_back(rt: &(impl Abort + AllocGlobal)) {
+    match cast(rt.alloc(), ColType::Text, Val::Int(-12)) {
         Ok(text) => {
-            written(rt, &text, Some("-12"))?;
-            let back = cast(alloc, ColType::Bigint, text);
-            assert!(rt; matches!(back, Ok(Val::Int(-12))), "casts: -12");
+            written(rt, &text, Some("-12"));
+            let back = cast_number(rt.alloc(), text);
+            same(rt, &back, &Some(Ok(Some(-12))), "casts", &-12);
         }
         Err(error) => panic!(rt; "casts: {error:?}"),
     }
-    let wrong = text_value(rt, "012");
-    let found = cast(alloc, ColType::Bigint, wrong.as_val());
-    assert_eq!(rt;
-        found.err(),
-        Some(Failure::Fault(FaultKind::BadText)),
-        "casts: 012"
-    );
-    assert!(rt;
-        matches!(cast(alloc, ColType::Text, Val::Null), Ok(Val::Null)),
-        "casts: null"
-    );
-    Ok(())
+}
+
+fn casts(rt: &(impl Abort + AllocGlobal)) {
+    number_there_and_back(rt);
+    let wrong = cast_number(rt.alloc(), text_value(rt, "012").as_val());
+    let fault = Failure::Fault(FaultKind::BadText);
+    same(rt, &wrong, &Some(Err(fault)), "casts", &"012");
+    let null = number_of(cast(rt.alloc(), ColType::Text, Val::Null));
+    same(rt, &null, &Some(Ok(None)), "casts", &"null");
 }
 
 fn faults_are_reported_by_code(rt: &impl Abort) {
-    assert_eq!(rt; FaultKind::Div0.code(), "22012");
-    assert_eq!(rt; FaultKind::Range.code(), "22003");
-    assert_eq!(rt; FaultKind::BadText.code(), "22P02");
+    let name = "faults_are_reported_by_code";
+    same(rt, &FaultKind::Div0.code(), &"22012", name, &"Div0");
+    same(rt, &FaultKind::Range.code(), &"22003", name, &"Range");
+    same(rt, &FaultKind::BadText.code(), &"22P02", name, &"BadText");
 }
 
 #[test]
-fn values_are_read_written_and_cast(rt: HostRuntime) -> Result<(), Fail> {
+fn values_are_read_written_and_cast(rt: HostRuntime) {
     texts_of_bigints(&rt);
     texts_of_booleans(&rt);
-    texts_of_values(&rt)?;
-    casts(&rt)?;
+    texts_of_values(&rt);
+    casts(&rt);
     faults_are_reported_by_code(&rt);
-    Ok(())
 }
