@@ -67,11 +67,8 @@ fn exact_sum<A: Heap>(members: &[Items<Value<A>, A>], place: usize) -> i128
 fn compare<A: Heap>(a: &Value<A>, b: &Value<A>, descends: bool) -> Ordering
     ensures { result ≡ towards descends (datum a.now) (datum b.now) }
 {
-    if descends {
-        cmp_values(&b.as_val(), &a.as_val())
-    } else {
-        cmp_values(&a.as_val(), &b.as_val())
-    }
+    let (first, second) = if descends { (b, a) } else { (a, b) };
+    cmp_values(&first.as_val(), &second.as_val())
 }
 
 // The first of two in the order, where the earlier may be missing.

@@ -1,5 +1,5 @@
 -- What is evaluated depends only on the columns that the query names.
-use Rattle.std.proofs.Common.{◌≡◌, Bool, true, false, ◌&&◌, cond, List, [], ◌∷◌, ◌++◌, map, filter, option_to_list, refl, sym, ap, ap₂, ◌∙◌, append-nil, subst, arith, Option, Some, None, Contains, ◌⊎◌, inl, inr}
+use Rattle.std.proofs.Common.{◌≡◌, Bool, true, false, ◌&&◌, cond, List, [], ◌∷◌, ◌++◌, filter, option_to_list, refl, sym, ap, ap₂, ◌∙◌, append-nil, subst, arith, Option, Some, None, Contains, ◌⊎◌, inl, inr}
 use Rattle.std.specs.List.{flat_map, list_all}
 use Rattle.std.proofs.lemmas.Grind.{flat_map-append}
 use Rattle.std.proofs.lemmas.List.Elements.{Contains-append_cases}

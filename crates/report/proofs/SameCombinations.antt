@@ -1,9 +1,8 @@
 -- The answer is a function of the bag of combinations.
-use Rattle.std.proofs.Common.{◌≡◌, ℕ, suc, Bool, true, false, List, [], ◌∷◌, map, length, slice_index_or, refl, ap, arith, Result, Ok, IsPermutation}
+use Rattle.std.proofs.Common.{◌≡◌, ℕ, suc, Bool, true, false, List, [], ◌∷◌, map, length, slice_index_or, refl, ap, arith, Ok, IsPermutation}
 use Rattle.bags.proofs.Order.{SameSums, SameSums-IsPermutation}
 use Rattle.bags.proofs.Bags.{SameSums-map, SameSums-flat_map}
 use Rattle.value.specs.Datum.{Row}
-use Rattle.value.specs.declared.faults.Fault.{Fault}
 use Rattle.row_ast.specs.Ast.{Name}
 use Rattle.eval.specs.Meaning.{◌>>=◌}
 use Rattle.stages.proofs.SameStage.{alike_stage, alike_next}

@@ -2,7 +2,7 @@
 
 ghost use Rattle.std.specs.Prelude.{◌≡◌, IfOk, map, take};
 ghost use Rattle.bags.specs.Sorting.{sorted_by};
-ghost use Rattle.value.specs.Datum.{row_of};
+ghost use Rattle.value.specs.Datum.{datum_of, row_of};
 ghost use Rattle.value.specs.Orders.{datum_cmp};
 ghost use Rattle.access.specs.Access.{cell};
 ghost use Rattle.report.specs.Ordered as spec;
@@ -14,20 +14,25 @@ use scope::OutputKey;
 use std::alloc::AllocError;
 use std::cmp::Ordering;
 use text::Items;
-use value::{Value, cmp_rows, cmp_values};
+use value::{Val, Value, cmp_rows, cmp_values};
 
 // A limit up to this one is met without sorting all rows.
 const FEW: u64 = 64;
 
+// The value of an output column.
+fn cell<A: Heap>(row: &[Value<A>], place: usize) -> Val<'_, A>
+    ensures { datum_of result ≡ cell (row_of row.now) place }
+{
+    match row.get(place) {
+        Some(value) => value.as_val(),
+        None => Val::Null,
+    }
+}
+
 fn cmp_cells<A: Heap>(a: &[Value<A>], b: &[Value<A>], place: usize) -> Ordering
     ensures { result ≡ datum_cmp (cell (row_of a.now) place) (cell (row_of b.now) place) }
 {
-    match (a.get(place), b.get(place)) {
-        (Some(x), Some(y)) => cmp_values(&x.as_val(), &y.as_val()),
-        (Some(x), None) => cmp_values(&x.as_val(), &Value::Null.as_val()),
-        (None, Some(y)) => cmp_values(&Value::Null.as_val(), &y.as_val()),
-        (None, None) => Ordering::Equal,
-    }
+    cmp_values(&cell(a, place), &cell(b, place))
 }
 
 fn cmp_by_key<A: Heap>(key: OutputKey, a: &[Value<A>], b: &[Value<A>]) -> Ordering

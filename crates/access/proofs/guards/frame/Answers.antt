@@ -1,4 +1,4 @@
-use Rattle.std.proofs.Common.{List, map, refl, sym, ◌∙◌}
+use Rattle.std.proofs.Common.{map, refl}
 use Rattle.row_objects.specs.View.{table_of}
 use Rattle.scope.specs.View.{entry_of}
 use Rattle.access.specs.Access.{sees}

@@ -1,4 +1,3 @@
-use Rattle.std.proofs.Common.{map}
 use Rattle.stages.proofs.Going.{gives_if_some}
 use Rattle.operators.specs.View.{world_of}
 use Rattle.operators.specs.World.{stands_for}
