@@ -92,3 +92,6 @@ push_columns-push_columns-requires-in-Cast g t c κs within = let w = ap weight 
 
 pub push_columns-push_columns-requires-in-Call : goal.push_columns-push_columns-requires-in-Call
 push_columns-push_columns-requires-in-Call g t c κs within = let w = ap weight (ap bound_expr_of c.in-Call.is) in search rules
+
+pub push_columns-returns-in-Column : goal.push_columns-returns-in-Column
+push_columns-returns-in-Column g t c = rw (ap bound_expr_of c.in-Column.is) c.push.ensures.ok
