@@ -1,6 +1,7 @@
 -- How a walk over the members of an expression continues.
-use Rattle.std.proofs.Common.{◌≡◌, Bool, true, false, ◌&&◌, ℕ, suc, ◌+◌, ◌<◌, ◌≤◌, List, [], ◌++◌, append_assoc, append-nil, length, get_or, drop, drop-cons, Option, Some, None, Vec, Box, refl, sym, ap, ◌∙◌, arith}
+use Rattle.std.proofs.Common.{◌≡◌, Bool, true, false, ◌&&◌, ℕ, suc, ◌+◌, ◌<◌, ◌≤◌, List, [], ◌∷◌, ◌++◌, append_assoc, append-nil, length, map, get_or, drop, drop-cons, Option, Some, None, Vec, Box, refl, sym, ap, ◌∙◌, arith}
 use Rattle.std.proofs.Math.ListN.{drop_of_length-le}
+use Rattle.std.proofs.lemmas.List.{map-append}
 use Rattle.expr.specs.Bound as bound
 use Rattle.expr.specs.View.{bound_expr_of, bound_exprs, bound_arms}
 use Rattle.expr.specs.declared.bound.BoundExpr.{BoundExpr, And, Or, Case}
@@ -119,6 +120,11 @@ module _ {X : Type 0} (of : bound.BoundExpr → List X) (of_all : bound.BoundExp
 
     pub case_parts_some : (o : bound.BoundExpr) (mid new : List X) → e ≡ bound.Case offset as_ (bound.Value o) → mid ≡ known ++ of_arms as_ → new ≡ mid ++ of o → new ≡ known ++ of e
     case_parts_some o mid new is m n = n ∙ ap (λ l. l ++ of o) m ∙ append_assoc known (of_arms as_) (of o) ∙ ap (λ l. known ++ l) (sym (ap of is ∙ h.otherwise_some offset as_ o))
+
+-- ---- a part that is pushed, as it is viewed
+
+pub one_more : {X Z : Type 0} (v : X → Z) (old new : List X) (x : X) (parts : List Z) → new ≡ old ++ x ∷ [] → parts ≡ v x ∷ [] → map v new ≡ map v old ++ parts
+one_more v old new x parts n e = rw (n, map-append, e) refl
 
 -- ---- the arms that are left, after a movable one
 

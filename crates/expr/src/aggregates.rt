@@ -63,10 +63,7 @@ pub fn push_aggregates<'e, A: Heap>(
         } => {
             push_arms_aggregates(known, arms)?;
             match otherwise {
-                Some(value) => {
-                    push_aggregates(known, value)?;
-                    Ok(())
-                }
+                Some(value) => push_aggregates(known, value),
                 None => Ok(()),
             }
         }
@@ -75,8 +72,7 @@ pub fn push_aggregates<'e, A: Heap>(
                 aggregate: Aggregate::Count,
                 offset: *offset,
                 argument: None,
-            })?;
-            Ok(())
+            })
         }
         BoundExpr::Call {
             aggregate,
@@ -87,8 +83,7 @@ pub fn push_aggregates<'e, A: Heap>(
                 aggregate: *aggregate,
                 offset: *offset,
                 argument: Some(argument),
-            })?;
-            Ok(())
+            })
         }
     }
 }

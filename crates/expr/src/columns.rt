@@ -18,10 +18,7 @@ pub fn push_columns<A: Heap>(
     ensures { OnOk result (known.new ≡ known.old ++ columns (bound_expr_of expression.now)) }
 {
     match expression {
-        BoundExpr::Column(id) => {
-            known.push(*id)?;
-            Ok(())
-        }
+        BoundExpr::Column(id) => known.push(*id),
         BoundExpr::Literal(_) | BoundExpr::CurrentUser | BoundExpr::CountStar { .. } => Ok(()),
         BoundExpr::Negate { operand, .. } => push_columns(known, operand),
         BoundExpr::Arithmetic { left, right, .. } => {
@@ -55,10 +52,7 @@ pub fn push_columns<A: Heap>(
         } => {
             push_arms_columns(known, arms)?;
             match otherwise {
-                Some(value) => {
-                    push_columns(known, value)?;
-                    Ok(())
-                }
+                Some(value) => push_columns(known, value),
                 None => Ok(()),
             }
         }

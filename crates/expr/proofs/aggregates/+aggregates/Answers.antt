@@ -1,8 +1,9 @@
 use Rattle.std.proofs.Common.{ap, refl, rules, arith}
+use Rattle.std.proofs.lemmas.Result.{on_ok_weaker}
 use Rattle.expr.specs.Aggregates.{aggregates, all_aggregates, arms_aggregates}
 use Rattle.expr.specs.Weights.{weight}
-use Rattle.expr.proofs.Walks.{Gathers, parts_step, parts_over, arm_parts_step, arm_parts_over, case_parts_none, case_parts_some, and_is, or_is, case_none, case_some, case_lighter, exprs_still, arms_still}
-use Rattle.expr.specs.View.{bound_expr_of}
+use Rattle.expr.proofs.Walks.{Gathers, parts_step, parts_over, arm_parts_step, arm_parts_over, case_parts_none, case_parts_some, and_is, or_is, case_none, case_some, case_lighter, exprs_still, arms_still, one_more}
+use Rattle.expr.specs.View.{aggregate_call_of, bound_expr_of}
 use Rattle.expr.proofs.aggregates.+aggregates.Goals as goal
 
 gathers : Gathers aggregates all_aggregates arms_aggregates
@@ -41,11 +42,11 @@ push_aggregates-returns-in-And g t c = rw (and_is c.args.expression.now c.in-And
 pub push_aggregates-returns-in-Or : goal.push_aggregates-returns-in-Or
 push_aggregates-returns-in-Or g t c = rw (or_is c.args.expression.now c.in-Or.offset c.in-Or.members c.deref-in-Or.result.now c.deref-in-Or.ensures.value c.in-Or.is) c.push_all_aggregates-in-Or.ensures
 
-pub push_aggregates-returns-in_ok-push_aggregates-in-Some : goal.push_aggregates-returns-in_ok-push_aggregates-in-Some
-push_aggregates-returns-in_ok-push_aggregates-in-Some g t c =
-    case_parts_some aggregates all_aggregates arms_aggregates gathers _ _ c.in-Case.offset _ _ _ _
+pub push_aggregates-returns-in-Some : goal.push_aggregates-returns-in-Some
+push_aggregates-returns-in-Some g t c =
+    on_ok_weaker c.push_aggregates-in-Some.result (case_parts_some aggregates all_aggregates arms_aggregates gathers _ _ c.in-Case.offset _ _ _ _
     (case_some c.args.expression.now c.in-Case.offset c.in-Case.arms c.deref-in-Case.result.now c.deref-in-Case.ensures.value c.in-Case.otherwise c.in-Case.is c.in-Some.value c.in-Some.is)
-    c.in_ok-push_arms_aggregates-in-Case.ensures (rw c.deref-in-Some.ensures at c.in_ok-push_aggregates-in-Some.ensures)
+    c.in_ok-push_arms_aggregates-in-Case.ensures) (rw c.deref-in-Some.ensures at c.push_aggregates-in-Some.ensures)
 
 pub push_aggregates-returns-in-None : goal.push_aggregates-returns-in-None
 push_aggregates-returns-in-None g t c =
@@ -88,3 +89,9 @@ push_aggregates-push_aggregates-requires-in-Not g t c κs within = let w = ap we
 
 pub push_aggregates-push_aggregates-requires-in-Cast : goal.push_aggregates-push_aggregates-requires-in-Cast
 push_aggregates-push_aggregates-requires-in-Cast g t c κs within = let w = ap weight (ap bound_expr_of c.in-Cast.is) in search rules
+
+pub push_aggregates-returns-in-CountStar : goal.push_aggregates-returns-in-CountStar
+push_aggregates-returns-in-CountStar g t c = on_ok_weaker c.push.result (λ n. one_more (λ x. aggregate_call_of x) _ _ _ _ n (ap aggregates (ap bound_expr_of c.in-CountStar.is))) c.push.ensures.ok
+
+pub push_aggregates-returns-in-Call : goal.push_aggregates-returns-in-Call
+push_aggregates-returns-in-Call g t c = on_ok_weaker c.push-in-Call.result (λ n. one_more (λ x. aggregate_call_of x) _ _ _ _ n (rw c.deref-in-Call.ensures (ap aggregates (ap bound_expr_of c.in-Call.is)))) c.push-in-Call.ensures.ok

@@ -1,4 +1,5 @@
 use Rattle.std.proofs.Common.{ap, refl, rules, arith}
+use Rattle.std.proofs.lemmas.Result.{on_ok_weaker}
 use Rattle.expr.specs.Columns.{columns, all_columns, arms_columns}
 use Rattle.expr.specs.Weights.{weight}
 use Rattle.expr.proofs.Walks.{Gathers, parts_step, parts_over, arm_parts_step, arm_parts_over, case_parts_none, case_parts_some, and_is, or_is, case_none, case_some, case_lighter, exprs_still, arms_still}
@@ -41,11 +42,11 @@ push_columns-returns-in-And g t c = rw (and_is c.args.expression.now c.in-And.of
 pub push_columns-returns-in-Or : goal.push_columns-returns-in-Or
 push_columns-returns-in-Or g t c = rw (or_is c.args.expression.now c.in-Or.offset c.in-Or.members c.deref-in-Or.result.now c.deref-in-Or.ensures.value c.in-Or.is) c.push_all_columns-in-Or.ensures
 
-pub push_columns-returns-in_ok-push_columns-in-Some : goal.push_columns-returns-in_ok-push_columns-in-Some
-push_columns-returns-in_ok-push_columns-in-Some g t c =
-    case_parts_some columns all_columns arms_columns gathers _ _ c.in-Case.offset _ _ _ _
+pub push_columns-returns-in-Some : goal.push_columns-returns-in-Some
+push_columns-returns-in-Some g t c =
+    on_ok_weaker c.push_columns-in-Some.result (case_parts_some columns all_columns arms_columns gathers _ _ c.in-Case.offset _ _ _ _
     (case_some c.args.expression.now c.in-Case.offset c.in-Case.arms c.deref-in-Case.result.now c.deref-in-Case.ensures.value c.in-Case.otherwise c.in-Case.is c.in-Some.value c.in-Some.is)
-    c.in_ok-push_arms_columns-in-Case.ensures (rw c.deref-in-Some.ensures at c.in_ok-push_columns-in-Some.ensures)
+    c.in_ok-push_arms_columns-in-Case.ensures) (rw c.deref-in-Some.ensures at c.push_columns-in-Some.ensures)
 
 pub push_columns-returns-in-None : goal.push_columns-returns-in-None
 push_columns-returns-in-None g t c =
@@ -91,3 +92,6 @@ push_columns-push_columns-requires-in-Cast g t c κs within = let w = ap weight 
 
 pub push_columns-push_columns-requires-in-Call : goal.push_columns-push_columns-requires-in-Call
 push_columns-push_columns-requires-in-Call g t c κs within = let w = ap weight (ap bound_expr_of c.in-Call.is) in search rules
+
+pub push_columns-returns-in-Column : goal.push_columns-returns-in-Column
+push_columns-returns-in-Column g t c = rw (ap bound_expr_of c.in-Column.is) c.push.ensures.ok
