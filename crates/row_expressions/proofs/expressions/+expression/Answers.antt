@@ -15,7 +15,6 @@ use Rattle.row_tokens.specs.View.{word_of, words_of}
 use Rattle.row_tokens.specs.declared.token.Token.{Token}
 use Rattle.row_ast.specs.Ast.{Expr, Otherwise, Case, arms_of, And, Or, exprs_of, and_members, or_members}
 use Rattle.row_reader.specs.Language.{language, Located, is, of, next_at, kind_of}
-use Rattle.row_reader.specs.declared.reader.Class.TheVariants as class
 use Rattle.row_reader.specs.Expressions as rules
 use Rattle.row_reader.specs.Expressions.{grammar, nested_first, folded_left, and_of, or_of}
 use Rattle.row_ast.specs.View.{expr_of, arm_pair}
@@ -62,19 +61,19 @@ arms-loop-init g t c =
     c.in_ok-first.ensures c.new-all.ensures c.in_ok-push.ensures.ok (omega (arith, length-map c.in_ok-first.rest.now word_of))
 
 pub arms-returns-then-not-sees : goal.arms-returns-then-not-sees
-arms-returns-then-not-sees g t c = listed_stop c.args.reader.run_limit c.args.reader.depth_limit (λ a. arm_pair a) rules.arm (is k.When) _ c.loop.all _ (map word_of c.loop.rest.now) c.loop.invariant (cc)
+arms-returns-then-not-sees g t c = listed_stop c.args.reader.run_limit c.args.reader.depth_limit (λ a. arm_pair a) rules.arm (is k.When) (reads grammar c.args.reader.run_limit c.args.reader.depth_limit rules.arms (map word_of c.args.tokens.now)) c.loop.all _ (map word_of c.loop.rest.now) c.loop.invariant (cc)
 
 pub arms-returns : goal.arms-returns
-arms-returns g t c = listed_over c.args.reader.run_limit c.args.reader.depth_limit (λ a. arm_pair a) rules.arm (is k.When) _ c.loop.all _ (map word_of c.loop.rest.now) c.loop.invariant (omega arith)
+arms-returns g t c = listed_over c.args.reader.run_limit c.args.reader.depth_limit (λ a. arm_pair a) rules.arm (is k.When) (reads grammar c.args.reader.run_limit c.args.reader.depth_limit rules.arms (map word_of c.args.tokens.now)) c.loop.all _ (map word_of c.loop.rest.now) c.loop.invariant (omega arith)
 
 pub arms-returns-in_err-next : goal.arms-returns-in_err-next
 arms-returns-in_err-next g t c =
     let p = err_from_is_err_and c.from_residual-in_err-next.result c.from_residual-in_err-next.ensures.1 in
-    rw (p.1, p.2) (listed_fail c.args.reader.run_limit c.args.reader.depth_limit (λ a. arm_pair a) rules.arm (is k.When) _ c.loop.all _ (map word_of c.loop.rest.now) c.loop.invariant _ (omega arith) (cc) c.in_err-next.ensures)
+    rw (p.1, p.2) (listed_fail c.args.reader.run_limit c.args.reader.depth_limit (λ a. arm_pair a) rules.arm (is k.When) (reads grammar c.args.reader.run_limit c.args.reader.depth_limit rules.arms (map word_of c.args.tokens.now)) c.loop.all _ (map word_of c.loop.rest.now) c.loop.invariant _ (omega arith) (cc) c.in_err-next.ensures)
 
 pub arms-loop-preserved : goal.arms-loop-preserved
 arms-loop-preserved g t c =
-    listed_go c.args.reader.run_limit c.args.reader.depth_limit (λ a. arm_pair a) rules.arm (is k.When) _ c.loop.all _ (map word_of c.loop.rest.now) c.loop.invariant c.in_ok-next.next (map word_of c.in_ok-next.after.now) c.push-in-loop.new.self _ (omega arith) (cc)
+    listed_go c.args.reader.run_limit c.args.reader.depth_limit (λ a. arm_pair a) rules.arm (is k.When) (reads grammar c.args.reader.run_limit c.args.reader.depth_limit rules.arms (map word_of c.args.tokens.now)) c.loop.all _ (map word_of c.loop.rest.now) c.loop.invariant c.in_ok-next.next (map word_of c.in_ok-next.after.now) c.push-in-loop.new.self _ (omega arith) (cc)
     c.in_ok-next.ensures c.in_ok-push-2.ensures.ok (omega arith)
 
 -- ---- operations
@@ -104,22 +103,22 @@ pub operations-loop-init : goal.operations-loop-init
 operations-loop-init g t c = start_run c.args.level c.args.reader.run_limit c.args.reader.depth_limit _ (map word_of c.args.tokens.now) (located c.in_ok-left.left) (map word_of c.in_ok-left.rest.now) c.in_ok-left.ensures (omega arith)
 
 pub operations-returns-then-not-sees_any : goal.operations-returns-then-not-sees_any
-operations-returns-then-not-sees_any g t c = run_stop c.args.reader.run_limit c.args.reader.depth_limit (next_rule c.args.level) (of (sign_class c.args.level)) (folded_left (located c.loop.left)) _ _ (map word_of c.loop.rest.now) c.loop.invariant (cc)
+operations-returns-then-not-sees_any g t c = run_stop c.args.reader.run_limit c.args.reader.depth_limit (next_rule c.args.level) (of (sign_class c.args.level)) (folded_left (located c.loop.left)) (reads grammar c.args.reader.run_limit c.args.reader.depth_limit (run_rule c.args.level) (map word_of c.args.tokens.now)) _ (map word_of c.loop.rest.now) c.loop.invariant (cc)
 
 pub operations-returns : goal.operations-returns
-operations-returns g t c = run_stop c.args.reader.run_limit c.args.reader.depth_limit (next_rule c.args.level) (of (sign_class c.args.level)) (folded_left (located c.loop.left)) _ _ (map word_of c.loop.rest.now) c.loop.invariant (cc)
+operations-returns g t c = run_stop c.args.reader.run_limit c.args.reader.depth_limit (next_rule c.args.level) (of (sign_class c.args.level)) (folded_left (located c.loop.left)) (reads grammar c.args.reader.run_limit c.args.reader.depth_limit (run_rule c.args.level) (map word_of c.args.tokens.now)) _ (map word_of c.loop.rest.now) c.loop.invariant (cc)
 
 pub operations-returns-then-sees_any : goal.operations-returns-then-sees_any
-operations-returns-then-sees_any g t c = rw (← length-map c.loop.rest.now word_of) (run_full c.args.reader.run_limit c.args.reader.depth_limit (next_rule c.args.level) (of (sign_class c.args.level)) (folded_left (located c.loop.left)) _ _ (map word_of c.loop.rest.now) c.loop.invariant (omega arith) (cc))
+operations-returns-then-sees_any g t c = rw (← length-map c.loop.rest.now word_of) (run_full c.args.reader.run_limit c.args.reader.depth_limit (next_rule c.args.level) (of (sign_class c.args.level)) (folded_left (located c.loop.left)) (reads grammar c.args.reader.run_limit c.args.reader.depth_limit (run_rule c.args.level) (map word_of c.args.tokens.now)) _ (map word_of c.loop.rest.now) c.loop.invariant (omega arith) (cc))
 
 pub operations-returns-in_err-sign : goal.operations-returns-in_err-sign
 operations-returns-in_err-sign g t c =
     let p = err_from_is_err_and c.from_residual-in_err-sign.result c.from_residual-in_err-sign.ensures.1 in
-    rw (p.1, p.2) (run_fail c.args.reader.run_limit c.args.reader.depth_limit (next_rule c.args.level) (of (sign_class c.args.level)) (folded_left (located c.loop.left)) _ _ (map word_of c.loop.rest.now) c.loop.invariant _ (omega arith) (cc (c.sign_class-signs.ensures, c.sees_any.ensures, c.if-not-sees_any.false)) c.in_err-sign.ensures)
+    rw (p.1, p.2) (run_fail c.args.reader.run_limit c.args.reader.depth_limit (next_rule c.args.level) (of (sign_class c.args.level)) (folded_left (located c.loop.left)) (reads grammar c.args.reader.run_limit c.args.reader.depth_limit (run_rule c.args.level) (map word_of c.args.tokens.now)) _ (map word_of c.loop.rest.now) c.loop.invariant _ (omega arith) (cc (c.sign_class-signs.ensures, c.sees_any.ensures, c.if-not-sees_any.false)) c.in_err-sign.ensures)
 
 pub operations-loop-preserved : goal.operations-loop-preserved
 operations-loop-preserved g t c =
-    run_go c.args.reader.run_limit c.args.reader.depth_limit (next_rule c.args.level) (of (sign_class c.args.level)) (folded_left (located c.loop.left)) _ _ (map word_of c.loop.rest.now) c.loop.invariant
+    run_go c.args.reader.run_limit c.args.reader.depth_limit (next_rule c.args.level) (of (sign_class c.args.level)) (folded_left (located c.loop.left)) (reads grammar c.args.reader.run_limit c.args.reader.depth_limit (run_rule c.args.level) (map word_of c.args.tokens.now)) _ (map word_of c.loop.rest.now) c.loop.invariant
     (c.in_ok-sign.sign, located c.in_ok-sign.right) (map word_of c.in_ok-sign.after.now) _ _ (omega arith) (cc) c.in_ok-sign.ensures
     (λ xs. ap (λ x. folded_left x xs) (sym c.in_ok-left-2.ensures)) (omega arith)
 
@@ -177,24 +176,24 @@ connected-loop-init g t c = start c.args.connective c.args.reader.run_limit c.ar
 pub connected-returns-then-not-sees-2 : goal.connected-returns-then-not-sees-2
 connected-returns-then-not-sees-2 g t c =
     rw c.with_rest.ensures (kept c.joined-whole.result c.loop.rest _ _ c.joined-whole.ensures
-    (run_stop c.args.reader.run_limit c.args.reader.depth_limit (next_member_rule c.args.connective) (is (connective_word c.args.connective)) (joined (λ ms. joined_expr c.args.connective c.next_offset-offset.result ms) (λ e. members_of c.args.connective e) c.in_ok-start.start (map (λ e. expr_of e) c.loop.members.items)) _ _ (map word_of c.loop.rest.now) c.loop.invariant (cc (c.connective_word-word.ensures, c.sees-in-loop.ensures, c.if-not-sees-2.true)) ∙ ap (λ (p : Located). let o : Outcome Word Located = Ok (p, map word_of c.loop.rest.now) in o) (joined_end (λ ms. joined_expr c.args.connective c.next_offset-offset.result ms) (λ e. members_of c.args.connective e) c.in_ok-start.start (map (λ e. expr_of e) c.loop.members.items))))
+    (run_stop c.args.reader.run_limit c.args.reader.depth_limit (next_member_rule c.args.connective) (is (connective_word c.args.connective)) (joined (λ ms. joined_expr c.args.connective c.next_offset-offset.result ms) (λ e. members_of c.args.connective e) c.in_ok-start.start (map (λ e. expr_of e) c.loop.members.items)) (reads grammar c.args.reader.run_limit c.args.reader.depth_limit (connected_rule c.args.connective) (map word_of c.args.tokens.now)) _ (map word_of c.loop.rest.now) c.loop.invariant (cc (c.connective_word-word.ensures, c.sees-in-loop.ensures, c.if-not-sees-2.true)) ∙ ap (λ (p : Located). let o : Outcome Word Located = Ok (p, map word_of c.loop.rest.now) in o) (joined_end (λ ms. joined_expr c.args.connective c.next_offset-offset.result ms) (λ e. members_of c.args.connective e) c.in_ok-start.start (map (λ e. expr_of e) c.loop.members.items))))
 
 pub connected-returns : goal.connected-returns
 connected-returns g t c =
     rw c.with_rest-2.ensures (kept c.joined-whole-2.result c.loop.rest _ _ c.joined-whole-2.ensures
-    (run_stop c.args.reader.run_limit c.args.reader.depth_limit (next_member_rule c.args.connective) (is (connective_word c.args.connective)) (joined (λ ms. joined_expr c.args.connective c.next_offset-offset.result ms) (λ e. members_of c.args.connective e) c.in_ok-start.start (map (λ e. expr_of e) c.loop.members.items)) _ _ (map word_of c.loop.rest.now) c.loop.invariant (cc (c.connective_word-word.ensures, c.sees-2.ensures, c.if-sees.false)) ∙ ap (λ (p : Located). let o : Outcome Word Located = Ok (p, map word_of c.loop.rest.now) in o) (joined_end (λ ms. joined_expr c.args.connective c.next_offset-offset.result ms) (λ e. members_of c.args.connective e) c.in_ok-start.start (map (λ e. expr_of e) c.loop.members.items))))
+    (run_stop c.args.reader.run_limit c.args.reader.depth_limit (next_member_rule c.args.connective) (is (connective_word c.args.connective)) (joined (λ ms. joined_expr c.args.connective c.next_offset-offset.result ms) (λ e. members_of c.args.connective e) c.in_ok-start.start (map (λ e. expr_of e) c.loop.members.items)) (reads grammar c.args.reader.run_limit c.args.reader.depth_limit (connected_rule c.args.connective) (map word_of c.args.tokens.now)) _ (map word_of c.loop.rest.now) c.loop.invariant (cc (c.connective_word-word.ensures, c.sees-2.ensures, c.if-sees.false)) ∙ ap (λ (p : Located). let o : Outcome Word Located = Ok (p, map word_of c.loop.rest.now) in o) (joined_end (λ ms. joined_expr c.args.connective c.next_offset-offset.result ms) (λ e. members_of c.args.connective e) c.in_ok-start.start (map (λ e. expr_of e) c.loop.members.items))))
 
 pub connected-returns-then-sees : goal.connected-returns-then-sees
-connected-returns-then-sees g t c = rw (← length-map c.loop.rest.now word_of) (run_full c.args.reader.run_limit c.args.reader.depth_limit (next_member_rule c.args.connective) (is (connective_word c.args.connective)) (joined (λ ms. joined_expr c.args.connective c.next_offset-offset.result ms) (λ e. members_of c.args.connective e) c.in_ok-start.start (map (λ e. expr_of e) c.loop.members.items)) _ _ (map word_of c.loop.rest.now) c.loop.invariant (omega arith) (cc (c.connective_word-word.ensures, c.sees-2.ensures, c.if-sees.true)))
+connected-returns-then-sees g t c = rw (← length-map c.loop.rest.now word_of) (run_full c.args.reader.run_limit c.args.reader.depth_limit (next_member_rule c.args.connective) (is (connective_word c.args.connective)) (joined (λ ms. joined_expr c.args.connective c.next_offset-offset.result ms) (λ e. members_of c.args.connective e) c.in_ok-start.start (map (λ e. expr_of e) c.loop.members.items)) (reads grammar c.args.reader.run_limit c.args.reader.depth_limit (connected_rule c.args.connective) (map word_of c.args.tokens.now)) _ (map word_of c.loop.rest.now) c.loop.invariant (omega arith) (cc (c.connective_word-word.ensures, c.sees-2.ensures, c.if-sees.true)))
 
 pub connected-returns-in_err-next : goal.connected-returns-in_err-next
 connected-returns-in_err-next g t c =
     let p = err_from_is_err_and c.from_residual-in_err-next.result c.from_residual-in_err-next.ensures.1 in
-    rw (p.1, p.2) (run_fail c.args.reader.run_limit c.args.reader.depth_limit (next_member_rule c.args.connective) (is (connective_word c.args.connective)) (joined (λ ms. joined_expr c.args.connective c.next_offset-offset.result ms) (λ e. members_of c.args.connective e) c.in_ok-start.start (map (λ e. expr_of e) c.loop.members.items)) _ _ (map word_of c.loop.rest.now) c.loop.invariant _ (omega arith) (cc (c.connective_word-word.ensures, c.sees-in-loop.ensures, c.if-not-sees-2.false)) c.in_err-next.ensures)
+    rw (p.1, p.2) (run_fail c.args.reader.run_limit c.args.reader.depth_limit (next_member_rule c.args.connective) (is (connective_word c.args.connective)) (joined (λ ms. joined_expr c.args.connective c.next_offset-offset.result ms) (λ e. members_of c.args.connective e) c.in_ok-start.start (map (λ e. expr_of e) c.loop.members.items)) (reads grammar c.args.reader.run_limit c.args.reader.depth_limit (connected_rule c.args.connective) (map word_of c.args.tokens.now)) _ (map word_of c.loop.rest.now) c.loop.invariant _ (omega arith) (cc (c.connective_word-word.ensures, c.sees-in-loop.ensures, c.if-not-sees-2.false)) c.in_err-next.ensures)
 
 pub connected-loop-preserved : goal.connected-loop-preserved
 connected-loop-preserved g t c =
-    run_go c.args.reader.run_limit c.args.reader.depth_limit (next_member_rule c.args.connective) (is (connective_word c.args.connective)) (joined (λ ms. joined_expr c.args.connective c.next_offset-offset.result ms) (λ e. members_of c.args.connective e) c.in_ok-start.start (map (λ e. expr_of e) c.loop.members.items)) _ _ (map word_of c.loop.rest.now) c.loop.invariant
+    run_go c.args.reader.run_limit c.args.reader.depth_limit (next_member_rule c.args.connective) (is (connective_word c.args.connective)) (joined (λ ms. joined_expr c.args.connective c.next_offset-offset.result ms) (λ e. members_of c.args.connective e) c.in_ok-start.start (map (λ e. expr_of e) c.loop.members.items)) (reads grammar c.args.reader.run_limit c.args.reader.depth_limit (connected_rule c.args.connective) (map word_of c.args.tokens.now)) _ (map word_of c.loop.rest.now) c.loop.invariant
     (word_of c.in_ok-next.field-0-0-0, (c.in_ok-next.field-0-0-1-0, expr_of c.in_ok-next.next.value)) (map word_of c.in_ok-next.after.now) _ _ (omega arith) (cc (c.connective_word-word.ensures, c.sees-in-loop.ensures, c.if-not-sees-2.false)) c.in_ok-next.ensures
     (λ xs. joined_go (λ ms. joined_expr c.args.connective c.next_offset-offset.result ms) (λ e. members_of c.args.connective e) c.in_ok-start.start (map (λ e. expr_of e) c.loop.members.items) (word_of c.in_ok-next.field-0-0-0, (c.in_ok-next.field-0-0-1-0, expr_of c.in_ok-next.next.value)) xs
     ∙ ap (λ l. joined (λ ms. joined_expr c.args.connective c.next_offset-offset.result ms) (λ e. members_of c.args.connective e) c.in_ok-start.start l xs) (sym c.in_ok-extend.ensures))

@@ -2,9 +2,7 @@ use Rattle.std.proofs.Common.{◌≡◌, ℕ, ◌+◌, ◌-◌, ◌*◌, map}
 use Rattle.row_grammar.specs.Limits.{reads}
 use Rattle.row_tokens.specs.declared.token.TokenKind.TheVariants as k
 use Rattle.row_tokens.specs.View.{word_of}
-use Rattle.row_ast.specs.Ast.{And, Or, exprs_of, and_members, or_members}
 use Rattle.row_reader.specs.Language.{is, of}
-use Rattle.row_reader.specs.declared.reader.Class.TheVariants as c
 use Rattle.row_reader.specs.Expressions as rules
 use Rattle.row_reader.specs.Expressions.{grammar, folded_left}
 use Rattle.row_ast.specs.View.{expr_of, arm_pair}
