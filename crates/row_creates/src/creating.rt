@@ -16,7 +16,7 @@ use row_ast::{CreatePolicy, Statement};
 use row_expressions::{Located, inner_expression};
 use row_reader::comma_list::comma_list;
 use row_reader::names::{name, names, type_name};
-use row_reader::reader::{Parsed, Parser, Reader, expect, open, sees};
+use row_reader::reader::{Parsed, Parser, Reader, closed, expect, meant, open, present, sees};
 use row_tokens::{Token, TokenKind};
 use text::{Items, Text};
 use value::{ColType, Column};
@@ -29,8 +29,7 @@ fn superuser<'t, A: Heap>(reader: Reader<A>, tokens: &'t [Token<'t>]) -> Parsed<
     if !sees(TokenKind::Superuser, tokens) {
         return Ok((false, tokens));
     }
-    let (_, rest) = expect(TokenKind::Superuser, tokens)?;
-    Ok((true, rest))
+    meant(TokenKind::Superuser, true, tokens)
 }
 
 // `[BYPASSRLS]`.
@@ -41,8 +40,7 @@ fn bypass_rls<'t, A: Heap>(reader: Reader<A>, tokens: &'t [Token<'t>]) -> Parsed
     if !sees(TokenKind::Bypassrls, tokens) {
         return Ok((false, tokens));
     }
-    let (_, rest) = expect(TokenKind::Bypassrls, tokens)?;
-    Ok((true, rest))
+    meant(TokenKind::Bypassrls, true, tokens)
 }
 
 // `ROLE name [SUPERUSER] [BYPASSRLS]`.
@@ -68,8 +66,7 @@ fn column_type<'t, A: Heap>(reader: Reader<A>, tokens: &'t [Token<'t>]) -> Parse
     ensures { Parses (λ t. t) rules.column_type reader tokens.now result }
 {
     if sees(TokenKind::Boolean, tokens) {
-        let (_, rest) = expect(TokenKind::Boolean, tokens)?;
-        Ok((ColType::Boolean, rest))
+        meant(TokenKind::Boolean, ColType::Boolean, tokens)
     } else {
         type_name(reader, tokens)
     }
@@ -84,8 +81,7 @@ fn not_null<'t, A: Heap>(reader: Reader<A>, tokens: &'t [Token<'t>]) -> Parsed<'
         return Ok((false, tokens));
     }
     let (_, rest) = expect(TokenKind::Not, tokens)?;
-    let (_, rest) = expect(TokenKind::Null, rest)?;
-    Ok((true, rest))
+    meant(TokenKind::Null, true, rest)
 }
 
 // A column of CREATE TABLE: `name type [NOT NULL]`.
@@ -137,8 +133,7 @@ fn new_table<'t, A: Heap>(reader: Reader<A>, tokens: &'t [Token<'t>]) -> Parsed<
     let (_, rest) = expect(TokenKind::Table, tokens)?;
     let (name, rest) = name(reader, rest)?;
     let (_, rest) = expect(TokenKind::Open, rest)?;
-    let (columns, rest) = column_defs(reader, rest)?;
-    let (_, rest) = expect(TokenKind::Close, rest)?;
+    let (columns, rest) = closed(column_defs(reader, rest))?;
     Ok((Statement::CreateTable { name, columns }, rest))
 }
 
@@ -152,8 +147,7 @@ fn new_index<'t, A: Heap>(reader: Reader<A>, tokens: &'t [Token<'t>]) -> Parsed<
     let (_, rest) = expect(TokenKind::On, rest)?;
     let (table, rest) = name(reader, rest)?;
     let (_, rest) = expect(TokenKind::Open, rest)?;
-    let (column, rest) = name(reader, rest)?;
-    let (_, rest) = expect(TokenKind::Close, rest)?;
+    let (column, rest) = closed(name(reader, rest))?;
     let index = Statement::CreateIndex {
         name: index,
         table,
@@ -172,11 +166,9 @@ fn strength<'t, A: Heap>(reader: Reader<A>, tokens: &'t [Token<'t>]) -> Parsed<'
     }
     let (_, rest) = expect(TokenKind::As, tokens)?;
     if sees(TokenKind::Restrictive, rest) {
-        let (_, rest) = expect(TokenKind::Restrictive, rest)?;
-        Ok((true, rest))
+        meant(TokenKind::Restrictive, true, rest)
     } else {
-        let (_, rest) = expect(TokenKind::Permissive, rest)?;
-        Ok((false, rest))
+        meant(TokenKind::Permissive, false, rest)
     }
 }
 
@@ -190,11 +182,9 @@ fn command<'t, A: Heap>(reader: Reader<A>, tokens: &'t [Token<'t>]) -> Parsed<'t
     }
     let (_, rest) = expect(TokenKind::For, tokens)?;
     if sees(TokenKind::All, rest) {
-        let (word, rest) = expect(TokenKind::All, rest)?;
-        Ok((Some(word), rest))
+        present(expect(TokenKind::All, rest))
     } else {
-        let (word, rest) = expect(TokenKind::Select, rest)?;
-        Ok((Some(word), rest))
+        present(expect(TokenKind::Select, rest))
     }
 }
 
@@ -223,9 +213,7 @@ fn using<'t, A: Heap>(reader: Reader<A>, tokens: &'t [Token<'t>]) -> Parsed<'t, 
 {
     let (_, rest) = expect(TokenKind::Using, tokens)?;
     let (_, rest) = open(TokenKind::Open, reader.depth_limit, rest)?;
-    let (condition, rest) = inner_expression(reader, rest)?;
-    let (_, rest) = expect(TokenKind::Close, rest)?;
-    Ok((condition, rest))
+    closed(inner_expression(reader, rest))
 }
 
 // `POLICY name ON table [AS ..] [FOR ..] [TO roles] USING ( condition )`.

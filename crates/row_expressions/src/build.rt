@@ -1,6 +1,6 @@
 //! Expressions, built of their parts.
 
-ghost use Rattle.std.specs.Prelude.{◌≡◌, ◌∷◌, [], Some, map, option_map, IfOk};
+ghost use Rattle.std.specs.Prelude.{◌≡◌, ◌∷◌, ◌++◌, [], Some, map, option_map, IfOk, OnOk};
 ghost use Rattle.row_tokens.specs.View.{word_of};
 ghost use Rattle.row_reader.specs.Expressions as rules;
 ghost use Rattle.row_ast.specs.Ast as ast;
@@ -293,6 +293,20 @@ pub fn members_of<A: Heap>(
         Connective::And => and_members(alloc, member),
         Connective::Or => or_members(alloc, member),
     }
+}
+
+/// The members of one more operand, after those of the operands before it.
+pub fn extend<A: Heap>(
+    alloc: A,
+    connective: Connective,
+    members: &mut Vec<Expr<A>, A>,
+    next: Box<Expr<A>, A>,
+) -> Result<(), AllocError>
+    ensures { OnOk result (map (λ e. expr_of e) members.new.items ≡ map (λ e. expr_of e) members.old.items ++ members_of connective (expr_of next.value)) }
+{
+    let mut more = members_of(alloc, connective, next)?;
+    members.append(&mut more)?;
+    Ok(())
 }
 
 /// An AND or OR of several members, by where it starts and by the offset of its first word.

@@ -6,7 +6,9 @@ ghost use Rattle.row_grammar.specs.Limits.{reads, deep_at};
 ghost use Rattle.row_tokens.specs.View.{word_of, words_of};
 ghost use Rattle.row_reader.specs.Expressions as rules;
 ghost use Rattle.row_reader.specs.Expressions.{grammar};
-ghost use Rattle.row_reader.specs.Language.{an_expression, a_negation, a_unary};
+ghost use Rattle.row_grammar.specs.Grammar.{both, inner, made};
+ghost use Rattle.row_tokens.specs.declared.token.TokenKind.TheVariants as k;
+ghost use Rattle.row_reader.specs.Language.{an_expression, a_negation, a_unary, after, is};
 ghost use Rattle.row_reader.specs.Reading.{Parses};
 ghost use Rattle.row_ast.specs.View.{expr_of, arm_pair};
 ghost use Rattle.row_expressions.specs.Levels.{connected_rule, member_rule, next_member_rule, next_rule, operand_rule, run_rule, sign_class};
@@ -14,7 +16,7 @@ ghost use Rattle.row_expressions.specs.View.{located, range_of, signed_of, suffi
 
 use crate::build::{
     CallSuffix, Connective, Located, Otherwise, Range, called, case_of, column_expr, combined,
-    connective_word, counted, joined, members_of, ranged,
+    connective_word, counted, extend, joined, members_of, ranged,
 };
 use memory::{Failure, Heap, boxed};
 use row_ast::{Arm, Expr};
@@ -23,11 +25,12 @@ use row_reader::literals::{literal, value_list};
 use row_reader::names::{dot_name, type_name};
 use row_reader::operators::{addition, aggregate_name, comparison_sign, multiplication};
 use row_reader::reader::{
-    Class, Parsed, Reader, expect, expect_any, next_offset, open, sees, sees_any,
+    Class, Parsed, Reader, before, closed, expect, expect_any, meant, next_offset, open, present,
+    sees, sees_any, starting_at, unplaced, with_rest,
 };
 use row_tokens::{Token, TokenKind};
 use text::Items;
-use value::Arithmetic;
+use value::{Arithmetic, ColType, Comparison};
 
 /// An expression a level deeper.
 #[cycle(expression)]
@@ -62,6 +65,51 @@ fn inner_unary<'t, A: Heap>(reader: Reader<A>, tokens: &'t [Token<'t>]) -> Parse
     unary(reader.deeper(), tokens)
 }
 
+// The word of this kind and an expression.
+#[cycle(expression)]
+fn keyed<'t, A: Heap>(
+    kind: TokenKind,
+    reader: Reader<A>,
+    tokens: &'t [Token<'t>],
+) -> Parsed<'t, Located<A>>
+    requires { 0 < reader.depth_limit }
+    ensures { Parses (λ t. located t) (after (is kind) (inner an_expression)) reader tokens.now result }
+{
+    let (_, rest) = expect(kind, tokens)?;
+    inner_expression(reader, rest)
+}
+
+// The argument of a function.
+#[cycle(expression)]
+fn argument<'t, A: Heap>(reader: Reader<A>, tokens: &'t [Token<'t>]) -> Parsed<'t, CallSuffix<A>>
+    requires { 0 < reader.depth_limit }
+    ensures { Parses (λ t. suffix_of t) (made (λ e. rules.Argument e.1) (inner an_expression)) reader tokens.now result }
+{
+    let ((_, argument), rest) = inner_expression(reader, tokens)?;
+    Ok((CallSuffix::Argument(argument), rest))
+}
+
+// `AS type`.
+fn as_type<'t, A: Heap>(reader: Reader<A>, tokens: &'t [Token<'t>]) -> Parsed<'t, ColType>
+    ensures { Parses (λ t. t) (after (is k.As) rules.type_name) reader tokens.now result }
+{
+    let (_, rest) = expect(TokenKind::As, tokens)?;
+    type_name(reader, rest)
+}
+
+// `expr AS type`.
+#[cycle(expression)]
+fn typed<'t, A: Heap>(
+    reader: Reader<A>,
+    tokens: &'t [Token<'t>],
+) -> Parsed<'t, (Located<A>, ColType)>
+    requires { 0 < reader.depth_limit }
+    ensures { Parses (λ t. (located t.0, t.1)) (both (inner an_expression) (after (is k.As) rules.type_name)) reader tokens.now result }
+{
+    let (operand, rest) = inner_expression(reader, tokens)?;
+    before(operand, as_type(reader, rest))
+}
+
 // `( expr )`.
 #[cycle(expression)]
 #[tactic(auto, unfolding(row_reader::specs::Expressions::parenthesized))]
@@ -69,9 +117,10 @@ fn parenthesized<'t, A: Heap>(reader: Reader<A>, tokens: &'t [Token<'t>]) -> Par
     ensures { Parses (λ t. located t) rules.parenthesized reader tokens.now result }
 {
     let (sign, rest) = open(TokenKind::Open, reader.depth_limit, tokens)?;
-    let ((_, inner), rest) = inner_expression(reader, rest)?;
-    let (_, rest) = expect(TokenKind::Close, rest)?;
-    Ok(((sign.offset, inner), rest))
+    before(
+        sign.offset,
+        closed(unplaced(inner_expression(reader, rest))),
+    )
 }
 
 // `CAST ( expr AS type )`.
@@ -82,17 +131,14 @@ fn cast<'t, A: Heap>(reader: Reader<A>, tokens: &'t [Token<'t>]) -> Parsed<'t, L
 {
     let (word, rest) = expect(TokenKind::Cast, tokens)?;
     let (_, rest) = open(TokenKind::Open, reader.depth_limit, rest)?;
-    let ((_, operand), rest) = inner_expression(reader, rest)?;
-    let (_, rest) = expect(TokenKind::As, rest)?;
-    let (to, rest) = type_name(reader, rest)?;
-    let (_, rest) = expect(TokenKind::Close, rest)?;
+    let (((_, operand), to), rest) = closed(typed(reader, rest))?;
     let offset = word.offset;
     let cast = Expr::Cast {
         offset,
         to,
         operand,
     };
-    Ok(((offset, boxed(reader.alloc, cast)?), rest))
+    starting_at(offset, boxed(reader.alloc, cast), rest)
 }
 
 // `WHEN expr THEN expr`.
@@ -102,10 +148,8 @@ fn arm<'t, A: Heap>(reader: Reader<A>, tokens: &'t [Token<'t>]) -> Parsed<'t, Ar
     requires { 0 < reader.depth_limit }
     ensures { Parses (λ t. arm_pair t) rules.arm reader tokens.now result }
 {
-    let (_, rest) = expect(TokenKind::When, tokens)?;
-    let ((_, when), rest) = inner_expression(reader, rest)?;
-    let (_, rest) = expect(TokenKind::Then, rest)?;
-    let ((_, result), rest) = inner_expression(reader, rest)?;
+    let ((_, when), rest) = keyed(TokenKind::When, reader, tokens)?;
+    let ((_, result), rest) = keyed(TokenKind::Then, reader, rest)?;
     let arm = Arm {
         when: Box::into_inner(when),
         result: Box::into_inner(result),
@@ -144,8 +188,7 @@ fn otherwise<'t, A: Heap>(reader: Reader<A>, tokens: &'t [Token<'t>]) -> Parsed<
     if !sees(TokenKind::Else, tokens) {
         return Ok((Otherwise::Nothing, tokens));
     }
-    let (_, rest) = expect(TokenKind::Else, tokens)?;
-    let ((_, value), rest) = inner_expression(reader, rest)?;
+    let ((_, value), rest) = keyed(TokenKind::Else, reader, tokens)?;
     Ok((Otherwise::Value(value), rest))
 }
 
@@ -160,8 +203,8 @@ fn case<'t, A: Heap>(reader: Reader<A>, tokens: &'t [Token<'t>]) -> Parsed<'t, L
     let (other, rest) = otherwise(reader, rest)?;
     let (_, rest) = expect(TokenKind::End, rest)?;
     let offset = word.offset;
-    let case = case_of(reader.alloc, offset, arms, other)?;
-    Ok(((offset, case), rest))
+    let case = case_of(reader.alloc, offset, arms, other);
+    starting_at(offset, case, rest)
 }
 
 // `* | expr`.
@@ -175,12 +218,18 @@ fn counted_rows<'t, A: Heap>(
     ensures { Parses (λ t. suffix_of t) rules.counted_rows reader tokens.now result }
 {
     if sees(TokenKind::Star, tokens) {
-        let (_, rest) = expect(TokenKind::Star, tokens)?;
-        Ok((CallSuffix::Star, rest))
+        meant(TokenKind::Star, CallSuffix::Star, tokens)
     } else {
-        let ((_, argument), rest) = inner_expression(reader, tokens)?;
-        Ok((CallSuffix::Argument(argument), rest))
+        argument(reader, tokens)
     }
+}
+
+// `[. name]` after a word that may be a function's name.
+fn dotted<'t, A: Heap>(reader: Reader<A>, tokens: &'t [Token<'t>]) -> Parsed<'t, CallSuffix<A>>
+    ensures { Parses (λ t. suffix_of t) (made (λ n. rules.Dotted n) rules.dot_name) reader tokens.now result }
+{
+    let (name, rest) = dot_name(reader, tokens)?;
+    Ok((CallSuffix::Dotted(name), rest))
 }
 
 // What follows `count`.
@@ -191,12 +240,9 @@ fn count_tail<'t, A: Heap>(reader: Reader<A>, tokens: &'t [Token<'t>]) -> Parsed
 {
     if sees(TokenKind::Open, tokens) {
         let (_, rest) = open(TokenKind::Open, reader.depth_limit, tokens)?;
-        let (suffix, rest) = counted_rows(reader, rest)?;
-        let (_, rest) = expect(TokenKind::Close, rest)?;
-        Ok((suffix, rest))
+        closed(counted_rows(reader, rest))
     } else {
-        let (name, rest) = dot_name(reader, tokens)?;
-        Ok((CallSuffix::Dotted(name), rest))
+        dotted(reader, tokens)
     }
 }
 
@@ -208,8 +254,8 @@ fn count<'t, A: Heap>(reader: Reader<A>, tokens: &'t [Token<'t>]) -> Parsed<'t, 
 {
     let (word, rest) = expect(TokenKind::Count, tokens)?;
     let (suffix, rest) = count_tail(reader, rest)?;
-    let value = counted(reader.alloc, &word, suffix)?;
-    Ok(((word.offset, value), rest))
+    let value = counted(reader.alloc, &word, suffix);
+    starting_at(word.offset, value, rest)
 }
 
 // What follows another function's name.
@@ -223,12 +269,9 @@ fn aggregate_tail<'t, A: Heap>(
 {
     if sees(TokenKind::Open, tokens) {
         let (_, rest) = open(TokenKind::Open, reader.depth_limit, tokens)?;
-        let ((_, argument), rest) = inner_expression(reader, rest)?;
-        let (_, rest) = expect(TokenKind::Close, rest)?;
-        Ok((CallSuffix::Argument(argument), rest))
+        closed(argument(reader, rest))
     } else {
-        let (name, rest) = dot_name(reader, tokens)?;
-        Ok((CallSuffix::Dotted(name), rest))
+        dotted(reader, tokens)
     }
 }
 
@@ -240,8 +283,8 @@ fn aggregate<'t, A: Heap>(reader: Reader<A>, tokens: &'t [Token<'t>]) -> Parsed<
 {
     let ((word, name), rest) = aggregate_name(reader, tokens)?;
     let (suffix, rest) = aggregate_tail(reader, rest)?;
-    let value = called(reader.alloc, &word, name, suffix)?;
-    Ok(((word.offset, value), rest))
+    let value = called(reader.alloc, &word, name, suffix);
+    starting_at(word.offset, value, rest)
 }
 
 // `CURRENT_USER` or a literal.
@@ -251,12 +294,12 @@ fn constant<'t, A: Heap>(reader: Reader<A>, tokens: &'t [Token<'t>]) -> Parsed<'
 {
     if sees(TokenKind::CurrentUser, tokens) {
         let (word, rest) = expect(TokenKind::CurrentUser, tokens)?;
-        let value = boxed(reader.alloc, Expr::CurrentUser)?;
-        Ok(((word.offset, value), rest))
+        let value = boxed(reader.alloc, Expr::CurrentUser);
+        starting_at(word.offset, value, rest)
     } else {
         let ((start, value), rest) = literal(reader, tokens)?;
-        let value = boxed(reader.alloc, Expr::Literal(value))?;
-        Ok(((start, value), rest))
+        let value = boxed(reader.alloc, Expr::Literal(value));
+        starting_at(start, value, rest)
     }
 }
 
@@ -267,8 +310,8 @@ fn plain_column<'t, A: Heap>(reader: Reader<A>, tokens: &'t [Token<'t>]) -> Pars
 {
     let (word, rest) = expect_any(Class::PlainName, tokens)?;
     let (name, rest) = dot_name(reader, rest)?;
-    let column = column_expr(reader.alloc, &word, name)?;
-    Ok(((word.offset, column), rest))
+    let column = column_expr(reader.alloc, &word, name);
+    starting_at(word.offset, column, rest)
 }
 
 // An expression without an operator outside parentheses.
@@ -304,8 +347,8 @@ fn unary<'t, A: Heap>(reader: Reader<A>, tokens: &'t [Token<'t>]) -> Parsed<'t, 
         let (sign, rest) = open(TokenKind::Minus, reader.depth_limit, tokens)?;
         let ((_, operand), rest) = inner_unary(reader, rest)?;
         let offset = sign.offset;
-        let value = boxed(reader.alloc, Expr::Negate { offset, operand })?;
-        Ok(((offset, value), rest))
+        let value = boxed(reader.alloc, Expr::Negate { offset, operand });
+        starting_at(offset, value, rest)
     } else {
         primary(reader, tokens)
     }
@@ -357,13 +400,11 @@ fn next_operand<'t, A: Heap>(
     match level {
         Level::Product => {
             let (sign, rest) = multiplication(reader, tokens)?;
-            let (operand, rest) = unary(reader, rest)?;
-            Ok(((sign, operand), rest))
+            before(sign, unary(reader, rest))
         }
         Level::Sum => {
             let (sign, rest) = addition(reader, tokens)?;
-            let (operand, rest) = operations(Level::Product, reader, rest)?;
-            Ok(((sign, operand), rest))
+            before(sign, operations(Level::Product, reader, rest))
         }
     }
 }
@@ -393,6 +434,15 @@ fn operations<'t, A: Heap>(
     Ok((left, rest))
 }
 
+// `AND sum`.
+#[cycle(expression)]
+fn upper_bound<'t, A: Heap>(reader: Reader<A>, tokens: &'t [Token<'t>]) -> Parsed<'t, Located<A>>
+    ensures { Parses (λ t. located t) (after (is k.And) rules.sum) reader tokens.now result }
+{
+    let (_, rest) = expect(TokenKind::And, tokens)?;
+    operations(Level::Sum, reader, rest)
+}
+
 // `BETWEEN sum AND sum`.
 #[cycle(expression)]
 #[tactic(auto, unfolding(row_reader::specs::Expressions::between))]
@@ -401,8 +451,7 @@ fn between<'t, A: Heap>(reader: Reader<A>, tokens: &'t [Token<'t>]) -> Parsed<'t
 {
     let (word, rest) = expect(TokenKind::Between, tokens)?;
     let ((_, low), rest) = operations(Level::Sum, reader, rest)?;
-    let (_, rest) = expect(TokenKind::And, rest)?;
-    let ((_, high), rest) = operations(Level::Sum, reader, rest)?;
+    let ((_, high), rest) = upper_bound(reader, rest)?;
     let offset = word.offset;
     Ok((Range::Bounds { offset, low, high }, rest))
 }
@@ -414,8 +463,7 @@ fn in_list<'t, A: Heap>(reader: Reader<A>, tokens: &'t [Token<'t>]) -> Parsed<'t
 {
     let (word, rest) = expect(TokenKind::In, tokens)?;
     let (_, rest) = open(TokenKind::Open, reader.depth_limit, rest)?;
-    let (values, rest) = value_list(reader, rest)?;
-    let (_, rest) = expect(TokenKind::Close, rest)?;
+    let (values, rest) = closed(value_list(reader, rest))?;
     let offset = word.offset;
     Ok((Range::Values { offset, values }, rest))
 }
@@ -431,11 +479,9 @@ fn negated_range<'t, A: Heap>(
 {
     let (word, rest) = expect(TokenKind::Not, tokens)?;
     if sees(TokenKind::Between, rest) {
-        let (range, rest) = between(reader, rest)?;
-        Ok(((word.offset, range), rest))
+        before(word.offset, between(reader, rest))
     } else {
-        let (range, rest) = in_list(reader, rest)?;
-        Ok(((word.offset, range), rest))
+        before(word.offset, in_list(reader, rest))
     }
 }
 
@@ -452,11 +498,9 @@ fn range_tail<'t, A: Heap>(
         let ((not, range), rest) = negated_range(reader, tokens)?;
         Ok((Some((Some(not), range)), rest))
     } else if sees(TokenKind::Between, tokens) {
-        let (range, rest) = between(reader, tokens)?;
-        Ok((Some((None, range)), rest))
+        present(before(None, between(reader, tokens)))
     } else if sees(TokenKind::In, tokens) {
-        let (range, rest) = in_list(reader, tokens)?;
-        Ok((Some((None, range)), rest))
+        present(before(None, in_list(reader, tokens)))
     } else {
         Ok((None, tokens))
     }
@@ -470,7 +514,20 @@ fn ranged_sum<'t, A: Heap>(reader: Reader<A>, tokens: &'t [Token<'t>]) -> Parsed
 {
     let (operand, rest) = operations(Level::Sum, reader, tokens)?;
     let (range, rest) = range_tail(reader, rest)?;
-    Ok((ranged(reader.alloc, operand, range)?, rest))
+    with_rest(ranged(reader.alloc, operand, range), rest)
+}
+
+// `= ranged sum` or the like.
+#[cycle(expression)]
+#[tactic(auto, unfolding(row_reader::specs::Expressions::compared_with))]
+fn compared_with<'t, A: Heap>(
+    reader: Reader<A>,
+    tokens: &'t [Token<'t>],
+) -> Parsed<'t, ((u32, Comparison), Located<A>)>
+    ensures { Parses (λ t. (t.0, located t.1)) rules.compared_with reader tokens.now result }
+{
+    let (sign, rest) = comparison_sign(reader, tokens)?;
+    before(sign, ranged_sum(reader, rest))
 }
 
 // A comparison, of which there is at most one.
@@ -483,31 +540,36 @@ fn comparison<'t, A: Heap>(reader: Reader<A>, tokens: &'t [Token<'t>]) -> Parsed
     if !sees_any(Class::Comparison, rest) {
         return Ok(((start, left), rest));
     }
-    let ((offset, operator), rest) = comparison_sign(reader, rest)?;
-    let ((_, right), rest) = ranged_sum(reader, rest)?;
+    let (((offset, operator), (_, right)), rest) = compared_with(reader, rest)?;
     let whole = Expr::Comparison {
         operator,
         offset,
         left,
         right,
     };
-    Ok(((start, boxed(reader.alloc, whole)?), rest))
+    starting_at(start, boxed(reader.alloc, whole), rest)
+}
+
+// `[NOT] NULL`, and whether with NOT.
+#[tactic(auto, unfolding(row_reader::specs::Expressions::null_word))]
+fn null_word<'t, A: Heap>(reader: Reader<A>, tokens: &'t [Token<'t>]) -> Parsed<'t, bool>
+    ensures { Parses (λ t. t) rules.null_word reader tokens.now result }
+{
+    if sees(TokenKind::Not, tokens) {
+        let (_, rest) = expect(TokenKind::Not, tokens)?;
+        meant(TokenKind::Null, true, rest)
+    } else {
+        meant(TokenKind::Null, false, tokens)
+    }
 }
 
 // `IS [NOT] NULL`, and whether with NOT.
-#[tactic(auto, unfolding(row_reader::specs::Expressions::is_null, row_reader::specs::Expressions::null_word))]
+#[tactic(auto, unfolding(row_reader::specs::Expressions::is_null))]
 fn is_null<'t, A: Heap>(reader: Reader<A>, tokens: &'t [Token<'t>]) -> Parsed<'t, (u32, bool)>
     ensures { Parses (λ t. t) rules.is_null reader tokens.now result }
 {
     let (word, rest) = expect(TokenKind::Is, tokens)?;
-    if sees(TokenKind::Not, rest) {
-        let (_, rest) = expect(TokenKind::Not, rest)?;
-        let (_, rest) = expect(TokenKind::Null, rest)?;
-        Ok(((word.offset, true), rest))
-    } else {
-        let (_, rest) = expect(TokenKind::Null, rest)?;
-        Ok(((word.offset, false), rest))
-    }
+    before(word.offset, null_word(reader, rest))
 }
 
 // `comparison [IS [NOT] NULL]`.
@@ -526,7 +588,7 @@ fn null_test<'t, A: Heap>(reader: Reader<A>, tokens: &'t [Token<'t>]) -> Parsed<
         offset,
         operand,
     };
-    Ok(((start, boxed(reader.alloc, test)?), rest))
+    starting_at(start, boxed(reader.alloc, test), rest)
 }
 
 // `NOT negation | null test`.
@@ -539,8 +601,8 @@ fn negation<'t, A: Heap>(reader: Reader<A>, tokens: &'t [Token<'t>]) -> Parsed<'
         let (word, rest) = open(TokenKind::Not, reader.depth_limit, tokens)?;
         let ((_, operand), rest) = inner_negation(reader, rest)?;
         let offset = word.offset;
-        let value = boxed(reader.alloc, Expr::Not { offset, operand })?;
-        Ok(((offset, value), rest))
+        let value = boxed(reader.alloc, Expr::Not { offset, operand });
+        starting_at(offset, value, rest)
     } else {
         null_test(reader, tokens)
     }
@@ -571,8 +633,7 @@ fn next_member<'t, A: Heap>(
     ensures { Parses (λ t. (word_of t.0, located t.1)) (next_member_rule connective) reader tokens.now result }
 {
     let (word, rest) = expect(connective_word(connective), tokens)?;
-    let (operand, rest) = first_member(connective, reader, rest)?;
-    Ok(((word, operand), rest))
+    before(word, first_member(connective, reader, rest))
 }
 
 // `negation {AND negation}`, or `conjunction {OR conjunction}`; a member that is itself one of these is merged.
@@ -593,23 +654,18 @@ fn connected<'t, A: Heap>(
     let mut members = members_of(reader.alloc, connective, first)?;
     for _ in 0..reader.run_limit {
         if !sees(word, rest) {
-            return Ok((
-                joined(reader.alloc, connective, (start, offset), members)?,
-                rest,
-            ));
+            let whole = joined(reader.alloc, connective, (start, offset), members);
+            return with_rest(whole, rest);
         }
         let ((_, (_, next)), after) = next_member(connective, reader, rest)?;
-        let mut more = members_of(reader.alloc, connective, next)?;
-        members.append(&mut more)?;
+        extend(reader.alloc, connective, &mut members, next)?;
         rest = after;
     }
     if sees(word, rest) {
         return Err(Failure::Fault(ReadError::Limit { left: rest.len() }));
     }
-    Ok((
-        joined(reader.alloc, connective, (start, offset), members)?,
-        rest,
-    ))
+    let whole = joined(reader.alloc, connective, (start, offset), members);
+    with_rest(whole, rest)
 }
 
 /// An expression: `conjunction {OR conjunction}`.

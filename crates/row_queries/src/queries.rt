@@ -20,8 +20,10 @@ use row_ast::{
 };
 use row_expressions::expression;
 use row_reader::comma_list::comma_list;
-use row_reader::names::{columns, name};
-use row_reader::reader::{Class, Parsed, Parser, Reader, expect, expect_any, sees, sees_any};
+use row_reader::names::{columns, name, name_after};
+use row_reader::reader::{
+    Class, Parsed, Parser, Reader, before, expect, expect_any, meant, present, sees, sees_any,
+};
 use row_tokens::{Token, TokenKind, folded};
 use text::{Items, Text};
 
@@ -55,9 +57,7 @@ fn select_alias<'t, A: Heap>(
     if !sees(TokenKind::As, tokens) {
         return Ok((None, tokens));
     }
-    let (_, rest) = expect(TokenKind::As, tokens)?;
-    let (name, rest) = name(reader, rest)?;
-    Ok((Some(name), rest))
+    present(name_after(TokenKind::As, reader, tokens))
 }
 
 // An item of SELECT: `expression [AS name]`.
@@ -117,12 +117,9 @@ fn table_alias<'t, A: Heap>(
     ensures { Parses (λ t. t) rules.table_alias reader tokens.now result }
 {
     if sees(TokenKind::As, tokens) {
-        let (_, rest) = expect(TokenKind::As, tokens)?;
-        let (name, rest) = name(reader, rest)?;
-        Ok((Some(name), rest))
+        present(name_after(TokenKind::As, reader, tokens))
     } else if sees_any(Class::Name, tokens) {
-        let (name, rest) = name(reader, tokens)?;
-        Ok((Some(name), rest))
+        present(name(reader, tokens))
     } else {
         Ok((None, tokens))
     }
@@ -163,7 +160,7 @@ fn plain_join<'t, A: Heap>(reader: Reader<A>, tokens: &'t [Token<'t>]) -> Parsed
 {
     let (_, rest) = expect(TokenKind::Join, tokens)?;
     let (table, rest) = table_ref(reader, rest)?;
-    let (on, rest) = on_condition(reader, rest)?;
+    let ((table, on), rest) = before(table, on_condition(reader, rest))?;
     Ok((Join::Inner { table, on }, rest))
 }
 
@@ -261,8 +258,7 @@ fn filter<'t, A: Heap>(
         return Ok((None, tokens));
     }
     let (_, rest) = expect(TokenKind::Where, tokens)?;
-    let (condition, rest) = condition(reader, rest)?;
-    Ok((Some(condition), rest))
+    present(condition(reader, rest))
 }
 
 // `[GROUP BY columns]`.
@@ -294,8 +290,7 @@ fn having<'t, A: Heap>(
         return Ok((None, tokens));
     }
     let (_, rest) = expect(TokenKind::Having, tokens)?;
-    let (condition, rest) = condition(reader, rest)?;
-    Ok((Some(condition), rest))
+    present(condition(reader, rest))
 }
 
 // A heading or a number, and its offset.
@@ -322,11 +317,9 @@ fn direction<'t, A: Heap>(reader: Reader<A>, tokens: &'t [Token<'t>]) -> Parsed<
     ensures { Parses (λ t. t) rules.direction reader tokens.now result }
 {
     if sees(TokenKind::Desc, tokens) {
-        let (_, rest) = expect(TokenKind::Desc, tokens)?;
-        Ok((true, rest))
+        meant(TokenKind::Desc, true, tokens)
     } else if sees(TokenKind::Asc, tokens) {
-        let (_, rest) = expect(TokenKind::Asc, tokens)?;
-        Ok((false, rest))
+        meant(TokenKind::Asc, false, tokens)
     } else {
         Ok((false, tokens))
     }
@@ -410,8 +403,7 @@ fn ordered<'t, A: Heap>(
     ensures { Parses (λ t. (map (λ k. sort_key_of k) t.0, t.1)) (both rules.order_by rules.limit) reader tokens.now result }
 {
     let (order_by, rest) = order_by(reader, tokens)?;
-    let (limit, rest) = limit(reader, rest)?;
-    Ok(((order_by, limit), rest))
+    before(order_by, limit(reader, rest))
 }
 
 // `[HAVING expression]` and what may follow.
@@ -422,8 +414,7 @@ fn from_having<'t, A: Heap>(
     ensures { Parses (λ t. (option_map (λ c. condition_of c) t.0, (map (λ k. sort_key_of k) t.1.0, t.1.1))) (both rules.having (both rules.order_by rules.limit)) reader tokens.now result }
 {
     let (having, rest) = having(reader, tokens)?;
-    let ((order_by, limit), rest) = ordered(reader, rest)?;
-    Ok(((having, (order_by, limit)), rest))
+    before(having, ordered(reader, rest))
 }
 
 // `[GROUP BY columns]` and what may follow.
@@ -440,8 +431,7 @@ fn from_group_by<'t, A: Heap>(
     ensures { Parses (λ t. (map (λ c. column_ref_of c) t.0, (option_map (λ c. condition_of c) t.1.0, (map (λ k. sort_key_of k) t.1.1.0, t.1.1.1)))) (both rules.group_by (both rules.having (both rules.order_by rules.limit))) reader tokens.now result }
 {
     let (group_by, rest) = group_by(reader, tokens)?;
-    let ((having, (order_by, limit)), rest) = from_having(reader, rest)?;
-    Ok(((group_by, (having, (order_by, limit))), rest))
+    before(group_by, from_having(reader, rest))
 }
 
 // What may follow FROM.
@@ -469,8 +459,7 @@ fn from_clauses<'t, A: Heap>(
     ensures { Parses (λ t. (map (λ c. from_item_of c) t.0, clauses_of t.1)) (both rules.from rules.clauses) reader tokens.now result }
 {
     let (items, rest) = from(reader, tokens)?;
-    let (following, rest) = clauses(reader, rest)?;
-    Ok(((items, following), rest))
+    before(items, clauses(reader, rest))
 }
 
 /// `SELECT list FROM items` and what may follow.

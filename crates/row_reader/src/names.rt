@@ -5,6 +5,7 @@ ghost use Rattle.row_grammar.specs.Limits.{reads};
 ghost use Rattle.row_tokens.specs.View.{words_of, word_of};
 ghost use Rattle.row_reader.specs.Expressions as rules;
 ghost use Rattle.row_reader.specs.Expressions.{column_ref};
+ghost use Rattle.row_reader.specs.Language.{after, is};
 ghost use Rattle.row_reader.specs.Reading.{Parses};
 ghost use Rattle.row_ast.specs.Ast as ast;
 ghost use Rattle.row_ast.specs.View.{column_ref_of};
@@ -29,6 +30,18 @@ pub fn name<'t, A: Heap>(reader: Reader<A>, tokens: &'t [Token<'t>]) -> Parsed<'
     with_rest(folded(reader.alloc, token.text), rest)
 }
 
+/// A word of this kind and a name.
+pub fn name_after<'t, A: Heap>(
+    kind: TokenKind,
+    reader: Reader<A>,
+    tokens: &'t [Token<'t>],
+) -> Parsed<'t, Text<A>>
+    ensures { Parses (λ t. t) (after (is kind) rules.name) reader tokens.now result }
+{
+    let (_, rest) = expect(kind, tokens)?;
+    name(reader, rest)
+}
+
 /// `[. name]`.
 #[tactic(auto, unfolding(crate::specs::Expressions::dot_name))]
 pub fn dot_name<'t, A: Heap>(
@@ -40,8 +53,7 @@ pub fn dot_name<'t, A: Heap>(
     if !sees(TokenKind::Dot, tokens) {
         return Ok((None, tokens));
     }
-    let (_, rest) = expect(TokenKind::Dot, tokens)?;
-    present(name(reader, rest))
+    present(name_after(TokenKind::Dot, reader, tokens))
 }
 
 /// A column of a word and a name after the dot, if there is one.

@@ -5,7 +5,8 @@ ghost use Rattle.row_grammar.specs.Decoder.{head_in, first};
 ghost use Rattle.row_grammar.specs.Limits.{reads};
 ghost use Rattle.row_tokens.specs.View.{words_of};
 ghost use Rattle.row_reader.specs.Expressions.{grammar, nested_first};
-ghost use Rattle.row_reader.specs.Language.{language, kind_of};
+ghost use Rattle.row_reader.specs.Expressions as expressions;
+ghost use Rattle.row_reader.specs.Language.{language, kind_of, after, is};
 ghost use Rattle.row_reader.specs.Reading.{Parses};
 ghost use Rattle.row_statements.specs.Schemas as rules;
 ghost use Rattle.row_ast.specs.View.{statement_of};
@@ -14,8 +15,8 @@ ghost use Rattle.row_statements.specs.View.{granting_of};
 use memory::Heap;
 use row_ast::{Grant, RowSecurity, Statement};
 use row_creates::create;
-use row_reader::names::{name, names};
-use row_reader::reader::{Parsed, Reader, before, expect, sees};
+use row_reader::names::{name, name_after, names};
+use row_reader::reader::{Parsed, Reader, before, closed, expect, meant, present, sees};
 use row_tokens::{Token, TokenKind};
 use text::{Items, Text};
 
@@ -25,8 +26,7 @@ fn owner<'t, A: Heap>(reader: Reader<A>, tokens: &'t [Token<'t>]) -> Parsed<'t, 
     ensures { Parses (λ t. t) rules.owner reader tokens.now result }
 {
     let (_, rest) = expect(TokenKind::Owner, tokens)?;
-    let (_, rest) = expect(TokenKind::To, rest)?;
-    name(reader, rest)
+    name_after(TokenKind::To, reader, rest)
 }
 
 // `ENABLE`, `DISABLE`, `FORCE` or `NO FORCE`.
@@ -38,18 +38,14 @@ fn security_setting<'t, A: Heap>(
     ensures { Parses (λ t. t) rules.security_setting reader tokens.now result }
 {
     if sees(TokenKind::Enable, tokens) {
-        let (_, rest) = expect(TokenKind::Enable, tokens)?;
-        Ok((RowSecurity::Enable, rest))
+        meant(TokenKind::Enable, RowSecurity::Enable, tokens)
     } else if sees(TokenKind::Disable, tokens) {
-        let (_, rest) = expect(TokenKind::Disable, tokens)?;
-        Ok((RowSecurity::Disable, rest))
+        meant(TokenKind::Disable, RowSecurity::Disable, tokens)
     } else if sees(TokenKind::Force, tokens) {
-        let (_, rest) = expect(TokenKind::Force, tokens)?;
-        Ok((RowSecurity::Force, rest))
+        meant(TokenKind::Force, RowSecurity::Force, tokens)
     } else {
         let (_, rest) = expect(TokenKind::No, tokens)?;
-        let (_, rest) = expect(TokenKind::Force, rest)?;
-        Ok((RowSecurity::NoForce, rest))
+        meant(TokenKind::Force, RowSecurity::NoForce, rest)
     }
 }
 
@@ -61,8 +57,7 @@ fn security<'t, A: Heap>(reader: Reader<A>, tokens: &'t [Token<'t>]) -> Parsed<'
     let (setting, rest) = security_setting(reader, tokens)?;
     let (_, rest) = expect(TokenKind::Row, rest)?;
     let (_, rest) = expect(TokenKind::Level, rest)?;
-    let (_, rest) = expect(TokenKind::Security, rest)?;
-    Ok((setting, rest))
+    meant(TokenKind::Security, setting, rest)
 }
 
 // `ALTER TABLE name` and a new owner, or row security.
@@ -94,9 +89,7 @@ fn grant_columns<'t, A: Heap>(
         return Ok((None, tokens));
     }
     let (_, rest) = expect(TokenKind::Open, tokens)?;
-    let (columns, rest) = names(reader, rest)?;
-    let (_, rest) = expect(TokenKind::Close, rest)?;
-    Ok((Some(columns), rest))
+    present(closed(names(reader, rest)))
 }
 
 // `SELECT [( columns )] ON name`.
@@ -109,9 +102,19 @@ fn granted<'t, A: Heap>(
 {
     let (_, rest) = expect(TokenKind::Select, tokens)?;
     let (columns, rest) = grant_columns(reader, rest)?;
-    let (_, rest) = expect(TokenKind::On, rest)?;
-    let (table, rest) = name(reader, rest)?;
-    Ok(((columns, table), rest))
+    before(columns, name_after(TokenKind::On, reader, rest))
+}
+
+// A word of this kind and names.
+fn names_after<'t, A: Heap>(
+    kind: TokenKind,
+    reader: Reader<A>,
+    tokens: &'t [Token<'t>],
+) -> Parsed<'t, Items<Text<A>, A>>
+    ensures { Parses (λ t. t) (after (is kind) expressions.names) reader tokens.now result }
+{
+    let (_, rest) = expect(kind, tokens)?;
+    names(reader, rest)
 }
 
 // What follows GRANT and REVOKE.
@@ -134,8 +137,7 @@ fn granting<'t, A: Heap>(
 {
     if sees(TokenKind::Select, tokens) {
         let ((columns, table), rest) = granted(reader, tokens)?;
-        let (_, rest) = expect(word, rest)?;
-        let (roles, rest) = names(reader, rest)?;
+        let (roles, rest) = names_after(word, reader, rest)?;
         let grant = Grant {
             columns,
             table,
@@ -144,8 +146,7 @@ fn granting<'t, A: Heap>(
         Ok((GrantBody::Select(grant), rest))
     } else {
         let (group, rest) = name(reader, tokens)?;
-        let (_, rest) = expect(word, rest)?;
-        let (member, rest) = name(reader, rest)?;
+        let (member, rest) = name_after(word, reader, rest)?;
         Ok((GrantBody::Role { group, member }, rest))
     }
 }
@@ -186,8 +187,7 @@ fn drop_policy<'t, A: Heap>(reader: Reader<A>, tokens: &'t [Token<'t>]) -> Parse
     let (_, rest) = expect(TokenKind::Drop, tokens)?;
     let (_, rest) = expect(TokenKind::Policy, rest)?;
     let (policy, rest) = name(reader, rest)?;
-    let (_, rest) = expect(TokenKind::On, rest)?;
-    let (table, rest) = name(reader, rest)?;
+    let (table, rest) = name_after(TokenKind::On, reader, rest)?;
     let policy = Statement::DropPolicy {
         name: policy,
         table,
@@ -225,8 +225,7 @@ fn ended_statement<'t, A: Heap>(
     ensures { Parses (λ t. statement_of t) rules.ended_statement reader tokens.now result }
 {
     let (statement, rest) = statement(reader, tokens)?;
-    let ((statement, _), rest) = before(statement, expect(TokenKind::Semicolon, rest))?;
-    Ok((statement, rest))
+    meant(TokenKind::Semicolon, statement, rest)
 }
 
 // Whether a statement comes next.

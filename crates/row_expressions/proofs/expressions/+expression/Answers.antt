@@ -1,30 +1,46 @@
-use Rattle.std.proofs.Common.{◌≡◌, ◌++◌, true, false, ◌∷◌, List, map, Ok, Err, refl, sym, ap, ◌∙◌, arith}
+use Rattle.std.proofs.Common.{◌≡◌, ◌++◌, ℕ, true, false, ◌∷◌, List, map, Ok, Err, refl, sym, ap, ◌∙◌, arith}
 use Rattle.std.proofs.lemmas.Result.{err_from_is_err_and}
 use Rattle.std.proofs.lemmas.List.{length-map}
 use Rattle.std.specs.List.{flat_map}
+use Rattle.std.specs.Prelude.{Result, Box, IfOk}
+use denote.Ref.{Bor}
+use Rattle.memory.specs.Gives.{Gives}
 use Rattle.row_grammar.specs.Decoder.{first, head_in, word_at, opened_at, Outcome}
 use Rattle.row_grammar.specs.declared.error.ReadError.{ReadError}
 use Rattle.row_grammar.specs.Limits.{reads, can_open}
 use Rattle.row_grammar.proofs.Steps.{fault_along, run_start, run_err}
 use Rattle.row_tokens.specs.declared.token.TokenKind.TheVariants as k
 use Rattle.row_tokens.specs.Words.{Word}
-use Rattle.row_tokens.specs.View.{word_of}
+use Rattle.row_tokens.specs.View.{word_of, words_of}
+use Rattle.row_tokens.specs.declared.token.Token.{Token}
 use Rattle.row_ast.specs.Ast.{Expr, Otherwise, Case, arms_of, And, Or, exprs_of, and_members, or_members}
 use Rattle.row_reader.specs.Language.{language, Located, is, of, next_at, kind_of}
-use Rattle.row_reader.specs.declared.reader.Class.TheVariants as class
 use Rattle.row_reader.specs.Expressions as rules
 use Rattle.row_reader.specs.Expressions.{grammar, nested_first, folded_left, and_of, or_of}
 use Rattle.row_ast.specs.View.{expr_of, arm_pair}
+use Rattle.row_ast.specs.declared.expr.Expr.{Expr as Tree}
+use Rattle.row_reader.specs.Reading.{starting_at, with_rest}
 use Rattle.row_expressions.specs.Levels.{connected_rule, connective_word, joined_expr, member_rule, members_of, next_member_rule, next_rule, operand_rule, run_rule, sign_class}
 use Rattle.row_expressions.specs.View.{located}
 use Rattle.row_expressions.specs.declared.build.Connective.{Connective}
 use Rattle.row_expressions.specs.declared.build.Connective.TheVariants as word
 use Rattle.row_expressions.specs.declared.expressions.Level.{Level}
 use Rattle.row_expressions.specs.declared.expressions.Level.TheVariants as level
-use Rattle.row_ast.proofs.Trees.{appended}
 use Rattle.row_reader.proofs.Lists.{listed_stop, listed_over, listed_fail, listed_go, listed_first, listed_none}
 use Rattle.row_expressions.proofs.Runs.{run_on, run_stop, run_full, run_fail, run_go, run_more, word_is_next, joined, joined_go, joined_end}
 use Rattle.row_expressions.proofs.expressions.+expression.Goals as goal
+
+-- ---- what is made at the end
+
+placed : {A F : Type 0} (start : ℕ) (made : Result (Box (Tree A) A) F) (rest : Bor (List Token)) (whole : Expr) (due : Outcome Word Located) → IfOk made (λ e. expr_of e.value ≡ whole) → due ≡ Ok ((start, whole), words_of rest.now)
+    → Gives (λ x. (located x.0, words_of x.1.now)) (starting_at start made rest) due
+placed start (Ok e) rest whole due h r = r ∙ ap (λ (x : Expr). let o : Outcome Word Located = Ok ((start, x), words_of rest.now) in o) (sym h)
+placed start (Err e) rest whole due h r = tt
+
+kept : {A F : Type 0} (made : Result (ℕ × Box (Tree A) A) F) (rest : Bor (List Token)) (whole : Located) (due : Outcome Word Located) → IfOk made (λ p. located p ≡ whole) → due ≡ Ok (whole, words_of rest.now)
+    → Gives (λ x. (located x.0, words_of x.1.now)) (with_rest made rest) due
+kept (Ok p) rest whole due h r = r ∙ ap (λ (x : Located). let o : Outcome Word Located = Ok (x, words_of rest.now) in o) (sym h)
+kept (Err e) rest whole due h r = tt
 
 -- ---- arms
 
@@ -45,19 +61,19 @@ arms-loop-init g t c =
     c.in_ok-first.ensures c.new-all.ensures c.in_ok-push.ensures.ok (omega (arith, length-map c.in_ok-first.rest.now word_of))
 
 pub arms-returns-then-not-sees : goal.arms-returns-then-not-sees
-arms-returns-then-not-sees g t c = listed_stop c.args.reader.run_limit c.args.reader.depth_limit (λ a. arm_pair a) rules.arm (is k.When) _ c.loop.all _ (map word_of c.loop.rest.now) c.loop.invariant (cc)
+arms-returns-then-not-sees g t c = listed_stop c.args.reader.run_limit c.args.reader.depth_limit (λ a. arm_pair a) rules.arm (is k.When) (reads grammar c.args.reader.run_limit c.args.reader.depth_limit rules.arms (map word_of c.args.tokens.now)) c.loop.all _ (map word_of c.loop.rest.now) c.loop.invariant (cc)
 
 pub arms-returns : goal.arms-returns
-arms-returns g t c = listed_over c.args.reader.run_limit c.args.reader.depth_limit (λ a. arm_pair a) rules.arm (is k.When) _ c.loop.all _ (map word_of c.loop.rest.now) c.loop.invariant (omega arith)
+arms-returns g t c = listed_over c.args.reader.run_limit c.args.reader.depth_limit (λ a. arm_pair a) rules.arm (is k.When) (reads grammar c.args.reader.run_limit c.args.reader.depth_limit rules.arms (map word_of c.args.tokens.now)) c.loop.all _ (map word_of c.loop.rest.now) c.loop.invariant (omega arith)
 
 pub arms-returns-in_err-next : goal.arms-returns-in_err-next
 arms-returns-in_err-next g t c =
     let p = err_from_is_err_and c.from_residual-in_err-next.result c.from_residual-in_err-next.ensures.1 in
-    rw (p.1, p.2) (listed_fail c.args.reader.run_limit c.args.reader.depth_limit (λ a. arm_pair a) rules.arm (is k.When) _ c.loop.all _ (map word_of c.loop.rest.now) c.loop.invariant _ (omega arith) (cc) c.in_err-next.ensures)
+    rw (p.1, p.2) (listed_fail c.args.reader.run_limit c.args.reader.depth_limit (λ a. arm_pair a) rules.arm (is k.When) (reads grammar c.args.reader.run_limit c.args.reader.depth_limit rules.arms (map word_of c.args.tokens.now)) c.loop.all _ (map word_of c.loop.rest.now) c.loop.invariant _ (omega arith) (cc) c.in_err-next.ensures)
 
 pub arms-loop-preserved : goal.arms-loop-preserved
 arms-loop-preserved g t c =
-    listed_go c.args.reader.run_limit c.args.reader.depth_limit (λ a. arm_pair a) rules.arm (is k.When) _ c.loop.all _ (map word_of c.loop.rest.now) c.loop.invariant c.in_ok-next.next (map word_of c.in_ok-next.after.now) c.push-in-loop.new.self _ (omega arith) (cc)
+    listed_go c.args.reader.run_limit c.args.reader.depth_limit (λ a. arm_pair a) rules.arm (is k.When) (reads grammar c.args.reader.run_limit c.args.reader.depth_limit rules.arms (map word_of c.args.tokens.now)) c.loop.all _ (map word_of c.loop.rest.now) c.loop.invariant c.in_ok-next.next (map word_of c.in_ok-next.after.now) c.push-in-loop.new.self _ (omega arith) (cc)
     c.in_ok-next.ensures c.in_ok-push-2.ensures.ok (omega arith)
 
 -- ---- operations
@@ -87,22 +103,22 @@ pub operations-loop-init : goal.operations-loop-init
 operations-loop-init g t c = start_run c.args.level c.args.reader.run_limit c.args.reader.depth_limit _ (map word_of c.args.tokens.now) (located c.in_ok-left.left) (map word_of c.in_ok-left.rest.now) c.in_ok-left.ensures (omega arith)
 
 pub operations-returns-then-not-sees_any : goal.operations-returns-then-not-sees_any
-operations-returns-then-not-sees_any g t c = run_stop c.args.reader.run_limit c.args.reader.depth_limit (next_rule c.args.level) (of (sign_class c.args.level)) (folded_left (located c.loop.left)) _ _ (map word_of c.loop.rest.now) c.loop.invariant (cc)
+operations-returns-then-not-sees_any g t c = run_stop c.args.reader.run_limit c.args.reader.depth_limit (next_rule c.args.level) (of (sign_class c.args.level)) (folded_left (located c.loop.left)) (reads grammar c.args.reader.run_limit c.args.reader.depth_limit (run_rule c.args.level) (map word_of c.args.tokens.now)) _ (map word_of c.loop.rest.now) c.loop.invariant (cc)
 
 pub operations-returns : goal.operations-returns
-operations-returns g t c = run_stop c.args.reader.run_limit c.args.reader.depth_limit (next_rule c.args.level) (of (sign_class c.args.level)) (folded_left (located c.loop.left)) _ _ (map word_of c.loop.rest.now) c.loop.invariant (cc)
+operations-returns g t c = run_stop c.args.reader.run_limit c.args.reader.depth_limit (next_rule c.args.level) (of (sign_class c.args.level)) (folded_left (located c.loop.left)) (reads grammar c.args.reader.run_limit c.args.reader.depth_limit (run_rule c.args.level) (map word_of c.args.tokens.now)) _ (map word_of c.loop.rest.now) c.loop.invariant (cc)
 
 pub operations-returns-then-sees_any : goal.operations-returns-then-sees_any
-operations-returns-then-sees_any g t c = rw (← length-map c.loop.rest.now word_of) (run_full c.args.reader.run_limit c.args.reader.depth_limit (next_rule c.args.level) (of (sign_class c.args.level)) (folded_left (located c.loop.left)) _ _ (map word_of c.loop.rest.now) c.loop.invariant (omega arith) (cc))
+operations-returns-then-sees_any g t c = rw (← length-map c.loop.rest.now word_of) (run_full c.args.reader.run_limit c.args.reader.depth_limit (next_rule c.args.level) (of (sign_class c.args.level)) (folded_left (located c.loop.left)) (reads grammar c.args.reader.run_limit c.args.reader.depth_limit (run_rule c.args.level) (map word_of c.args.tokens.now)) _ (map word_of c.loop.rest.now) c.loop.invariant (omega arith) (cc))
 
 pub operations-returns-in_err-sign : goal.operations-returns-in_err-sign
 operations-returns-in_err-sign g t c =
     let p = err_from_is_err_and c.from_residual-in_err-sign.result c.from_residual-in_err-sign.ensures.1 in
-    rw (p.1, p.2) (run_fail c.args.reader.run_limit c.args.reader.depth_limit (next_rule c.args.level) (of (sign_class c.args.level)) (folded_left (located c.loop.left)) _ _ (map word_of c.loop.rest.now) c.loop.invariant _ (omega arith) (cc (c.sign_class-signs.ensures, c.sees_any.ensures, c.if-not-sees_any.false)) c.in_err-sign.ensures)
+    rw (p.1, p.2) (run_fail c.args.reader.run_limit c.args.reader.depth_limit (next_rule c.args.level) (of (sign_class c.args.level)) (folded_left (located c.loop.left)) (reads grammar c.args.reader.run_limit c.args.reader.depth_limit (run_rule c.args.level) (map word_of c.args.tokens.now)) _ (map word_of c.loop.rest.now) c.loop.invariant _ (omega arith) (cc (c.sign_class-signs.ensures, c.sees_any.ensures, c.if-not-sees_any.false)) c.in_err-sign.ensures)
 
 pub operations-loop-preserved : goal.operations-loop-preserved
 operations-loop-preserved g t c =
-    run_go c.args.reader.run_limit c.args.reader.depth_limit (next_rule c.args.level) (of (sign_class c.args.level)) (folded_left (located c.loop.left)) _ _ (map word_of c.loop.rest.now) c.loop.invariant
+    run_go c.args.reader.run_limit c.args.reader.depth_limit (next_rule c.args.level) (of (sign_class c.args.level)) (folded_left (located c.loop.left)) (reads grammar c.args.reader.run_limit c.args.reader.depth_limit (run_rule c.args.level) (map word_of c.args.tokens.now)) _ (map word_of c.loop.rest.now) c.loop.invariant
     (c.in_ok-sign.sign, located c.in_ok-sign.right) (map word_of c.in_ok-sign.after.now) _ _ (omega arith) (cc) c.in_ok-sign.ensures
     (λ xs. ap (λ x. folded_left x xs) (sym c.in_ok-left-2.ensures)) (omega arith)
 
@@ -158,25 +174,29 @@ connected-loop-init g t c = start c.args.connective c.args.reader.run_limit c.ar
     c.in_ok-start.ensures (cc) c.next_offset-offset.ensures c.in_ok-members.ensures (omega arith)
 
 pub connected-returns-then-not-sees-2 : goal.connected-returns-then-not-sees-2
-connected-returns-then-not-sees-2 g t c = run_stop c.args.reader.run_limit c.args.reader.depth_limit (next_member_rule c.args.connective) (is (connective_word c.args.connective)) (joined (λ ms. joined_expr c.args.connective c.next_offset-offset.result ms) (λ e. members_of c.args.connective e) c.in_ok-start.start (map (λ e. expr_of e) c.loop.members.items)) _ _ (map word_of c.loop.rest.now) c.loop.invariant (cc (c.connective_word-word.ensures, c.sees-in-loop.ensures, c.if-not-sees-2.true)) ∙ ap (λ (p : Located). let o : Outcome Word Located = Ok (p, map word_of c.loop.rest.now) in o) (joined_end (λ ms. joined_expr c.args.connective c.next_offset-offset.result ms) (λ e. members_of c.args.connective e) c.in_ok-start.start (map (λ e. expr_of e) c.loop.members.items) ∙ sym c.in_ok-joined.ensures)
+connected-returns-then-not-sees-2 g t c =
+    rw c.with_rest.ensures (kept c.joined-whole.result c.loop.rest _ _ c.joined-whole.ensures
+    (run_stop c.args.reader.run_limit c.args.reader.depth_limit (next_member_rule c.args.connective) (is (connective_word c.args.connective)) (joined (λ ms. joined_expr c.args.connective c.next_offset-offset.result ms) (λ e. members_of c.args.connective e) c.in_ok-start.start (map (λ e. expr_of e) c.loop.members.items)) (reads grammar c.args.reader.run_limit c.args.reader.depth_limit (connected_rule c.args.connective) (map word_of c.args.tokens.now)) _ (map word_of c.loop.rest.now) c.loop.invariant (cc (c.connective_word-word.ensures, c.sees-in-loop.ensures, c.if-not-sees-2.true)) ∙ ap (λ (p : Located). let o : Outcome Word Located = Ok (p, map word_of c.loop.rest.now) in o) (joined_end (λ ms. joined_expr c.args.connective c.next_offset-offset.result ms) (λ e. members_of c.args.connective e) c.in_ok-start.start (map (λ e. expr_of e) c.loop.members.items))))
 
 pub connected-returns : goal.connected-returns
-connected-returns g t c = run_stop c.args.reader.run_limit c.args.reader.depth_limit (next_member_rule c.args.connective) (is (connective_word c.args.connective)) (joined (λ ms. joined_expr c.args.connective c.next_offset-offset.result ms) (λ e. members_of c.args.connective e) c.in_ok-start.start (map (λ e. expr_of e) c.loop.members.items)) _ _ (map word_of c.loop.rest.now) c.loop.invariant (cc (c.connective_word-word.ensures, c.sees-2.ensures, c.if-sees.false)) ∙ ap (λ (p : Located). let o : Outcome Word Located = Ok (p, map word_of c.loop.rest.now) in o) (joined_end (λ ms. joined_expr c.args.connective c.next_offset-offset.result ms) (λ e. members_of c.args.connective e) c.in_ok-start.start (map (λ e. expr_of e) c.loop.members.items) ∙ sym c.in_ok-joined-2.ensures)
+connected-returns g t c =
+    rw c.with_rest-2.ensures (kept c.joined-whole-2.result c.loop.rest _ _ c.joined-whole-2.ensures
+    (run_stop c.args.reader.run_limit c.args.reader.depth_limit (next_member_rule c.args.connective) (is (connective_word c.args.connective)) (joined (λ ms. joined_expr c.args.connective c.next_offset-offset.result ms) (λ e. members_of c.args.connective e) c.in_ok-start.start (map (λ e. expr_of e) c.loop.members.items)) (reads grammar c.args.reader.run_limit c.args.reader.depth_limit (connected_rule c.args.connective) (map word_of c.args.tokens.now)) _ (map word_of c.loop.rest.now) c.loop.invariant (cc (c.connective_word-word.ensures, c.sees-2.ensures, c.if-sees.false)) ∙ ap (λ (p : Located). let o : Outcome Word Located = Ok (p, map word_of c.loop.rest.now) in o) (joined_end (λ ms. joined_expr c.args.connective c.next_offset-offset.result ms) (λ e. members_of c.args.connective e) c.in_ok-start.start (map (λ e. expr_of e) c.loop.members.items))))
 
 pub connected-returns-then-sees : goal.connected-returns-then-sees
-connected-returns-then-sees g t c = rw (← length-map c.loop.rest.now word_of) (run_full c.args.reader.run_limit c.args.reader.depth_limit (next_member_rule c.args.connective) (is (connective_word c.args.connective)) (joined (λ ms. joined_expr c.args.connective c.next_offset-offset.result ms) (λ e. members_of c.args.connective e) c.in_ok-start.start (map (λ e. expr_of e) c.loop.members.items)) _ _ (map word_of c.loop.rest.now) c.loop.invariant (omega arith) (cc (c.connective_word-word.ensures, c.sees-2.ensures, c.if-sees.true)))
+connected-returns-then-sees g t c = rw (← length-map c.loop.rest.now word_of) (run_full c.args.reader.run_limit c.args.reader.depth_limit (next_member_rule c.args.connective) (is (connective_word c.args.connective)) (joined (λ ms. joined_expr c.args.connective c.next_offset-offset.result ms) (λ e. members_of c.args.connective e) c.in_ok-start.start (map (λ e. expr_of e) c.loop.members.items)) (reads grammar c.args.reader.run_limit c.args.reader.depth_limit (connected_rule c.args.connective) (map word_of c.args.tokens.now)) _ (map word_of c.loop.rest.now) c.loop.invariant (omega arith) (cc (c.connective_word-word.ensures, c.sees-2.ensures, c.if-sees.true)))
 
 pub connected-returns-in_err-next : goal.connected-returns-in_err-next
 connected-returns-in_err-next g t c =
     let p = err_from_is_err_and c.from_residual-in_err-next.result c.from_residual-in_err-next.ensures.1 in
-    rw (p.1, p.2) (run_fail c.args.reader.run_limit c.args.reader.depth_limit (next_member_rule c.args.connective) (is (connective_word c.args.connective)) (joined (λ ms. joined_expr c.args.connective c.next_offset-offset.result ms) (λ e. members_of c.args.connective e) c.in_ok-start.start (map (λ e. expr_of e) c.loop.members.items)) _ _ (map word_of c.loop.rest.now) c.loop.invariant _ (omega arith) (cc (c.connective_word-word.ensures, c.sees-in-loop.ensures, c.if-not-sees-2.false)) c.in_err-next.ensures)
+    rw (p.1, p.2) (run_fail c.args.reader.run_limit c.args.reader.depth_limit (next_member_rule c.args.connective) (is (connective_word c.args.connective)) (joined (λ ms. joined_expr c.args.connective c.next_offset-offset.result ms) (λ e. members_of c.args.connective e) c.in_ok-start.start (map (λ e. expr_of e) c.loop.members.items)) (reads grammar c.args.reader.run_limit c.args.reader.depth_limit (connected_rule c.args.connective) (map word_of c.args.tokens.now)) _ (map word_of c.loop.rest.now) c.loop.invariant _ (omega arith) (cc (c.connective_word-word.ensures, c.sees-in-loop.ensures, c.if-not-sees-2.false)) c.in_err-next.ensures)
 
 pub connected-loop-preserved : goal.connected-loop-preserved
 connected-loop-preserved g t c =
-    run_go c.args.reader.run_limit c.args.reader.depth_limit (next_member_rule c.args.connective) (is (connective_word c.args.connective)) (joined (λ ms. joined_expr c.args.connective c.next_offset-offset.result ms) (λ e. members_of c.args.connective e) c.in_ok-start.start (map (λ e. expr_of e) c.loop.members.items)) _ _ (map word_of c.loop.rest.now) c.loop.invariant
+    run_go c.args.reader.run_limit c.args.reader.depth_limit (next_member_rule c.args.connective) (is (connective_word c.args.connective)) (joined (λ ms. joined_expr c.args.connective c.next_offset-offset.result ms) (λ e. members_of c.args.connective e) c.in_ok-start.start (map (λ e. expr_of e) c.loop.members.items)) (reads grammar c.args.reader.run_limit c.args.reader.depth_limit (connected_rule c.args.connective) (map word_of c.args.tokens.now)) _ (map word_of c.loop.rest.now) c.loop.invariant
     (word_of c.in_ok-next.field-0-0-0, (c.in_ok-next.field-0-0-1-0, expr_of c.in_ok-next.next.value)) (map word_of c.in_ok-next.after.now) _ _ (omega arith) (cc (c.connective_word-word.ensures, c.sees-in-loop.ensures, c.if-not-sees-2.false)) c.in_ok-next.ensures
     (λ xs. joined_go (λ ms. joined_expr c.args.connective c.next_offset-offset.result ms) (λ e. members_of c.args.connective e) c.in_ok-start.start (map (λ e. expr_of e) c.loop.members.items) (word_of c.in_ok-next.field-0-0-0, (c.in_ok-next.field-0-0-1-0, expr_of c.in_ok-next.next.value)) xs
-    ∙ ap (λ l. joined (λ ms. joined_expr c.args.connective c.next_offset-offset.result ms) (λ e. members_of c.args.connective e) c.in_ok-start.start l xs) (appended c.loop.members.items c.in_ok-more.more.items c.append.new.self.items _ c.in_ok-append.ensures.items c.in_ok-more.ensures))
+    ∙ ap (λ l. joined (λ ms. joined_expr c.args.connective c.next_offset-offset.result ms) (λ e. members_of c.args.connective e) c.in_ok-start.start l xs) (sym c.in_ok-extend.ensures))
     (omega arith)
 
 -- ---- CASE
@@ -209,5 +229,5 @@ case-returns-in_err-rest g t c =
 
 pub case-returns : goal.case-returns
 case-returns g t c =
-    case_read c.args.reader.run_limit c.args.reader.depth_limit (map word_of c.args.tokens.now) (word_of c.in_ok-word.word) (map word_of c.in_ok-word.rest.now) c.in_ok-word.ensures.token _ (map word_of c.in_ok-arms.rest.now) c.in_ok-arms.ensures _ (map word_of c.in_ok-other.rest.now) c.in_ok-other.ensures (word_of c.in_ok-rest.field-0-0) (map word_of c.in_ok-rest.rest.now) c.in_ok-rest.ensures
-    ∙ ap (λ (e : Expr). let o : Outcome Word Located = Ok ((c.in_ok-word.word.offset, e), map word_of c.in_ok-rest.rest.now) in o) (sym c.in_ok-case.ensures)
+    rw c.starting_at.ensures (placed c.in_ok-word.word.offset c.case_of-case.result c.in_ok-rest.rest _ _ c.case_of-case.ensures
+    (case_read c.args.reader.run_limit c.args.reader.depth_limit (map word_of c.args.tokens.now) (word_of c.in_ok-word.word) (map word_of c.in_ok-word.rest.now) c.in_ok-word.ensures.token _ (map word_of c.in_ok-arms.rest.now) c.in_ok-arms.ensures _ (map word_of c.in_ok-other.rest.now) c.in_ok-other.ensures (word_of c.in_ok-rest.field-0-0) (map word_of c.in_ok-rest.rest.now) c.in_ok-rest.ensures))

@@ -2,9 +2,7 @@ use Rattle.std.proofs.Common.{◌≡◌, ℕ, ◌+◌, ◌-◌, ◌*◌, map}
 use Rattle.row_grammar.specs.Limits.{reads}
 use Rattle.row_tokens.specs.declared.token.TokenKind.TheVariants as k
 use Rattle.row_tokens.specs.View.{word_of}
-use Rattle.row_ast.specs.Ast.{And, Or, exprs_of, and_members, or_members}
 use Rattle.row_reader.specs.Language.{is, of}
-use Rattle.row_reader.specs.declared.reader.Class.TheVariants as c
 use Rattle.row_reader.specs.Expressions as rules
 use Rattle.row_reader.specs.Expressions.{grammar, folded_left}
 use Rattle.row_ast.specs.View.{expr_of, arm_pair}
@@ -27,44 +25,53 @@ decreases-inner_negation g l = 30 * l.reader.depth_limit + 0
 abbrev pub decreases-inner_unary : goal.decreases-inner_unary
 decreases-inner_unary g l = 30 * l.reader.depth_limit + 0
 
+abbrev pub decreases-keyed : goal.decreases-keyed
+decreases-keyed g l = 30 * l.reader.depth_limit + 1
+
+abbrev pub decreases-argument : goal.decreases-argument
+decreases-argument g l = 30 * l.reader.depth_limit + 1
+
+abbrev pub decreases-typed : goal.decreases-typed
+decreases-typed g l = 30 * l.reader.depth_limit + 1
+
 abbrev pub decreases-parenthesized : goal.decreases-parenthesized
-decreases-parenthesized g l = 30 * l.reader.depth_limit + 1
+decreases-parenthesized g l = 30 * l.reader.depth_limit + 2
 
 abbrev pub decreases-cast : goal.decreases-cast
-decreases-cast g l = 30 * l.reader.depth_limit + 1
+decreases-cast g l = 30 * l.reader.depth_limit + 2
 
 abbrev pub decreases-arm : goal.decreases-arm
-decreases-arm g l = 30 * l.reader.depth_limit + 1
+decreases-arm g l = 30 * l.reader.depth_limit + 2
 
 abbrev pub decreases-otherwise : goal.decreases-otherwise
-decreases-otherwise g l = 30 * l.reader.depth_limit + 1
+decreases-otherwise g l = 30 * l.reader.depth_limit + 2
 
 abbrev pub decreases-counted_rows : goal.decreases-counted_rows
-decreases-counted_rows g l = 30 * l.reader.depth_limit + 1
+decreases-counted_rows g l = 30 * l.reader.depth_limit + 2
 
 abbrev pub decreases-aggregate_tail : goal.decreases-aggregate_tail
-decreases-aggregate_tail g l = 30 * l.reader.depth_limit + 1
+decreases-aggregate_tail g l = 30 * l.reader.depth_limit + 2
 
 abbrev pub decreases-arms : goal.decreases-arms
-decreases-arms g l = 30 * l.reader.depth_limit + 2
+decreases-arms g l = 30 * l.reader.depth_limit + 3
 
 abbrev pub decreases-case : goal.decreases-case
-decreases-case g l = 30 * l.reader.depth_limit + 3
+decreases-case g l = 30 * l.reader.depth_limit + 4
 
 abbrev pub decreases-count_tail : goal.decreases-count_tail
-decreases-count_tail g l = 30 * l.reader.depth_limit + 2
+decreases-count_tail g l = 30 * l.reader.depth_limit + 3
 
 abbrev pub decreases-count : goal.decreases-count
-decreases-count g l = 30 * l.reader.depth_limit + 3
+decreases-count g l = 30 * l.reader.depth_limit + 4
 
 abbrev pub decreases-aggregate : goal.decreases-aggregate
-decreases-aggregate g l = 30 * l.reader.depth_limit + 2
+decreases-aggregate g l = 30 * l.reader.depth_limit + 3
 
 abbrev pub decreases-primary : goal.decreases-primary
-decreases-primary g l = 30 * l.reader.depth_limit + 4
+decreases-primary g l = 30 * l.reader.depth_limit + 5
 
 abbrev pub decreases-unary : goal.decreases-unary
-decreases-unary g l = 30 * l.reader.depth_limit + 5
+decreases-unary g l = 30 * l.reader.depth_limit + 6
 
 -- the operators of sums bind less than those of products
 abbrev rank : Level → ℕ
@@ -72,34 +79,40 @@ rank level.Product = 0
 rank level.Sum = 4
 
 abbrev pub decreases-first_operand : goal.decreases-first_operand
-decreases-first_operand g l = 30 * l.reader.depth_limit + (6 + rank l.level)
+decreases-first_operand g l = 30 * l.reader.depth_limit + (7 + rank l.level)
 
 abbrev pub decreases-next_operand : goal.decreases-next_operand
-decreases-next_operand g l = 30 * l.reader.depth_limit + (7 + rank l.level)
+decreases-next_operand g l = 30 * l.reader.depth_limit + (8 + rank l.level)
 
 abbrev pub decreases-operations : goal.decreases-operations
-decreases-operations g l = 30 * l.reader.depth_limit + (8 + rank l.level)
+decreases-operations g l = 30 * l.reader.depth_limit + (9 + rank l.level)
+
+abbrev pub decreases-upper_bound : goal.decreases-upper_bound
+decreases-upper_bound g l = 30 * l.reader.depth_limit + 14
 
 abbrev pub decreases-between : goal.decreases-between
-decreases-between g l = 30 * l.reader.depth_limit + 13
+decreases-between g l = 30 * l.reader.depth_limit + 15
 
 abbrev pub decreases-negated_range : goal.decreases-negated_range
-decreases-negated_range g l = 30 * l.reader.depth_limit + 14
+decreases-negated_range g l = 30 * l.reader.depth_limit + 16
 
 abbrev pub decreases-range_tail : goal.decreases-range_tail
-decreases-range_tail g l = 30 * l.reader.depth_limit + 15
+decreases-range_tail g l = 30 * l.reader.depth_limit + 17
 
 abbrev pub decreases-ranged_sum : goal.decreases-ranged_sum
-decreases-ranged_sum g l = 30 * l.reader.depth_limit + 16
+decreases-ranged_sum g l = 30 * l.reader.depth_limit + 18
+
+abbrev pub decreases-compared_with : goal.decreases-compared_with
+decreases-compared_with g l = 30 * l.reader.depth_limit + 19
 
 abbrev pub decreases-comparison : goal.decreases-comparison
-decreases-comparison g l = 30 * l.reader.depth_limit + 17
+decreases-comparison g l = 30 * l.reader.depth_limit + 20
 
 abbrev pub decreases-null_test : goal.decreases-null_test
-decreases-null_test g l = 30 * l.reader.depth_limit + 18
+decreases-null_test g l = 30 * l.reader.depth_limit + 21
 
 abbrev pub decreases-negation : goal.decreases-negation
-decreases-negation g l = 30 * l.reader.depth_limit + 19
+decreases-negation g l = 30 * l.reader.depth_limit + 22
 
 -- OR binds less than AND
 abbrev word_rank : Connective → ℕ
@@ -107,16 +120,16 @@ word_rank word.And = 0
 word_rank word.Or = 3
 
 abbrev pub decreases-first_member : goal.decreases-first_member
-decreases-first_member g l = 30 * l.reader.depth_limit + (20 + word_rank l.connective)
+decreases-first_member g l = 30 * l.reader.depth_limit + (23 + word_rank l.connective)
 
 abbrev pub decreases-next_member : goal.decreases-next_member
-decreases-next_member g l = 30 * l.reader.depth_limit + (21 + word_rank l.connective)
+decreases-next_member g l = 30 * l.reader.depth_limit + (24 + word_rank l.connective)
 
 abbrev pub decreases-connected : goal.decreases-connected
-decreases-connected g l = 30 * l.reader.depth_limit + (22 + word_rank l.connective)
+decreases-connected g l = 30 * l.reader.depth_limit + (25 + word_rank l.connective)
 
 abbrev pub decreases-expression : goal.decreases-expression
-decreases-expression g l = 30 * l.reader.depth_limit + 26
+decreases-expression g l = 30 * l.reader.depth_limit + 29
 
 abbrev pub invariant-operations-loop : goal.invariant-operations-loop
 invariant-operations-loop g l = run_on l.reader.run_limit l.reader.depth_limit (next_rule l.level) (of (sign_class l.level)) (folded_left (located l.left)) (l.reader.run_limit - l.counter) (map word_of l.rest) ≡ reads grammar l.reader.run_limit l.reader.depth_limit (run_rule l.level) (map word_of l.tokens)
