@@ -51,9 +51,8 @@ impl<A: Heap> Catalog<A> {
         }
     }
 
-    /// Applies a statement of an actor, and counts it. A refused statement changes nothing. That 2^64 - 1 statements were
-    /// accepted comes before all else (54000), then that the actor is no role (42704). REVOKE, the settings of row security and
-    /// DROP POLICY take no memory.
+    /// Applies a statement of an actor, and counts it; refused, it changes nothing. First that 2^64 - 1 were accepted (54000),
+    /// then that the actor is no role (42704). REVOKE, the settings of row security and DROP POLICY take no memory.
     pub fn apply(&mut self, actor: &str, statement: &Statement<A>) -> Result<(), Refusal>
         ensures change { IsChange self.old self.new (changed self.old actor.now (statement_of statement.now)) result }
         ensures exact { takes_no_memory (statement_of statement.now) ≡ true → IsExactChange self.old self.new (changed self.old actor.now (statement_of statement.now)) result }

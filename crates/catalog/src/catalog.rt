@@ -2,14 +2,13 @@
 
 ghost use Rattle.std.specs.Prelude.{◌≡◌, ◌<◌, length, IfOk, IfSome, map, option_map};
 ghost use Rattle.std.specs.List.{list_all};
-ghost use Rattle.row_objects.specs.Memberships.{closes_loop};
 ghost use Rattle.row_objects.specs.Policies as policies;
 ghost use Rattle.row_objects.specs.View.{table_of};
 ghost use Rattle.catalog.specs.Catalog.{at_first, belongs, bypasses_rls, is_index, is_known, is_role, is_superuser, is_table, owns, table_named, table_place};
 
 use memory::Heap;
 use row_objects::{
-    ByName, Membership, Role, Table, TableDef, any_index, belongs_by, closes_loop, has_policy_room,
+    ByName, Membership, Role, Table, TableDef, any_index, belongs_by, has_policy_room,
 };
 use std::alloc::AllocError;
 use std::marker::Model;
@@ -129,13 +128,6 @@ impl<A: Heap> Catalog<A> {
         ensures { result ≡ belongs self.now r.now s.now }
     {
         belongs_by(&self.roles, self.memberships.as_slice(), r, s)
-    }
-
-    /// Whether a grant of the group to the member would make a role belong to itself.
-    pub(crate) fn closes_loop(&self, group: &str, member: &str) -> bool
-        ensures { result ≡ closes_loop self.now.memberships group.now member.now }
-    {
-        closes_loop(&self.roles, self.memberships.as_slice(), group, member)
     }
 
     /// The table of that name.

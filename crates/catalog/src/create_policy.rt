@@ -1,7 +1,6 @@
 //! `CREATE POLICY name ON table [AS RESTRICTIVE] TO roles USING (predicate)` (PostgreSQL: CREATE POLICY).
 
-ghost use Rattle.std.specs.Prelude.{◌≡◌, ◌<◌, Err, IfOk, None, Ok, OnErr, OnOk, if◌then◌else◌, length, map};
-ghost use Rattle.value.specs.declared.refusal.Refusal.TheVariants as r;
+ghost use Rattle.std.specs.Prelude.{◌≡◌, ◌<◌, IfOk, None, Ok, OnErr, OnOk, length, map};
 ghost use Rattle.row_ast.specs.View.{create_policy_of, expr_of};
 ghost use Rattle.expr.specs.View.{bound_expr_of};
 ghost use Rattle.row_objects.specs.Policies.{new_policy as made_policy};
@@ -13,7 +12,7 @@ ghost use Rattle.catalog.specs.CreatePolicy.{after_create_policy, bound_predicat
 ghost use Rattle.catalog.specs.Changes.{IsChange};
 
 use crate::catalog::Catalog;
-use expr::{BoundExpr, MovableExpr};
+use expr::{BoundExpr, MovableExpr, is_movable};
 use memory::{Failure, Heap};
 use row_ast::{CreatePolicy, Expr};
 use row_objects::{ByName, Policy, Table, TableDef, has_policy, new_policy};
@@ -33,17 +32,6 @@ fn policy_entry<A: Heap>(table: Table<'_, A>) -> Entry<'_, A>
     }
 }
 
-// What was checked, where the catalogue has room for a policy.
-fn where_room<T: Drop>(has_room: bool, checked: T) -> Result<T, Refusal>
-    ensures { result ≡ (if has_room then Ok checked else Err r.ProgramLimitExceeded) }
-{
-    if has_room {
-        Ok(checked)
-    } else {
-        Err(Refusal::ProgramLimitExceeded)
-    }
-}
-
 // The bound condition, if it never faults and there is room for it.
 fn check_movable<A: Heap>(
     catalog: &Catalog<A>,
@@ -51,10 +39,10 @@ fn check_movable<A: Heap>(
 ) -> Result<MovableExpr<A>, Refusal>
     ensures { CheckedPredicate result (first_refusal (checks_bound catalog.now (Ok (bound_expr_of bound.value)) None)) (Ok (bound_expr_of bound.value)) }
 {
-    match MovableExpr::new(bound) {
-        Some(predicate) => where_room(catalog.has_policy_room(), predicate),
-        None => Err(Refusal::InvalidObjectDefinition),
+    if is_movable(&bound) && !catalog.has_policy_room() {
+        return Err(Refusal::ProgramLimitExceeded);
     }
+    MovableExpr::new(bound).ok_or(Refusal::InvalidObjectDefinition)
 }
 
 fn check_predicate<A: Heap>(

@@ -8,7 +8,7 @@ ghost use Rattle.catalog.specs.Changes.{IsChange};
 
 use crate::catalog::Catalog;
 use memory::Heap;
-use row_objects::add_membership;
+use row_objects::{add_membership, closes_loop};
 use std::alloc::AllocError;
 use value::Refusal;
 
@@ -24,7 +24,12 @@ fn check_grant_role<A: Heap>(
         Some(Refusal::InsufficientPrivilege)
     } else if !(catalog.is_role(group) && catalog.is_role(member)) {
         Some(Refusal::UndefinedObject)
-    } else if catalog.closes_loop(group, member) {
+    } else if closes_loop(
+        &catalog.roles,
+        catalog.memberships.as_slice(),
+        group,
+        member,
+    ) {
         Some(Refusal::InvalidGrantOperation)
     } else {
         None
