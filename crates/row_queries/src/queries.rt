@@ -414,7 +414,8 @@ fn from_having<'t, A: Heap>(
     ensures { Parses (λ t. (option_map (λ c. condition_of c) t.0, (map (λ k. sort_key_of k) t.1.0, t.1.1))) (both rules.having (both rules.order_by rules.limit)) reader tokens.now result }
 {
     let (having, rest) = having(reader, tokens)?;
-    before(having, ordered(reader, rest))
+    let ((order_by, limit), rest) = ordered(reader, rest)?;
+    Ok(((having, (order_by, limit)), rest))
 }
 
 // `[GROUP BY columns]` and what may follow.
@@ -431,7 +432,8 @@ fn from_group_by<'t, A: Heap>(
     ensures { Parses (λ t. (map (λ c. column_ref_of c) t.0, (option_map (λ c. condition_of c) t.1.0, (map (λ k. sort_key_of k) t.1.1.0, t.1.1.1)))) (both rules.group_by (both rules.having (both rules.order_by rules.limit))) reader tokens.now result }
 {
     let (group_by, rest) = group_by(reader, tokens)?;
-    before(group_by, from_having(reader, rest))
+    let ((having, (order_by, limit)), rest) = from_having(reader, rest)?;
+    Ok(((group_by, (having, (order_by, limit))), rest))
 }
 
 // What may follow FROM.
