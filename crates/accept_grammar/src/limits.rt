@@ -1,5 +1,6 @@
 //! Texts at the limits and one past them.
 
+use crate::compared::same;
 use memory::Failure;
 use std::alloc::{AllocError, Global};
 use std::process::Abort;
@@ -449,7 +450,7 @@ fn refused(rt: &(impl Abort + AllocGlobal), name: &str, parser: &Parser, row: &R
         Ok(text) => {
             let found = refusal(rt.alloc(), parser, text.as_str());
             let want = row.3.map(|error| Failure::Fault(error));
-            assert_eq!(rt; found, want, "{name}: {text}");
+            same(rt, &found, &want, name, &text.as_str());
         }
         Err(_) => panic!(rt; "{name}: out of memory"),
     }
