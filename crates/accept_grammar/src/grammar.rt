@@ -1,10 +1,8 @@
 //! Query texts, and the trees that they are or where they are refused.
 
-use fixtures::{Printer, show_query};
-use memory::Failure;
-use std::alloc::Global;
+use crate::trees::is_read;
 use std::process::Abort;
-use syntax::{ParseError, parse_query};
+use syntax::parse_query;
 
 // A text, and its tree or the byte at which it is refused.
 type Row = (&'static str, Result<&'static str, u32>);
@@ -517,23 +515,15 @@ static PLACED: [Row; 15] = [
     ),
 ];
 
-// What a text is read as, as `fixtures` writes it.
-fn shown_as(alloc: Global, placed: bool, text: &str) -> Result<String, Failure<ParseError>> {
-    let query = parse_query(alloc, text)?;
-    let mut out = Printer::new(alloc, placed);
-    show_query(&query, &mut out)?;
-    Ok(out.text)
-}
-
 fn read_as(rt: &(impl Abort + AllocGlobal), name: &str, placed: bool, rows: &[Row]) {
     for (text, want) in rows {
-        match shown_as(rt.alloc(), placed, text) {
-            Ok(found) => assert_eq!(rt; Ok(found.as_str()), *want, "{name}: {text}"),
-            Err(Failure::Fault(ParseError::Syntax { offset })) => {
-                assert_eq!(rt; Err(offset), *want, "{name}: {text}");
-            }
-            Err(error) => panic!(rt; "{name}: {text}: {error:?}"),
-        }
+        is_read(
+            rt,
+            placed,
+            parse_query(rt.alloc(), text),
+            *want,
+            (name, text),
+        );
     }
 }
 

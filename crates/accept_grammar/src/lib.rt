@@ -3,6 +3,8 @@
 #![tactic(auto)]
 
 #[cfg(test)]
+mod compared;
+#[cfg(test)]
 mod grammar;
 #[cfg(test)]
 mod limits;
@@ -10,3 +12,5 @@ mod limits;
 mod schemas;
 #[cfg(test)]
 mod tokens;
+#[cfg(test)]
+mod trees;

@@ -1,5 +1,6 @@
 //! Texts at the limits and one past them.
 
+use crate::compared::same;
 use memory::Failure;
 use std::alloc::{AllocError, Global};
 use std::process::Abort;
@@ -414,13 +415,18 @@ fn push_times(text: &mut String, part: &str, many: usize) -> Result<(), AllocErr
     Ok(())
 }
 
-fn built(alloc: Global, row: &Row) -> Result<String, AllocError> {
+fn push_row(text: &mut String, row: &Row) -> Result<(), AllocError> {
     let ((before, after), (open, inner, close), many, _) = row;
-    let mut text = String::from_str(alloc, before)?;
-    push_times(&mut text, open, *many)?;
+    text.push_str(before)?;
+    push_times(text, open, *many)?;
     text.push_str(inner)?;
-    push_times(&mut text, close, *many)?;
-    text.push_str(after)?;
+    push_times(text, close, *many)?;
+    text.push_str(after)
+}
+
+fn built(alloc: Global, row: &Row) -> Result<String, AllocError> {
+    let mut text = String::new(alloc);
+    push_row(&mut text, row)?;
     Ok(text)
 }
 
@@ -449,7 +455,7 @@ fn refused(rt: &(impl Abort + AllocGlobal), name: &str, parser: &Parser, row: &R
         Ok(text) => {
             let found = refusal(rt.alloc(), parser, text.as_str());
             let want = row.3.map(|error| Failure::Fault(error));
-            assert_eq!(rt; found, want, "{name}: {text}");
+            same(rt, &found, &want, name, &text.as_str());
         }
         Err(_) => panic!(rt; "{name}: out of memory"),
     }
@@ -496,7 +502,8 @@ fn nesting_runs_and_lists_are_limited(rt: HostRuntime) -> Result<(), Fail> {
     refuse(&rt, runs());
     let text = closed_levels(rt.alloc())?;
     let found = refusal(rt.alloc(), &Parser::Query, text.as_str());
-    assert_eq!(rt; found, None, "a_closed_level_does_not_count: {text}");
+    let name = "a_closed_level_does_not_count";
+    same(&rt, &found, &None, name, &text.as_str());
     Ok(())
 }
 
@@ -506,16 +513,17 @@ fn byte_count(alloc: Global, before: &str, spaces: usize) -> Result<usize, Alloc
     Ok(text.len())
 }
 
+fn has_bytes(rt: &(impl Abort + AllocGlobal), before: &str, spaces: usize, want: usize) {
+    let found = byte_count(rt.alloc(), before, spaces).ok();
+    same(rt, &found, &Some(want), "bytes", &before);
+}
+
 #[test]
-fn bytes_of_names_and_texts_are_limited(rt: HostRuntime) -> Result<(), Fail> {
-    assert_eq!(rt; byte_count(rt.alloc(), NAME, 0)?, 63);
-    assert_eq!(rt; byte_count(rt.alloc(), "CREATE ROLE a", 65_523)?, 65_536);
-    assert_eq!(rt;
-        byte_count(rt.alloc(), "CREATE ROLE a;", 1_048_562)?,
-        1_048_576
-    );
+fn bytes_of_names_and_texts_are_limited(rt: HostRuntime) {
+    has_bytes(&rt, NAME, 0, 63);
+    has_bytes(&rt, "CREATE ROLE a", 65_523, 65_536);
+    has_bytes(&rt, "CREATE ROLE a;", 1_048_562, 1_048_576);
     refuse(&rt, bytes());
-    Ok(())
 }
 
 #[test]

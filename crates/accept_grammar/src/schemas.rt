@@ -1,10 +1,8 @@
 //! Schema texts, and the statements that they are or where they are refused.
 
-use fixtures::{Printer, show_statement};
-use memory::Failure;
-use std::alloc::Global;
+use crate::trees::is_read;
 use std::process::Abort;
-use syntax::{ParseError, parse_schema, parse_statement};
+use syntax::{parse_schema, parse_statement};
 
 // A text, and its statements or the byte at which it is refused.
 type Row = (&'static str, Result<&'static str, u32>);
@@ -207,48 +205,17 @@ static SCHEMAS: [Row; 12] = [
     ("CREATE", Err(6)),
 ];
 
-fn shown_statement(alloc: Global, text: &str) -> Result<String, Failure<ParseError>> {
-    let statement = parse_statement(alloc, text)?;
-    let mut out = Printer::new(alloc, false);
-    show_statement(&statement, &mut out)?;
-    Ok(out.text)
-}
-
-fn shown_schema(alloc: Global, text: &str) -> Result<String, Failure<ParseError>> {
-    let statements = parse_schema(alloc, text)?;
-    let mut out = Printer::new(alloc, false);
-    for statement in statements.as_slice() {
-        show_statement(statement, &mut out)?;
-        out.text.push(';')?;
-    }
-    Ok(out.text)
-}
-
-fn is_shown(
-    rt: &impl Abort,
-    found: Result<String, Failure<ParseError>>,
-    want: Result<&str, u32>,
-    row: (&str, &str),
-) {
-    let (name, text) = row;
-    match found {
-        Ok(found) => assert_eq!(rt; Ok(found.as_str()), want, "{name}: {text}"),
-        Err(Failure::Fault(ParseError::Syntax { offset })) => {
-            assert_eq!(rt; Err(offset), want, "{name}: {text}");
-        }
-        Err(error) => panic!(rt; "{name}: {text}: {error:?}"),
-    }
-}
-
 fn statements_are(rt: &(impl Abort + AllocGlobal), name: &str, rows: &[Row]) {
     for (text, want) in rows {
-        is_shown(rt, shown_statement(rt.alloc(), text), *want, (name, text));
+        let read = parse_statement(rt.alloc(), text);
+        is_read(rt, false, read, *want, (name, text));
     }
 }
 
 fn schemas_are(rt: &(impl Abort + AllocGlobal), name: &str, rows: &[Row]) {
     for (text, want) in rows {
-        is_shown(rt, shown_schema(rt.alloc(), text), *want, (name, text));
+        let read = parse_schema(rt.alloc(), text);
+        is_read(rt, false, read, *want, (name, text));
     }
 }
 

@@ -1,7 +1,8 @@
 //! Texts, and the kinds of their tokens or where the first bad one starts.
 
+use crate::compared::same;
 use memory::Failure;
-use row_tokens::{TokenError, TokenKind, scan, tokenize};
+use row_tokens::{Token, TokenError, TokenKind, scan, tokenize};
 use std::alloc::{AllocError, Global};
 use std::process::Abort;
 use std::test::Fail;
@@ -178,33 +179,58 @@ fn bad() -> &'static [(&'static str, u32)] {
     &BAD
 }
 
+// Tokens are of these kinds.
+fn are_of_kinds(rt: &impl Abort, name: &str, text: &str, found: &[Token<'_>], kinds: &[TokenKind]) {
+    same(rt, &found.len(), &kinds.len(), name, &text);
+    for (token, kind) in found.iter().zip(kinds) {
+        same(rt, &token.kind, kind, name, &text);
+    }
+}
+
 // The tokens of a text are of these kinds.
 fn has_kinds(rt: &(impl Abort + AllocGlobal), name: &str, text: &str, kinds: &[TokenKind]) {
     match tokenize(rt.alloc(), text) {
-        Ok(found) => {
-            assert_eq!(rt; found.len(), kinds.len(), "{name}: {text}");
-            for (token, kind) in found.iter().zip(kinds) {
-                assert_eq!(rt; token.kind, *kind, "{name}: {text}");
-            }
-        }
+        Ok(found) => are_of_kinds(rt, name, text, found.as_slice(), kinds),
         Err(error) => panic!(rt; "{name}: {text}: {error:?}"),
+    }
+}
+
+// Why a text is not made of tokens, if it is not.
+fn refusal(alloc: Global, text: &str) -> Option<Failure<TokenError>> {
+    tokenize(alloc, text).err()
+}
+
+// The kind and the place of the last token, if there is one.
+fn last_of(found: &[Token<'_>]) -> Option<(TokenKind, u32)> {
+    match found.last() {
+        Some(token) => Some((token.kind, token.offset)),
+        None => None,
+    }
+}
+
+// The last token that is scanned is bad, and starts there.
+fn scanned_to(rt: &(impl Abort + AllocGlobal), text: &str, at: u32) {
+    assert!(rt; text.len() < 65_536, "{text}");
+    match scan(rt.alloc(), text) {
+        Ok(found) => {
+            let last = last_of(found.as_slice());
+            same(rt, &last, &Some((TokenKind::Bad, at)), "scan", &text);
+        }
+        Err(error) => panic!(rt; "{text}: {error:?}"),
     }
 }
 
 // The first bad token of a text starts there, and is the last that is scanned.
 fn bad_at(rt: &(impl Abort + AllocGlobal), text: &str, at: u32) {
     let want = Failure::Fault(TokenError::Bad { offset: at });
-    assert_eq!(rt; tokenize(rt.alloc(), text).err(), Some(want), "{text}");
-    match scan(rt.alloc(), text) {
-        Ok(found) => {
-            let last = found
-                .as_slice()
-                .last()
-                .map(|token| (token.kind, token.offset));
-            assert_eq!(rt; last, Some((TokenKind::Bad, at)), "{text}");
-        }
-        Err(error) => panic!(rt; "{text}: {error:?}"),
-    }
+    same(
+        rt,
+        &refusal(rt.alloc(), text),
+        &Some(want),
+        "tokenize",
+        &text,
+    );
+    scanned_to(rt, text, at);
 }
 
 fn have_kinds(rt: &(impl Abort + AllocGlobal), name: &str, rows: &[Kinds]) {
@@ -231,39 +257,47 @@ fn first_bad_token_is_reported(rt: HostRuntime) -> Result<(), Fail> {
     Ok(())
 }
 
-// A text of so many spaces.
-fn spaces(alloc: Global, many: usize) -> Result<String, AllocError> {
+// A thousand spaces, and tokens after them.
+fn spaced(alloc: Global) -> Result<String, AllocError> {
     let mut text = String::new(alloc);
-    for _ in 0..many {
+    for _ in 0..1000 {
         text.push(' ')?;
     }
+    text.push_str("a = -007 AND 'x''y' <> b")?;
     Ok(text)
+}
+
+// Where a token starts, its text and its number.
+static PLACES: [(u32, &str, u64); 8] = [
+    (1000, "a", 0),
+    (1002, "=", 0),
+    (1004, "-", 0),
+    (1005, "007", 7),
+    (1009, "AND", 0),
+    (1013, "'x''y'", 0),
+    (1020, "<>", 0),
+    (1023, "b", 0),
+];
+
+fn places() -> &'static [(u32, &'static str, u64)] {
+    &PLACES
+}
+
+fn are_at_their_places(rt: &impl Abort, found: &[Token<'_>]) {
+    let name = "tokens_have_offsets_and_numbers";
+    same(rt, &found.len(), &places().len(), name, &"how many");
+    for (token, place) in found.iter().zip(places()) {
+        let found = (token.offset, token.text, token.number);
+        same(rt, &found, place, name, &token.text);
+    }
 }
 
 #[test]
 fn tokens_have_offsets_and_numbers(rt: HostRuntime) -> Result<(), Fail> {
-    let alloc = rt.alloc();
-    let mut text = spaces(alloc, 1000)?;
-    text.push_str("a = -007 AND 'x''y' <> b")?;
-    let found = match tokenize(alloc, text.as_str()) {
-        Ok(found) => found,
+    let text = spaced(rt.alloc())?;
+    match tokenize(rt.alloc(), text.as_str()) {
+        Ok(found) => are_at_their_places(&rt, found.as_slice()),
         Err(error) => panic!(rt; "{error:?}"),
-    };
-    let rows = [
-        (1000, "a", 0),
-        (1002, "=", 0),
-        (1004, "-", 0),
-        (1005, "007", 7),
-        (1009, "AND", 0),
-        (1013, "'x''y'", 0),
-        (1020, "<>", 0),
-        (1023, "b", 0),
-    ];
-    assert_eq!(rt; found.len(), rows.len());
-    for (token, (offset, slice, number)) in found.iter().zip(&rows) {
-        assert_eq!(rt; token.offset, *offset);
-        assert_eq!(rt; token.text, *slice);
-        assert_eq!(rt; token.number, *number);
     }
     Ok(())
 }

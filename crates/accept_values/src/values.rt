@@ -3,6 +3,7 @@
 use crate::compared::same;
 use memory::Failure;
 use std::alloc::Global;
+use std::borrow::CowStr;
 use std::process::Abort;
 use value::{
     ColType, FaultKind, Truth, Val, Value, add, and3, as_condition, cast, div, eq3, lt3, mul, neg,
@@ -193,8 +194,8 @@ fn negations() -> &'static [(Truth, Truth)] {
 
 fn truth_tables(rt: &impl Abort) {
     for (row, (a, b, both, either)) in truths().iter().enumerate() {
-        same(rt, &and3(*a, *b), both, "AND: row", &row);
-        same(rt, &or3(*a, *b), either, "OR: row", &row);
+        let found = (and3(*a, *b), or3(*a, *b));
+        same(rt, &found, &(*both, *either), "AND and OR: row", &row);
     }
 }
 
@@ -206,8 +207,14 @@ fn condition_of(truth: Truth) -> Truth {
 
 fn conditions(rt: &impl Abort) {
     for (row, (truth, negated)) in negations().iter().enumerate() {
-        same(rt, &not3(*truth), negated, "NOT: row", &row);
-        same(rt, &condition_of(*truth), truth, "condition: row", &row);
+        let found = (not3(*truth), condition_of(*truth));
+        same(
+            rt,
+            &found,
+            &(*negated, *truth),
+            "NOT and condition: row",
+            &row,
+        );
     }
     let number = as_condition(&value_of(Int(1)));
     same(rt, &number, &Truth::Unknown, "condition", &1);
@@ -320,12 +327,18 @@ fn samples() -> &'static [(Sample, Option<&'static str>)] {
     &WRITTEN
 }
 
+// What is lent of a text, if there is one.
+fn lent<'t>(text: &'t Option<CowStr<'_, Global>>) -> Option<&'t str> {
+    match text {
+        Some(text) => Some(text.as_str()),
+        None => None,
+    }
+}
+
 fn written(rt: &(impl Abort + AllocGlobal), value: &Val<'_, Global>, want: Option<&str>) {
-    let name = "texts_of_values";
     match text_of(rt.alloc(), value) {
-        Ok(Some(text)) => same(rt, &Some(text.as_str()), &want, name, &"a text"),
-        Ok(None) => same(rt, &None, &want, name, &"no text"),
-        Err(_) => panic!(rt; "{name}: out of memory"),
+        Ok(text) => same(rt, &lent(&text), &want, "texts_of_values", &"written"),
+        Err(_) => panic!(rt; "texts_of_values: out of memory"),
     }
 }
 
@@ -372,11 +385,27 @@ fn casts(rt: &(impl Abort + AllocGlobal)) {
     same(rt, &null, &Some(Ok(None)), "casts", &"null");
 }
 
+// A fault, and its code.
+static CODES: [(FaultKind, &str); 3] = [
+    (FaultKind::Div0, "22012"),
+    (FaultKind::Range, "22003"),
+    (FaultKind::BadText, "22P02"),
+];
+
+fn codes() -> &'static [(FaultKind, &'static str)] {
+    &CODES
+}
+
 fn faults_are_reported_by_code(rt: &impl Abort) {
-    let name = "faults_are_reported_by_code";
-    same(rt, &FaultKind::Div0.code(), &"22012", name, &"Div0");
-    same(rt, &FaultKind::Range.code(), &"22003", name, &"Range");
-    same(rt, &FaultKind::BadText.code(), &"22P02", name, &"BadText");
+    for (kind, code) in codes() {
+        same(
+            rt,
+            &kind.code(),
+            code,
+            "faults_are_reported_by_code",
+            &"code",
+        );
+    }
 }
 
 #[test]
