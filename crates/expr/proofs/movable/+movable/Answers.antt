@@ -83,3 +83,6 @@ is_movable-returns-then-is_movable g t c = let w = ap movable (ap bound_expr_of 
 
 pub is_movable-returns-else-is_movable : goal.is_movable-returns-else-is_movable
 is_movable-returns-else-is_movable g t c = let w = ap movable (ap bound_expr_of c.in-Comparison.is) in search rules
+
+pub is_movable-is_movable-requires-in-Some : goal.is_movable-is_movable-requires-in-Some
+is_movable-is_movable-requires-in-Some g t c κs within = let w = ap weight (case_some c.args.expression.now c.in-Case.offset c.in-Case.arms c.deref-in-Case.result.now c.deref-in-Case.ensures.value c.in-Case.otherwise c.in-Case.is c.in-Some.value c.in-Some.is) in search rules
