@@ -9,7 +9,7 @@ mod elsewhere;
 #[cfg(test)]
 mod fault_stages;
 #[cfg(test)]
-mod grouping;
+mod group_by;
 #[cfg(test)]
 mod order;
 #[cfg(test)]
