@@ -149,16 +149,26 @@ fn store_before(rt: &(impl Abort + AllocGlobal), faults: &RefusedTexts) -> Box<S
     store
 }
 
+// What a text of rows gives, and the number of tables after it; the query is answered as before.
+fn load_and_ask(
+    rt: &(impl Abort + AllocGlobal),
+    faults: &RefusedTexts,
+    text: &str,
+) -> (Result<(), Failure<StoreFault>>, usize) {
+    let mut store = store_before(rt, faults);
+    let found = load(&mut store, faults.table, text);
+    let asked = (faults.name, "root", faults.query, faults.shown, 0);
+    answered(rt.alloc(), &store, asked).expect(rt, faults.name);
+    (found, store.table_count())
+}
+
 // A store that is refused a text of rows has its tables and rows as before.
 fn refused(rt: &(impl Abort + AllocGlobal), faults: &RefusedTexts, text: &str, fault: StoreError) {
     let name = faults.name;
-    let mut store = store_before(rt, faults);
-    let found = load(&mut store, faults.table, text);
+    let (found, tables) = load_and_ask(rt, faults, text);
     let want = Err(Failure::Fault(StoreFault::Data(fault)));
     assert_eq!(rt; found, want, "{name}: {text}");
-    assert_eq!(rt; store.table_count(), 1, "{name}: {text}");
-    let asked = (name, "root", faults.query, faults.shown, 0);
-    answered(rt.alloc(), &store, asked).expect(rt, name);
+    assert_eq!(rt; tables, 1, "{name}: {text}");
 }
 
 fn all_refused(rt: &(impl Abort + AllocGlobal), faults: &RefusedTexts) {
@@ -202,10 +212,21 @@ fn accepted() -> &'static [Accepted] {
     &ACCEPTED
 }
 
+// What rows of a table of a new store give.
+fn loaded(
+    rt: &(impl Abort + AllocGlobal),
+    schema: &str,
+    table: &str,
+    text: &str,
+) -> Result<(), Failure<StoreFault>> {
+    let mut store = made(rt, store_of(rt.alloc(), schema));
+    load(&mut store, table, text)
+}
+
 fn is_accepted(rt: &(impl Abort + AllocGlobal), row: &Accepted) {
     let (name, schema, table, text) = row;
-    let mut store = made(rt, store_of(rt.alloc(), schema));
-    assert_eq!(rt; load(&mut store, table, text), Ok(()), "{name}: {text}");
+    let done = loaded(rt, schema, table, text);
+    assert_eq!(rt; done, Ok(()), "{name}: {text}");
 }
 
 // The deals are loaded byte by byte, up to so many reads.

@@ -154,6 +154,11 @@ fn stop_of<A: Heap>(
     (status, out)
 }
 
+// The text that was written is the one wanted.
+fn same_bytes(rt: &impl Abort, out: &Output<Vec<u8>>, text: &str, name: &str) {
+    assert_eq!(rt; out.inner.as_slice(), text.as_bytes(), "{name}: {text}");
+}
+
 fn stopped(
     rt: &(impl Abort + AllocGlobal),
     name: &str,
@@ -163,7 +168,7 @@ fn stopped(
 ) {
     let (line, status) = want;
     let (got, out) = stop_of(rt.alloc(), schema, files);
-    assert_eq!(rt; out.inner.as_slice(), line.as_bytes(), "{name}: {line}");
+    same_bytes(rt, &out, line, name);
     assert_eq!(rt; got.unwrap_or(0), status, "{name}: {line}");
 }
 
@@ -208,7 +213,7 @@ fn asked_store(rt: &(impl Abort + AllocGlobal)) -> Store<Global> {
     }
 }
 
-fn asked(rt: &(impl Abort + AllocGlobal), role: &str, answer: &str, status: u8) {
+fn reply_to(rt: &(impl Abort + AllocGlobal), role: &str) -> (u8, Output<Vec<u8>>) {
     let store = asked_store(rt);
     let arguments = Arguments {
         schema: "schema.sql",
@@ -220,9 +225,14 @@ fn asked(rt: &(impl Abort + AllocGlobal), role: &str, answer: &str, status: u8) 
         inner: Vec::new(rt.alloc()),
         failed: 0,
     };
-    let got = reply(rt.alloc(), &store, &arguments, &mut out);
+    let status = reply(rt.alloc(), &store, &arguments, &mut out);
+    (status, out)
+}
+
+fn asked(rt: &(impl Abort + AllocGlobal), role: &str, answer: &str, status: u8) {
+    let (got, out) = reply_to(rt, role);
+    same_bytes(rt, &out, answer, role);
     assert_eq!(rt; got, status, "{role}");
-    assert_eq!(rt; out.inner.as_slice(), answer.as_bytes(), "{role}");
 }
 
 #[test]
@@ -232,20 +242,31 @@ fn arguments_ask_as_their_role(rt: HostRuntime) {
     }
 }
 
-// An opening whose nth request for memory is refused: out of memory, or there are fewer requests and the store is opened.
-fn opens_without(rt: &(impl Abort + AllocGlobal), nth: u64) -> bool {
+// The status of an opening whose nth request for memory is refused, whether there are fewer requests, and whether the line
+// says that memory ran out.
+fn opened_without(rt: &(impl Abort + AllocGlobal), nth: u64) -> (Option<u8>, bool, bool) {
     let files = [
         ("deal", "id,owner,open\n1,alice,t\n"),
         ("region", "id\n7\n"),
     ];
     let heap = Metered::refusing(rt.alloc(), nth);
     let (status, out) = stop_of(&heap, SCHEMA, &files);
-    if heap.requests(nth) < nth {
+    (
+        status,
+        heap.requests(nth) < nth,
+        out.inner.as_slice() == b"memory\n".as_slice(),
+    )
+}
+
+// Such an opening is out of memory, or none of its requests is refused and the store is opened.
+fn opens_without(rt: &(impl Abort + AllocGlobal), nth: u64) -> bool {
+    let (status, none_refused, is_memory) = opened_without(rt, nth);
+    if none_refused {
         assert_eq!(rt; status, None, "at {nth}");
         return true;
     }
     assert_eq!(rt; status, Some(7), "at {nth}");
-    assert_eq!(rt; out.inner.as_slice(), b"memory\n".as_slice(), "at {nth}");
+    assert!(rt; is_memory, "at {nth}");
     false
 }
 

@@ -530,19 +530,32 @@ fn store_after(rt: &(impl Abort + AllocGlobal), before: &str) -> Box<Store<Globa
 }
 
 // A refused text, and that the store has its roles and tables as before.
-fn is_refused(rt: &(impl Abort + AllocGlobal), name: &str, before: &str, row: &Row) {
-    let (actor, text, fault) = row;
+// What a text of an actor gives, and whether there are as many roles and tables as before it.
+fn applied(
+    rt: &(impl Abort + AllocGlobal),
+    before: &str,
+    actor: &str,
+    text: &str,
+) -> (Result<(), Failure<StoreFault>>, bool) {
     let mut store = store_after(rt, before);
     let roles = store.catalog().roles();
     let tables = store.catalog().tables();
     let done = apply(rt.alloc(), &mut store, actor, text);
+    (
+        done,
+        store.catalog().roles() == roles && store.catalog().tables() == tables,
+    )
+}
+
+fn is_refused(rt: &(impl Abort + AllocGlobal), name: &str, before: &str, row: &Row) {
+    let (actor, text, fault) = row;
+    let (done, unchanged) = applied(rt, before, actor, text);
     assert_eq!(rt;
         done,
         Err(Failure::Fault(*fault)),
         "{name}: {actor}: {text}"
     );
-    assert_eq!(rt; store.catalog().roles(), roles, "{name}: {actor}: {text}");
-    assert_eq!(rt; store.catalog().tables(), tables, "{name}: {actor}: {text}");
+    assert!(rt; unchanged, "{name}: {actor}: {text}");
 }
 
 fn are_refused(rt: &(impl Abort + AllocGlobal), group: &Group) {
@@ -646,17 +659,31 @@ fn accepted() -> &'static [Accepted] {
     &ACCEPTED
 }
 
-fn is_accepted(rt: &(impl Abort + AllocGlobal), row: &Accepted) {
-    let (name, texts, tables) = row;
-    let mut store = made(rt, deals(rt.alloc()));
-    for (actor, text) in *texts {
+fn apply_all(
+    rt: &(impl Abort + AllocGlobal),
+    store: &mut Store<Global>,
+    texts: &[(&str, &str)],
+    name: &str,
+) {
+    for (actor, text) in texts {
         assert_eq!(rt;
-            apply(rt.alloc(), &mut store, actor, text),
+            apply(rt.alloc(), store, actor, text),
             Ok(()),
             "{name}: {text}"
         );
     }
-    assert_eq!(rt; store.catalog().tables(), *tables, "{name}");
+}
+
+// The number of tables after texts that are accepted.
+fn tables_after(rt: &(impl Abort + AllocGlobal), texts: &[(&str, &str)], name: &str) -> usize {
+    let mut store = made(rt, deals(rt.alloc()));
+    apply_all(rt, &mut store, texts, name);
+    store.catalog().tables()
+}
+
+fn is_accepted(rt: &(impl Abort + AllocGlobal), row: &Accepted) {
+    let (name, texts, tables) = row;
+    assert_eq!(rt; tables_after(rt, texts, name), *tables, "{name}");
 }
 
 #[test]
@@ -690,16 +717,23 @@ fn past_limit(rt: &(impl Abort + AllocGlobal), store: &mut Store<Global>, text: 
     assert_eq!(rt; apply(rt.alloc(), store, "root", text), want, "{text}");
 }
 
-#[test]
-fn limits_of_roles_and_tables(rt: HostRuntime) -> Result<(), Fail> {
-    let mut store = Store::new(rt.alloc())?;
-    applied_times(&rt, &mut store, ("CREATE ROLE r", ";"), 255)?;
-    past_limit(&rt, &mut store, "CREATE ROLE more;");
-    applied_times(&rt, &mut store, ("CREATE TABLE t", " (a text);"), 64)?;
-    past_limit(&rt, &mut store, "CREATE TABLE more (a text);");
+fn reach_limits(
+    rt: &(impl Abort + AllocGlobal),
+    store: &mut Store<Global>,
+) -> Result<(), AllocError> {
+    applied_times(rt, store, ("CREATE ROLE r", ";"), 255)?;
+    past_limit(rt, store, "CREATE ROLE more;");
+    applied_times(rt, store, ("CREATE TABLE t", " (a text);"), 64)?;
+    past_limit(rt, store, "CREATE TABLE more (a text);");
     assert_eq!(rt; store.catalog().roles(), 256);
     assert_eq!(rt; store.catalog().tables(), 64);
     Ok(())
+}
+
+#[test]
+fn limits_of_roles_and_tables(rt: HostRuntime) -> Result<(), Fail> {
+    let mut store = Store::new(rt.alloc())?;
+    Ok(reach_limits(&rt, &mut store)?)
 }
 
 // The store of the deals with 256 policies, on its table and another one.

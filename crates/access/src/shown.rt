@@ -6,8 +6,8 @@ ghost use Rattle.access.specs.View.{guard_of};
 
 use crate::rows::TableRow;
 use eval::is_true_on;
-use expr::MovableExpr;
 use memory::Heap;
+use row_objects::MovableExpr;
 
 /// Which rows of a table a role sees.
 #[derive(Drop)]

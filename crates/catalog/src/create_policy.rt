@@ -12,10 +12,10 @@ ghost use Rattle.catalog.specs.CreatePolicy.{after_create_policy, bound_predicat
 ghost use Rattle.catalog.specs.Changes.{IsChange};
 
 use crate::catalog::Catalog;
-use expr::{BoundExpr, MovableExpr, is_movable};
+use expr::{BoundExpr, is_movable};
 use memory::{Failure, Heap};
 use row_ast::{CreatePolicy, Expr};
-use row_objects::{ByName, Policy, Table, TableDef, has_policy, new_policy};
+use row_objects::{ByName, MovableExpr, Policy, Table, TableDef, has_policy, new_policy};
 use scope::{Entry, bind_expr, everywhere};
 use std::alloc::AllocError;
 use typing::condition_fault;

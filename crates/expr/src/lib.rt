@@ -6,11 +6,9 @@ mod bound;
 mod columns;
 mod copies;
 mod movable;
-mod movable_expr;
 
 pub use aggregates::{AggregateCall, push_aggregates};
 pub use bound::{BoundArm, BoundExpr, ColumnId, is_column};
 pub use columns::push_columns;
 pub use copies::copy_expr;
 pub use movable::is_movable;
-pub use movable_expr::MovableExpr;

@@ -9,11 +9,12 @@ ghost use Rattle.row_creates.specs.Creates as rules;
 ghost use Rattle.row_ast.specs.View.{statement_of};
 ghost use Rattle.value.specs.Columns as columns;
 ghost use Rattle.value.specs.Columns.{column_of};
-ghost use Rattle.row_expressions.specs.View.{located};
+ghost use Rattle.expression_parts.specs.View.{located};
 
+use expression_parts::Located;
 use memory::Heap;
 use row_ast::{CreatePolicy, Statement};
-use row_expressions::{Located, inner_expression};
+use row_expressions::inner_expression;
 use row_reader::comma_list::comma_list;
 use row_reader::names::{name, names, type_name};
 use row_reader::reader::{Parsed, Parser, Reader, closed, expect, meant, open, present, sees};

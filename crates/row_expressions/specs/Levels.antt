@@ -2,17 +2,14 @@
 use Rattle.std.specs.Prelude.{ℕ, List}
 use Rattle.value.specs.declared.operators.Arithmetic.{Arithmetic}
 use Rattle.row_grammar.specs.Grammar.{word, both}
-use Rattle.row_tokens.specs.declared.token.TokenKind.{TokenKind}
-use Rattle.row_tokens.specs.declared.token.TokenKind.TheVariants as k
 use Rattle.row_tokens.specs.Words.{Word}
-use Rattle.row_ast.specs.Ast as ast
-use Rattle.row_ast.specs.Ast.{Expr, exprs_of, and_members, or_members}
 use Rattle.row_reader.specs.Expressions.{unary, factor, product, addend, sum, negation, conjunction, expression}
 use Rattle.row_reader.specs.Language.{Located, Rule, is}
 use Rattle.row_reader.specs.declared.reader.Class.{Class}
 use Rattle.row_reader.specs.declared.reader.Class.TheVariants as class
-use Rattle.row_expressions.specs.declared.build.Connective.{Connective}
-use Rattle.row_expressions.specs.declared.build.Connective.TheVariants as connective
+use Rattle.expression_parts.specs.declared.build.Connective.{Connective}
+use Rattle.expression_parts.specs.declared.build.Connective.TheVariants as connective
+use Rattle.expression_parts.specs.Connectives.{connective_word}
 use Rattle.row_expressions.specs.declared.expressions.Level.{Level}
 use Rattle.row_expressions.specs.declared.expressions.Level.TheVariants as level
 
@@ -40,10 +37,6 @@ run_rule level.Sum = sum
 
 -- ---- AND and OR
 
-abbrev pub connective_word : Connective → TokenKind
-connective_word connective.And = k.And
-connective_word connective.Or = k.Or
-
 -- an operand
 abbrev pub member_rule : Connective → Rule Located
 member_rule connective.And = negation
@@ -57,12 +50,3 @@ next_member_rule c = both (word (is (connective_word c))) (member_rule c)
 abbrev pub connected_rule : Connective → Rule Located
 connected_rule connective.And = conjunction
 connected_rule connective.Or = expression
-
--- the members of an operand: its own where it is one of these
-abbrev pub members_of : Connective → Expr → List Expr
-members_of connective.And e = and_members e
-members_of connective.Or e = or_members e
-
-abbrev pub joined_expr : Connective → ℕ → List Expr → Expr
-joined_expr connective.And offset members = ast.And offset (exprs_of members)
-joined_expr connective.Or offset members = ast.Or offset (exprs_of members)

@@ -12,17 +12,16 @@ ghost use Rattle.row_reader.specs.Language.{an_expression, a_negation, a_unary, 
 ghost use Rattle.row_reader.specs.Reading.{Parses};
 ghost use Rattle.row_ast.specs.View.{expr_of, arm_pair};
 ghost use Rattle.row_expressions.specs.Levels.{connected_rule, member_rule, next_member_rule, next_rule, operand_rule, run_rule, sign_class};
-ghost use Rattle.row_expressions.specs.View.{located, range_of, signed_of, suffix_of, otherwise_of};
+ghost use Rattle.expression_parts.specs.View.{located, range_of, signed_of, suffix_of, otherwise_of};
 
-use crate::build::{
-    CallSuffix, Connective, Located, Otherwise, Range, called, case_of, column_expr, combined,
-    connective_word, counted, extend, joined, members_of, ranged,
+use expression_parts::{
+    CallSuffix, Connective, Located, Otherwise, Range, as_type, called, case_of, combined,
+    connective_word, constant, counted, dotted, extend, in_list, is_null, joined, members_of,
+    plain_column, ranged,
 };
 use memory::{Failure, Heap, boxed};
 use row_ast::{Arm, Expr};
 use row_grammar::ReadError;
-use row_reader::literals::{literal, value_list};
-use row_reader::names::{dot_name, type_name};
 use row_reader::operators::{addition, aggregate_name, comparison_sign, multiplication};
 use row_reader::reader::{
     Class, Parsed, Reader, before, closed, expect, expect_any, meant, next_offset, open, present,
@@ -87,14 +86,6 @@ fn argument<'t, A: Heap>(reader: Reader<A>, tokens: &'t [Token<'t>]) -> Parsed<'
 {
     let ((_, argument), rest) = inner_expression(reader, tokens)?;
     Ok((CallSuffix::Argument(argument), rest))
-}
-
-// `AS type`.
-fn as_type<'t, A: Heap>(reader: Reader<A>, tokens: &'t [Token<'t>]) -> Parsed<'t, ColType>
-    ensures { Parses (λ t. t) (after (is k.As) rules.type_name) reader tokens.now result }
-{
-    let (_, rest) = expect(TokenKind::As, tokens)?;
-    type_name(reader, rest)
 }
 
 // `expr AS type`.
@@ -224,14 +215,6 @@ fn counted_rows<'t, A: Heap>(
     }
 }
 
-// `[. name]` after a word that may be a function's name.
-fn dotted<'t, A: Heap>(reader: Reader<A>, tokens: &'t [Token<'t>]) -> Parsed<'t, CallSuffix<A>>
-    ensures { Parses (λ t. suffix_of t) (made (λ n. rules.Dotted n) rules.dot_name) reader tokens.now result }
-{
-    let (name, rest) = dot_name(reader, tokens)?;
-    Ok((CallSuffix::Dotted(name), rest))
-}
-
 // What follows `count`.
 #[cycle(expression)]
 #[tactic(auto, unfolding(row_reader::specs::Expressions::count_tail))]
@@ -285,33 +268,6 @@ fn aggregate<'t, A: Heap>(reader: Reader<A>, tokens: &'t [Token<'t>]) -> Parsed<
     let (suffix, rest) = aggregate_tail(reader, rest)?;
     let value = called(reader.alloc, &word, name, suffix);
     starting_at(word.offset, value, rest)
-}
-
-// `CURRENT_USER` or a literal.
-#[tactic(auto, unfolding(row_reader::specs::Expressions::constant))]
-fn constant<'t, A: Heap>(reader: Reader<A>, tokens: &'t [Token<'t>]) -> Parsed<'t, Located<A>>
-    ensures { Parses (λ t. located t) rules.constant reader tokens.now result }
-{
-    if sees(TokenKind::CurrentUser, tokens) {
-        let (word, rest) = expect(TokenKind::CurrentUser, tokens)?;
-        let value = boxed(reader.alloc, Expr::CurrentUser);
-        starting_at(word.offset, value, rest)
-    } else {
-        let ((start, value), rest) = literal(reader, tokens)?;
-        let value = boxed(reader.alloc, Expr::Literal(value));
-        starting_at(start, value, rest)
-    }
-}
-
-// A column whose first word is no function's name.
-#[tactic(auto, unfolding(row_reader::specs::Expressions::plain_column))]
-fn plain_column<'t, A: Heap>(reader: Reader<A>, tokens: &'t [Token<'t>]) -> Parsed<'t, Located<A>>
-    ensures { Parses (λ t. located t) rules.plain_column reader tokens.now result }
-{
-    let (word, rest) = expect_any(Class::PlainName, tokens)?;
-    let (name, rest) = dot_name(reader, rest)?;
-    let column = column_expr(reader.alloc, &word, name);
-    starting_at(word.offset, column, rest)
 }
 
 // An expression without an operator outside parentheses.
@@ -456,18 +412,6 @@ fn between<'t, A: Heap>(reader: Reader<A>, tokens: &'t [Token<'t>]) -> Parsed<'t
     Ok((Range::Bounds { offset, low, high }, rest))
 }
 
-// `IN ( literal {, literal} )`.
-#[tactic(auto, unfolding(row_reader::specs::Expressions::in_list))]
-fn in_list<'t, A: Heap>(reader: Reader<A>, tokens: &'t [Token<'t>]) -> Parsed<'t, Range<A>>
-    ensures { Parses (λ t. range_of t) rules.in_list reader tokens.now result }
-{
-    let (word, rest) = expect(TokenKind::In, tokens)?;
-    let (_, rest) = open(TokenKind::Open, reader.depth_limit, rest)?;
-    let (values, rest) = closed(value_list(reader, rest))?;
-    let offset = word.offset;
-    Ok((Range::Values { offset, values }, rest))
-}
-
 // `NOT` and a range.
 #[cycle(expression)]
 #[tactic(auto, unfolding(row_reader::specs::Expressions::negated_range, row_reader::specs::Expressions::range, row_reader::specs::Expressions::between))]
@@ -548,28 +492,6 @@ fn comparison<'t, A: Heap>(reader: Reader<A>, tokens: &'t [Token<'t>]) -> Parsed
         right,
     };
     starting_at(start, boxed(reader.alloc, whole), rest)
-}
-
-// `[NOT] NULL`, and whether with NOT.
-#[tactic(auto, unfolding(row_reader::specs::Expressions::null_word))]
-fn null_word<'t, A: Heap>(reader: Reader<A>, tokens: &'t [Token<'t>]) -> Parsed<'t, bool>
-    ensures { Parses (λ t. t) rules.null_word reader tokens.now result }
-{
-    if sees(TokenKind::Not, tokens) {
-        let (_, rest) = expect(TokenKind::Not, tokens)?;
-        meant(TokenKind::Null, true, rest)
-    } else {
-        meant(TokenKind::Null, false, tokens)
-    }
-}
-
-// `IS [NOT] NULL`, and whether with NOT.
-#[tactic(auto, unfolding(row_reader::specs::Expressions::is_null))]
-fn is_null<'t, A: Heap>(reader: Reader<A>, tokens: &'t [Token<'t>]) -> Parsed<'t, (u32, bool)>
-    ensures { Parses (λ t. t) rules.is_null reader tokens.now result }
-{
-    let (word, rest) = expect(TokenKind::Is, tokens)?;
-    before(word.offset, null_word(reader, rest))
 }
 
 // `comparison [IS [NOT] NULL]`.

@@ -4,7 +4,7 @@ ghost use Rattle.std.specs.Prelude.{◌≡◌, map};
 ghost use Rattle.value.specs.Columns.{column_of};
 ghost use Rattle.row_objects.specs.View.{grant_of, index_of, policy_of, table_entry, table_of};
 
-use expr::MovableExpr;
+use crate::movable_expr::MovableExpr;
 use memory::Heap;
 use text::{Items, Text};
 use value::Column;

@@ -8,8 +8,8 @@ ghost use Rattle.row_objects.specs.View.{policy_of, table_entry};
 
 use crate::by_name::ByName;
 use crate::copies::copy_names;
+use crate::movable_expr::MovableExpr;
 use crate::objects::{Policy, TableDef};
-use expr::MovableExpr;
 use memory::Heap;
 use row_ast::CreatePolicy;
 use std::alloc::AllocError;

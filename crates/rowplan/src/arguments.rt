@@ -4,7 +4,7 @@ use crate::failure::ProgramError;
 use clap::error::ErrorKind;
 use clap::{Arg, ArgAction, ArgMatches, Command};
 use memory::Failure;
-use std::alloc::Global;
+use std::alloc::{AllocError, Global};
 
 /// The version of the program.
 const VERSION: &str = "0.1.0";
@@ -53,11 +53,22 @@ fn option<'a>(alloc: Global, name: &'a str, value: &'a str, help: &'a str) -> Ar
         .action(ArgAction::Set)
 }
 
+fn with_argument<'a>(
+    command: Command<'a>,
+    argument: Result<Arg<'a>, AllocError>,
+) -> Result<Command<'a>, ProgramError> {
+    Ok(command.arg(argument?)?)
+}
+
 fn query_command<'a>(alloc: Global) -> Result<Command<'a>, ProgramError> {
-    let text = Arg::new(alloc, "TEXT")
-        .help("The query; after -- where it starts with a minus")
-        .required_unless_present("file")?
-        .action(ArgAction::Set);
+    let schema = "The schema text, or - for standard input";
+    let dir = "The folder with a file T.csv for each table T";
+    let command = Command::new(alloc, "query")
+        .about("Writes the reply to a role's query as comma-separated text")
+        .after_help(EXAMPLE)
+        .arg(option(alloc, "schema", "FILE", schema).required(true))?
+        .arg(option(alloc, "dir", "DIR", dir).required(true))?
+        .arg(option(alloc, "role", "NAME", "The role that asks").required(true))?;
     let file = option(
         alloc,
         "file",
@@ -70,42 +81,23 @@ fn query_command<'a>(alloc: Global) -> Result<Command<'a>, ProgramError> {
             "Says on standard error what a refusal or a denial means, and where it is in the text",
         )
         .action(ArgAction::SetTrue);
-    let schema = option(
-        alloc,
-        "schema",
-        "FILE",
-        "The schema text, or - for standard input",
-    );
-    let dir = option(
-        alloc,
-        "dir",
-        "DIR",
-        "The folder with a file T.csv for each table T",
-    );
-    let role = option(alloc, "role", "NAME", "The role that asks");
-    let command = Command::new(alloc, "query")
-        .about("Writes the reply to a role's query as comma-separated text")
-        .arg(schema.required(true))?
-        .arg(dir.required(true))?
-        .arg(role.required(true))?
-        .arg(file.conflicts_with("TEXT")?)?
-        .arg(explain)?
-        .arg(text)?
-        .after_help(EXAMPLE);
-    Ok(command)
+    let command = with_argument(command, file.conflicts_with("TEXT"))?.arg(explain)?;
+    let text = Arg::new(alloc, "TEXT")
+        .help("The query; after -- where it starts with a minus")
+        .action(ArgAction::Set);
+    with_argument(command, text.required_unless_present("file"))
 }
 
 fn command<'a>(alloc: Global) -> Result<Command<'a>, ProgramError> {
-    let codes = Command::new(alloc, "codes").about(
-        "Lists the codes of refusals and faults with their meaning",
-    );
+    let query = query_command(alloc)?;
+    let codes = "Lists the codes of refusals and faults with their meaning";
     let program = Command::new(alloc, "rowplan")
         .version(VERSION)
         .about("Queries over tables with row security")
         .subcommand_required(true)
-        .subcommand(query_command(alloc)?)?
-        .subcommand(codes)?
-        .after_help(EXAMPLE);
+        .after_help(EXAMPLE)
+        .subcommand(query)?
+        .subcommand(Command::new(alloc, "codes").about(codes))?;
     Ok(program)
 }
 
@@ -137,11 +129,49 @@ fn query_arguments<'a>(found: &ArgMatches<'a>) -> Option<QueryArguments<'a>> {
     })
 }
 
-fn is_input_twice(arguments: &QueryArguments<'_>) -> bool {
-    match arguments.text {
-        QueryText::File(path) => path == "-" && arguments.schema == "-",
-        QueryText::Given(_) => false,
+fn is_input_twice(request: &Request<'_>) -> bool {
+    match request {
+        Request::Query(
+            QueryArguments {
+                schema,
+                text: QueryText::File(path),
+                ..
+            },
+        ) => *path == "-" && *schema == "-",
+        _ => false,
     }
+}
+
+// What the words ask for, or nothing where memory ran out.
+fn request_of<'a>(matches: &ArgMatches<'a>) -> Option<Request<'a>> {
+    if let Some(_) = matches.subcommand_matches("codes") {
+        return Some(Request::Codes);
+    }
+    match matches.subcommand_matches("query") {
+        Some(found) => match query_arguments(found) {
+            Some(arguments) => Some(Request::Query(arguments)),
+            None => None,
+        },
+        None => None,
+    }
+}
+
+// The request, unless it would read standard input twice.
+fn accepted<'a>(
+    command: &mut Command<'a>,
+    request: Option<Request<'a>>,
+) -> Result<Request<'a>, ProgramError> {
+    let Some(request) = request else {
+        return Err(ProgramError::Setup(Failure::OutOfMemory));
+    };
+    if is_input_twice(&request) {
+        let error = command.error(
+            ErrorKind::ArgumentConflict,
+            "standard input cannot be both the schema and the query",
+        )?;
+        return Err(ProgramError::Usage(error));
+    }
+    Ok(request)
 }
 
 /// Reads the words of a command line, of which the first is the program's name.
@@ -151,21 +181,5 @@ pub fn read_arguments<'a>(
 ) -> Result<Request<'a>, ProgramError> {
     let mut command = command(alloc)?;
     let matches = command.try_get_matches_from_mut(words)?;
-    if let Some(_) = matches.subcommand_matches("codes") {
-        return Ok(Request::Codes);
-    }
-    let Some(found) = matches.subcommand_matches("query") else {
-        return Err(ProgramError::Setup(Failure::OutOfMemory));
-    };
-    let Some(arguments) = query_arguments(found) else {
-        return Err(ProgramError::Setup(Failure::OutOfMemory));
-    };
-    if is_input_twice(&arguments) {
-        let error = command.error(
-            ErrorKind::ArgumentConflict,
-            "standard input cannot be both the schema and the query",
-        )?;
-        return Err(ProgramError::Usage(error));
-    }
-    Ok(Request::Query(arguments))
+    accepted(&mut command, request_of(&matches))
 }

@@ -20,10 +20,11 @@ use Rattle.row_reader.specs.Expressions.{grammar, nested_first, folded_left, and
 use Rattle.row_ast.specs.View.{expr_of, arm_pair}
 use Rattle.row_ast.specs.declared.expr.Expr.{Expr as Tree}
 use Rattle.row_reader.specs.Reading.{starting_at, with_rest}
-use Rattle.row_expressions.specs.Levels.{connected_rule, connective_word, joined_expr, member_rule, members_of, next_member_rule, next_rule, operand_rule, run_rule, sign_class}
-use Rattle.row_expressions.specs.View.{located}
-use Rattle.row_expressions.specs.declared.build.Connective.{Connective}
-use Rattle.row_expressions.specs.declared.build.Connective.TheVariants as word
+use Rattle.expression_parts.specs.Connectives.{connective_word, joined_expr, members_of}
+use Rattle.row_expressions.specs.Levels.{connected_rule, member_rule, next_member_rule, next_rule, operand_rule, run_rule, sign_class}
+use Rattle.expression_parts.specs.View.{located}
+use Rattle.expression_parts.specs.declared.build.Connective.{Connective}
+use Rattle.expression_parts.specs.declared.build.Connective.TheVariants as word
 use Rattle.row_expressions.specs.declared.expressions.Level.{Level}
 use Rattle.row_expressions.specs.declared.expressions.Level.TheVariants as level
 use Rattle.row_reader.proofs.Lists.{listed_stop, listed_over, listed_fail, listed_go, listed_first, listed_none}

@@ -4,8 +4,7 @@ ghost use Rattle.std.specs.Prelude.{◌≡◌, true};
 ghost use Rattle.expr.specs.Movable.{if_movable, movable};
 ghost use Rattle.expr.specs.View.{bound_expr_of};
 
-use crate::bound::BoundExpr;
-use crate::movable::is_movable;
+use expr::{BoundExpr, is_movable};
 use memory::Heap;
 use std::marker::Model;
 

@@ -1,4 +1,4 @@
-use Rattle.row_expressions.proofs.build.joined.Goals as goal
+use Rattle.expression_parts.proofs.build.joined.Goals as goal
 
 pub returns-in-And : goal.returns-in-And
 returns-in-And g c = rw c.in-And.is c.and_of.ensures

@@ -6,8 +6,8 @@ ghost use Rattle.row_reader.specs.Expressions as rules;
 ghost use Rattle.row_ast.specs.Ast as ast;
 ghost use Rattle.row_ast.specs.Ast.{arms_of, exprs_of};
 ghost use Rattle.row_ast.specs.View.{expr_of, arm_pair};
-ghost use Rattle.row_expressions.specs.Levels.{connective_word, joined_expr, members_of};
-ghost use Rattle.row_expressions.specs.View.{located, signed_of, suffix_of, otherwise_of};
+ghost use Rattle.expression_parts.specs.Connectives.{connective_word, joined_expr, members_of};
+ghost use Rattle.expression_parts.specs.View.{located, signed_of, suffix_of, otherwise_of};
 
 use memory::{Heap, boxed};
 use row_ast::{Arm, Expr};

@@ -5,12 +5,12 @@ use Rattle.row_ast.specs.Ast as ast
 use Rattle.row_ast.specs.View.{expr_of}
 use Rattle.row_ast.specs.declared.expr.Expr.{Expr}
 use Rattle.row_reader.specs.Expressions as rules
-use Rattle.row_expressions.specs.declared.build.Range.{Range}
-use Rattle.row_expressions.specs.declared.build.Range.TheVariants as range
-use Rattle.row_expressions.specs.declared.build.Otherwise.{Otherwise}
-use Rattle.row_expressions.specs.declared.build.Otherwise.TheVariants as otherwise
-use Rattle.row_expressions.specs.declared.build.CallSuffix.{CallSuffix}
-use Rattle.row_expressions.specs.declared.build.CallSuffix.TheVariants as suffix
+use Rattle.expression_parts.specs.declared.build.Range.{Range}
+use Rattle.expression_parts.specs.declared.build.Range.TheVariants as range
+use Rattle.expression_parts.specs.declared.build.Otherwise.{Otherwise}
+use Rattle.expression_parts.specs.declared.build.Otherwise.TheVariants as otherwise
+use Rattle.expression_parts.specs.declared.build.CallSuffix.{CallSuffix}
+use Rattle.expression_parts.specs.declared.build.CallSuffix.TheVariants as suffix
 
 -- an expression with where it starts
 abbrev pub located : {A : Type 0} → ℕ × Box (Expr A) A → ℕ × ast.Expr

@@ -1,0 +1,11 @@
+//! Expressions built of their parts, and the parts that hold no expression.
+#![tactic(auto)]
+
+mod build;
+mod leaves;
+
+pub use build::{
+    CallSuffix, Connective, Located, Otherwise, Range, called, case_of, combined, connective_word,
+    counted, extend, joined, members_of, ranged,
+};
+pub use leaves::{as_type, constant, dotted, in_list, is_null, plain_column};
