@@ -17,6 +17,7 @@ abbrev pub members_of : Connective → Expr → List Expr
 members_of connective.And e = and_members e
 members_of connective.Or e = or_members e
 
+-- the AND or OR of members, by the offset of its first word
 abbrev pub joined_expr : Connective → ℕ → List Expr → Expr
 joined_expr connective.And offset members = ast.And offset (exprs_of members)
 joined_expr connective.Or offset members = ast.Or offset (exprs_of members)

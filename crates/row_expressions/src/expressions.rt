@@ -2,7 +2,7 @@
 
 ghost use Rattle.std.specs.Prelude.{◌≡◌, ◌<◌, map, option_map};
 ghost use Rattle.memory.specs.Gives.{Gives};
-ghost use Rattle.row_grammar.specs.Limits.{reads, deep_at};
+ghost use Rattle.row_grammar.specs.Limits.{deep_at};
 ghost use Rattle.row_tokens.specs.View.{word_of, words_of};
 ghost use Rattle.row_reader.specs.Expressions as rules;
 ghost use Rattle.row_reader.specs.Expressions.{grammar};
@@ -10,7 +10,7 @@ ghost use Rattle.row_grammar.specs.Grammar.{both, inner, made};
 ghost use Rattle.row_tokens.specs.declared.token.TokenKind.TheVariants as k;
 ghost use Rattle.row_reader.specs.Language.{an_expression, a_negation, a_unary, after, is};
 ghost use Rattle.row_reader.specs.Reading.{Parses};
-ghost use Rattle.row_ast.specs.View.{expr_of, arm_pair};
+ghost use Rattle.row_ast.specs.View.{arm_pair};
 ghost use Rattle.row_expressions.specs.Levels.{connected_rule, member_rule, next_member_rule, next_rule, operand_rule, run_rule, sign_class};
 ghost use Rattle.expression_parts.specs.View.{located, range_of, signed_of, suffix_of, otherwise_of};
 
@@ -24,8 +24,8 @@ use row_ast::{Arm, Expr};
 use row_grammar::ReadError;
 use row_reader::operators::{addition, aggregate_name, comparison_sign, multiplication};
 use row_reader::reader::{
-    Class, Parsed, Reader, before, closed, expect, expect_any, meant, next_offset, open, present,
-    sees, sees_any, starting_at, unplaced, with_rest,
+    Class, Parsed, Reader, before, closed, expect, meant, next_offset, open, present, sees,
+    sees_any, starting_at, unplaced, with_rest,
 };
 use row_tokens::{Token, TokenKind};
 use text::Items;
