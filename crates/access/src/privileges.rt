@@ -2,13 +2,14 @@
 
 ghost use Rattle.std.specs.Prelude.{◌≡◌, ◌&&◌, map, option_map};
 ghost use Rattle.std.specs.List.{list_any};
-ghost use Rattle.row_objects.specs.View.{grant_of};
+ghost use Rattle.grants.specs.View.{grant_of};
 ghost use Rattle.access.specs.Access.{includes_role, covers, granted, denial};
 ghost use Rattle.access.specs.View.{privilege_of};
 
 use catalog::Catalog;
+use grants::Grant;
 use memory::Heap;
-use row_objects::{Grant, Table};
+use row_objects::Table;
 use text::Text;
 
 /// SELECT on a column of a table, or on any part of it.

@@ -7,7 +7,7 @@ ghost use Rattle.access.specs.View.{guard_of};
 use crate::rows::TableRow;
 use eval::is_true_on;
 use memory::Heap;
-use row_objects::MovableExpr;
+use movable_expr::MovableExpr;
 
 /// Which rows of a table a role sees.
 #[derive(Drop)]

@@ -4,9 +4,9 @@ use Rattle.std.proofs.lemmas.List.{length-append}
 use Rattle.std.proofs.lemmas.Bool.{and_parts, and_from}
 use Rattle.std.specs.List.{list_all, position_from}
 use Rattle.row_ast.specs.Ast.{Name}
-use Rattle.row_objects.specs.Named.{place_named}
-use Rattle.row_objects.specs.Objects.{Membership, most_roles}
-use Rattle.row_objects.specs.Reached.{is_of_roles}
+use Rattle.memberships.specs.Named.{place_named}
+use Rattle.memberships.specs.Memberships.{Membership, most_roles}
+use Rattle.memberships.specs.Reached.{is_of_roles}
 use Rattle.row_objects.specs.declared.objects.Role.{Role}
 
 -- what is found among some is found among more

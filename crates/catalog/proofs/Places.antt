@@ -3,7 +3,7 @@ use Rattle.std.proofs.Common.{◌≡◌, ℕ, zero, suc, ◌+◌, ◌≤◌, Boo
 use Rattle.std.specs.List.{position_from}
 use Rattle.value.specs.declared.refusal.Refusal.{Refusal}
 use Rattle.row_ast.specs.Ast.{Name}
-use Rattle.row_objects.specs.Named.{set_value_at}
+use Rattle.memberships.specs.Named.{set_value_at}
 use Rattle.row_objects.specs.Objects.{Table}
 use Rattle.catalog.specs.Catalog.{Catalog, table_place}
 use Rattle.catalog.specs.Checks.{changed_at, first_changed, unless, with_table}

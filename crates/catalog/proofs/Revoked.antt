@@ -3,9 +3,9 @@ use Rattle.std.proofs.Common.{◌≡◌, Bool, true, false, not, ◌&&◌, cond,
 use Rattle.std.specs.List.{list_any}
 use Rattle.row_ast.specs.Ast as ast
 use Rattle.row_ast.specs.Ast.{Name}
-use Rattle.row_objects.specs.Objects.{Grant, Table}
-use Rattle.row_objects.specs.Grants.{takes, without_grants}
-use Rattle.row_objects.proofs.Paths.{text_same}
+use Rattle.grants.specs.Grants.{Grant, takes, without_grants}
+use Rattle.row_objects.specs.Objects.{Table}
+use Rattle.memberships.proofs.Paths.{text_same}
 use Rattle.catalog.specs.Catalog.{table_named}
 use Rattle.catalog.specs.Checks.{first_changed, if_found}
 use Rattle.catalog.specs.RevokeSelect.{without_grants_to}

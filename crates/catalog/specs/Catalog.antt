@@ -3,8 +3,8 @@ use Rattle.std.specs.Prelude.{ℕ, Bool, true, false, ◌||◌, codes, List, [],
 use Rattle.std.specs.Str.{bytes_eq}
 use Rattle.std.specs.List.{find, position_from}
 use Rattle.row_ast.specs.Ast.{Name, everyone}
-use Rattle.row_objects.specs.Objects.{Membership, Role, Table}
-use Rattle.row_objects.specs.Memberships.{belongs_by}
+use Rattle.memberships.specs.Memberships.{Membership, belongs_by}
+use Rattle.row_objects.specs.Objects.{Role, Table}
 use Rattle.row_objects.specs.Indexes.{any_index}
 pub use Rattle.row_objects.specs.ColumnNames.{column_named, place_of, is_qualified}
 

@@ -2,7 +2,7 @@
 use Rattle.std.specs.Prelude.{Bool, not, List, [], ◌∷◌, ◌++◌}
 use Rattle.value.specs.declared.refusal.Refusal.TheVariants as r
 use Rattle.row_ast.specs.Ast.{Name}
-use Rattle.row_objects.specs.Objects.{most_roles}
+use Rattle.memberships.specs.Memberships.{most_roles}
 use Rattle.catalog.specs.Catalog.{Catalog, is_known, is_superuser}
 use Rattle.catalog.specs.Checks.{Check, is_full}
 

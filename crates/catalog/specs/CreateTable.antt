@@ -1,10 +1,10 @@
 -- CREATE TABLE name (columns).
-use Rattle.std.specs.Prelude.{ℕ, false, ◌||◌, nat_lt, List, [], ◌∷◌, ◌++◌, length}
+use Rattle.std.specs.Prelude.{ℕ, ◌||◌, nat_lt, List, [], ◌∷◌, ◌++◌, length}
 use Rattle.value.specs.Columns.{Column}
 use Rattle.value.specs.declared.refusal.Refusal.TheVariants as r
 use Rattle.row_ast.specs.Ast.{Name}
-use Rattle.row_objects.specs.Objects.{Table}
 use Rattle.row_objects.specs.ColumnNames.{has_name_twice}
+use Rattle.row_objects.specs.TableDefs.{new_table}
 use Rattle.catalog.specs.Catalog.{Catalog, is_index, is_table}
 use Rattle.catalog.specs.Checks.{Check, is_full}
 
@@ -21,10 +21,6 @@ checks_create_table cat name columns =
     ∷ (is_index cat name, r.DuplicateTable)
     ∷ (has_name_twice columns, r.DuplicateColumn)
     ∷ (is_full most_tables cat.tables || nat_lt most_columns (length columns), r.ProgramLimitExceeded) ∷ []
-
--- a new table, which its creator owns
-abbrev pub new_table : Name → Name → List Column → Table
-new_table actor name columns = record { name = name; columns = columns; owner = actor; row_security = false; forced = false; policies = []; grants = []; indexes = [] }
 
 abbrev pub after_create_table : Catalog → Name → Name → List Column → Catalog
 after_create_table cat actor name columns = record cat { tables = cat.tables ++ new_table actor name columns ∷ [] }

@@ -5,7 +5,7 @@ use Rattle.value.specs.declared.refusal.Refusal.TheVariants as r
 use Rattle.row_ast.specs.Ast as ast
 use Rattle.row_ast.specs.Ast.{Name}
 use Rattle.row_objects.specs.Objects.{Table}
-use Rattle.row_objects.specs.Grants.{grants_to_all, with_grants}
+use Rattle.grants.specs.Grants.{grants_to_all, with_grants}
 use Rattle.row_objects.specs.ColumnNames.{are_columns}
 use Rattle.catalog.specs.Catalog.{Catalog, is_known, owns, table_named}
 use Rattle.catalog.specs.Checks.{Check, if_found, with_table}

@@ -5,8 +5,7 @@ use Rattle.std.specs.List.{list_all, list_any}
 use Rattle.row_ast.specs.Ast as ast
 use Rattle.row_ast.specs.Ast.{Name}
 use Rattle.row_ast.specs.Statements.{GrantSelect, RevokeSelect}
-use Rattle.row_objects.specs.Objects.{Grant}
-use Rattle.row_objects.specs.Grants.{grants_to_all, has_grant}
+use Rattle.grants.specs.Grants.{Grant, grants_to_all, has_grant}
 use Rattle.catalog.specs.Catalog.{Catalog, is_table, table_named}
 use Rattle.catalog.specs.Checks.{if_found}
 use Rattle.catalog.specs.Changes.{after}

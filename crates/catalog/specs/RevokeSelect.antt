@@ -1,7 +1,7 @@
 -- REVOKE SELECT [(columns)] ON table FROM roles; its checks are those of GRANT SELECT.
 use Rattle.row_ast.specs.Ast as ast
 use Rattle.row_objects.specs.Objects.{Table}
-use Rattle.row_objects.specs.Grants.{without_grants}
+use Rattle.grants.specs.Grants.{without_grants}
 use Rattle.catalog.specs.Catalog.{Catalog}
 use Rattle.catalog.specs.Checks.{with_table}
 

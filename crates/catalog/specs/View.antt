@@ -1,6 +1,7 @@
 -- What the catalogue of the program is.
 use Rattle.std.specs.Prelude.{map}
-use Rattle.row_objects.specs.View.{membership_of, role_of, table_entry}
+use Rattle.memberships.specs.View.{membership_of}
+use Rattle.row_objects.specs.View.{role_of, table_entry}
 use Rattle.catalog.specs.Catalog.{Catalog}
 use Rattle.catalog.specs.declared.catalog.Catalog.TheInside.{Inside}
 

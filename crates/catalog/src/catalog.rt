@@ -6,10 +6,9 @@ ghost use Rattle.row_objects.specs.Policies as policies;
 ghost use Rattle.row_objects.specs.View.{table_of};
 ghost use Rattle.catalog.specs.Catalog.{at_first, belongs, bypasses_rls, is_index, is_known, is_role, is_superuser, is_table, owns, table_named, table_place};
 
+use memberships::{ByName, Membership, belongs_by};
 use memory::Heap;
-use row_objects::{
-    ByName, Membership, Role, Table, TableDef, any_index, belongs_by, has_policy_room,
-};
+use row_objects::{Role, Table, TableDef, any_index, has_policy_room};
 use std::alloc::AllocError;
 use std::marker::Model;
 use text::Text;
@@ -27,15 +26,15 @@ pub struct Catalog<A: Heap> {
 impl<A: Heap> Model for Catalog<A> {
     ghost use Rattle.std.specs.Prelude.{◌≡◌, ◌≤◌, ℕ, length, map, true};
     ghost use Rattle.std.specs.List.{list_all};
-    ghost use Rattle.row_objects.specs.Objects.{most_roles};
-    ghost use Rattle.row_objects.specs.Reached.{is_of_roles};
-    ghost use Rattle.row_objects.specs.View.{membership_of};
+    ghost use Rattle.memberships.specs.Memberships.{most_roles};
+    ghost use Rattle.memberships.specs.Reached.{is_of_roles};
+    ghost use Rattle.memberships.specs.View.{membership_of};
     ghost use Rattle.catalog.specs.Catalog as spec;
 
     ghost Value = { spec.Catalog };
 
     ghost use Rattle.std.specs.Coded.{codes, coded_ℕ};
-    ghost use Rattle.row_objects.specs.declared.movable_expr.MovableExpr as movable_expr;
+    ghost use Rattle.movable_expr.specs.declared.movable_expr.MovableExpr as movable_expr;
 
     ghost coded = { Prim.hlevel (codes, movable_expr.the_code ℕ coded_ℕ) };
 

@@ -8,8 +8,9 @@ ghost use Rattle.catalog.specs.CreateIndex.{after_create_index, checks_create_in
 ghost use Rattle.catalog.specs.Changes.{IsChange};
 
 use crate::catalog::Catalog;
+use memberships::ByName;
 use memory::Heap;
-use row_objects::{ByName, Table, TableDef, is_indexed, new_index, place};
+use row_objects::{Table, TableDef, is_indexed, new_index, place};
 use std::alloc::AllocError;
 use value::Refusal;
 

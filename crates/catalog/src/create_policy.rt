@@ -13,9 +13,11 @@ ghost use Rattle.catalog.specs.Changes.{IsChange};
 
 use crate::catalog::Catalog;
 use expr::{BoundExpr, is_movable};
+use memberships::ByName;
 use memory::{Failure, Heap};
+use movable_expr::MovableExpr;
 use row_ast::{CreatePolicy, Expr};
-use row_objects::{ByName, MovableExpr, Policy, Table, TableDef, has_policy, new_policy};
+use row_objects::{Policy, Table, TableDef, has_policy, new_policy};
 use scope::{Entry, bind_expr, everywhere};
 use std::alloc::AllocError;
 use typing::condition_fault;

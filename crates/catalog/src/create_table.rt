@@ -1,19 +1,17 @@
 //! `CREATE TABLE name (column type [NOT NULL], ..)` (PostgreSQL: CREATE TABLE).
 
-ghost use Rattle.std.specs.Prelude.{◌≡◌, IfOk, List, OnErr, OnOk, false, map, ℕ};
+ghost use Rattle.std.specs.Prelude.{◌≡◌, OnErr, OnOk, false, map};
 ghost use Rattle.value.specs.Columns.{column_of};
-ghost use Rattle.row_objects.specs.View.{table_entry};
 ghost use Rattle.catalog.specs.Catalog.{is_table};
 ghost use Rattle.catalog.specs.Checks.{first_refusal, unless};
-ghost use Rattle.catalog.specs.CreateTable.{after_create_table, checks_create_table, new_table};
+ghost use Rattle.catalog.specs.CreateTable.{after_create_table, checks_create_table};
 ghost use Rattle.catalog.specs.Changes.{IsChange};
 
 use crate::catalog::Catalog;
 use memory::Heap;
-use row_objects::{TableDef, has_name_twice};
+use row_objects::{has_name_twice, new_table};
 use std::alloc::AllocError;
-use text::{Items, Text};
-use value::{Column, Refusal, copy_columns};
+use value::{Column, Refusal};
 
 /// The most tables of a catalogue.
 pub const MOST_TABLES: usize = 64;
@@ -39,26 +37,6 @@ fn check_create_table<A: Heap>(
     } else {
         None
     }
-}
-
-fn new_table<A: Heap>(
-    alloc: A,
-    actor: &str,
-    columns: &[Column<A>],
-) -> Result<TableDef<A>, AllocError>
-    ensures { IfOk result (λ t. (name : List ℕ) → table_entry (name, t) ≡ new_table actor.now name (map (λ c. column_of c) columns.now)) }
-{
-    let columns = copy_columns(alloc, columns)?;
-    let owner = Text::new(alloc, actor)?;
-    Ok(TableDef {
-        columns,
-        owner,
-        row_security: false,
-        forced: false,
-        policies: Items::new(alloc),
-        grants: Items::new(alloc),
-        indexes: Items::new(alloc),
-    })
 }
 
 impl<A: Heap> Catalog<A> {

@@ -8,8 +8,9 @@ ghost use Rattle.catalog.specs.DropPolicy.{after_drop_policy, checks_drop_policy
 ghost use Rattle.catalog.specs.Changes.{IsExactChange};
 
 use crate::catalog::Catalog;
+use memberships::ByName;
 use memory::Heap;
-use row_objects::{ByName, TableDef, has_policy, remove_policy};
+use row_objects::{TableDef, has_policy, remove_policy};
 use value::Refusal;
 
 fn check_drop_policy<A: Heap>(

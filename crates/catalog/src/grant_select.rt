@@ -9,9 +9,11 @@ ghost use Rattle.catalog.specs.GrantSelect.{after_grant_select, checks_select, w
 ghost use Rattle.catalog.specs.Changes.{IsChange};
 
 use crate::catalog::Catalog;
+use grants::add_grants;
+use memberships::ByName;
 use memory::Heap;
 use row_ast::Grant;
-use row_objects::{ByName, TableDef, add_grants, are_columns};
+use row_objects::{TableDef, are_columns};
 use std::alloc::AllocError;
 use value::Refusal;
 

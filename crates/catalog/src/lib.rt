@@ -19,4 +19,5 @@ mod set_owner;
 pub use catalog::Catalog;
 pub use create_table::{MOST_COLUMNS, MOST_TABLES};
 pub use laws::{law_granted_again, law_no_loop, law_revoked};
-pub use row_objects::{MOST_POLICIES, MOST_ROLES, is_qualified, place};
+pub use memberships::MOST_ROLES;
+pub use row_objects::{MOST_POLICIES, is_qualified, place};

@@ -10,9 +10,11 @@ ghost use Rattle.catalog.specs.Changes.{IsExactChange};
 
 use crate::catalog::Catalog;
 use crate::grant_select::check_select;
+use grants::remove_grants;
+use memberships::ByName;
 use memory::Heap;
 use row_ast::Grant;
-use row_objects::{ByName, TableDef, remove_grants};
+use row_objects::TableDef;
 use value::Refusal;
 
 fn revoke_in<A: Heap>(alloc: A, tables: &mut ByName<TableDef<A>, A>, place: usize, grant: &Grant<A>)

@@ -8,9 +8,10 @@ ghost use Rattle.catalog.specs.RowSecurity.{after_row_security, checks_row_secur
 ghost use Rattle.catalog.specs.Changes.{IsExactChange};
 
 use crate::catalog::Catalog;
+use memberships::ByName;
 use memory::Heap;
 use row_ast::RowSecurity;
-use row_objects::{ByName, TableDef};
+use row_objects::TableDef;
 use value::Refusal;
 
 fn check_row_security<A: Heap>(

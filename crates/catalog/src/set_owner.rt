@@ -8,8 +8,9 @@ ghost use Rattle.catalog.specs.SetOwner.{after_set_owner, checks_set_owner, with
 ghost use Rattle.catalog.specs.Changes.{IsChange};
 
 use crate::catalog::Catalog;
+use memberships::ByName;
 use memory::Heap;
-use row_objects::{ByName, Table, TableDef};
+use row_objects::{Table, TableDef};
 use std::alloc::AllocError;
 use text::Text;
 use value::Refusal;

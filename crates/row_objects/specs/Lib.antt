@@ -1,10 +1,6 @@
-pub mod Named
-pub mod Lends
 pub mod Objects
 pub mod ColumnNames
-pub mod Memberships
-pub mod Reached
-pub mod Grants
 pub mod Policies
 pub mod Indexes
+pub mod TableDefs
 pub mod View

@@ -1,13 +1,11 @@
 -- The things of a catalogue without their place in memory.
-use Rattle.std.specs.Prelude.{ℕ, Bool, List, Option}
+use Rattle.std.specs.Prelude.{ℕ, Bool, List}
 use Rattle.value.specs.Columns.{Column}
 use Rattle.row_ast.specs.Ast.{Name}
 use Rattle.expr.specs.Bound.{BoundExpr}
+use Rattle.grants.specs.Grants.{Grant}
 
--- the most roles of a catalogue, and the most policies of all its tables
-abbrev pub most_roles : ℕ
-most_roles = 256
-
+-- the most policies of all tables of a catalogue
 abbrev pub most_policies : ℕ
 most_policies = 256
 
@@ -16,16 +14,6 @@ pub record Role : Type 0 where
   pub superuser : Bool
   -- row security does not act on its queries
   pub bypass_rls : Bool
-
--- the member has the rights of the group
-pub record Membership : Type 0 where
-  pub member : Name
-  pub group : Name
-
--- SELECT on a column, or on the whole table, for a role or for everyone
-pub record Grant : Type 0 where
-  pub to : Name
-  pub column : Option Name
 
 -- a policy for these roles, with its condition over the table's own columns
 pub record Policy : Type 0 where

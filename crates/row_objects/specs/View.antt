@@ -2,24 +2,17 @@
 use Rattle.std.specs.Prelude.{map}
 use Rattle.value.specs.Columns.{column_of}
 use Rattle.row_ast.specs.Ast.{Name}
+use Rattle.grants.specs.View.{grant_of}
 use Rattle.row_objects.specs.declared.objects.Role as declared
-use Rattle.row_objects.specs.declared.objects.Membership as declared_membership
-use Rattle.row_objects.specs.declared.objects.Grant as declared_grant
 use Rattle.row_objects.specs.declared.objects.Policy as declared_policy
 use Rattle.row_objects.specs.declared.objects.Index as declared_index
 use Rattle.row_objects.specs.declared.objects.TableDef.{TableDef}
 use Rattle.row_objects.specs.declared.objects.Table as declared_table
-use Rattle.row_objects.specs.Objects.{Role, Membership, Grant, Policy, Index, Table}
+use Rattle.row_objects.specs.Objects.{Role, Policy, Index, Table}
 
 -- a role by its name
 abbrev pub role_of : Name × declared.Role → Role
 role_of r = record { name = r.0; superuser = r.1.superuser; bypass_rls = r.1.bypass_rls }
-
-abbrev pub membership_of : {A : Type 0} → declared_membership.Membership A → Membership
-membership_of m = record { member = m.member; group = m.group }
-
-abbrev pub grant_of : {A : Type 0} → declared_grant.Grant A → Grant
-grant_of g = record { to = g.to; column = g.column }
 
 abbrev pub policy_of : {A : Type 0} → declared_policy.Policy A → Policy
 policy_of p = record { name = p.name; restrictive = p.restrictive; roles = p.roles; predicate = p.predicate }

@@ -6,9 +6,9 @@ ghost use Rattle.row_objects.specs.Indexes as spec;
 ghost use Rattle.row_objects.specs.Indexes.{any_index, has_index, is_indexed};
 ghost use Rattle.row_objects.specs.View.{index_of, table_entry};
 
-use crate::by_name::ByName;
 use crate::names::place;
 use crate::objects::{Index, TableDef};
+use memberships::ByName;
 use memory::Heap;
 use std::alloc::AllocError;
 use text::Text;

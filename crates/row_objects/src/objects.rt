@@ -1,11 +1,13 @@
-//! Roles, tables, policies and grants.
+//! Roles, tables, policies and indexes.
 
 ghost use Rattle.std.specs.Prelude.{◌≡◌, map};
 ghost use Rattle.value.specs.Columns.{column_of};
-ghost use Rattle.row_objects.specs.View.{grant_of, index_of, policy_of, table_entry, table_of};
+ghost use Rattle.grants.specs.View.{grant_of};
+ghost use Rattle.row_objects.specs.View.{index_of, policy_of, table_entry, table_of};
 
-use crate::movable_expr::MovableExpr;
+use grants::Grant;
 use memory::Heap;
+use movable_expr::MovableExpr;
 use text::{Items, Text};
 use value::Column;
 
@@ -16,24 +18,6 @@ pub struct Role {
     pub superuser: bool,
     /// Whether row security does not act on its queries.
     pub bypass_rls: bool,
-}
-
-/// A member, and the group whose rights it has (PostgreSQL: Role Membership).
-#[derive(Drop)]
-pub struct Membership<A: Heap> {
-    /// The member.
-    pub member: Text<A>,
-    /// The group.
-    pub group: Text<A>,
-}
-
-/// SELECT on a column, or on the whole table, for a role or for everyone (PostgreSQL: GRANT).
-#[derive(Drop)]
-pub struct Grant<A: Heap> {
-    /// The role, `public` for all.
-    pub to: Text<A>,
-    /// The column; without one the whole table.
-    pub column: Option<Text<A>>,
 }
 
 /// A policy for some roles (PostgreSQL: CREATE POLICY).

@@ -1,8 +1,10 @@
 use Rattle.std.proofs.Common.{List, ap, map}
 use Rattle.std.proofs.lemmas.Result.{on_ok_weaker, on_err_weaker}
 use Rattle.row_ast.specs.View.{grant_of as written}
-use Rattle.row_objects.specs.Objects.{Grant, Table}
-use Rattle.row_objects.specs.View.{grant_of, table_entry}
+use Rattle.grants.specs.Grants.{Grant}
+use Rattle.row_objects.specs.Objects.{Table}
+use Rattle.grants.specs.View.{grant_of}
+use Rattle.row_objects.specs.View.{table_entry}
 use Rattle.catalog.specs.GrantSelect.{with_grants_to}
 use Rattle.catalog.proofs.Places.{written_at, unchanged_at}
 use Rattle.catalog.proofs.grant_select.grant_in.Goals as goal

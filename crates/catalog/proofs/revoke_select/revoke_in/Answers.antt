@@ -1,6 +1,7 @@
 use Rattle.std.proofs.Common.{List, ap}
 use Rattle.row_ast.specs.View.{grant_of}
-use Rattle.row_objects.specs.Objects.{Grant, Table}
+use Rattle.grants.specs.Grants.{Grant}
+use Rattle.row_objects.specs.Objects.{Table}
 use Rattle.row_objects.specs.View.{table_entry}
 use Rattle.catalog.specs.RevokeSelect.{without_grants_to}
 use Rattle.catalog.proofs.Places.{written_at}

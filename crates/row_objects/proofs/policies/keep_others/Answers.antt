@@ -2,7 +2,7 @@ use Rattle.std.proofs.Common.{◌∙◌, ap, not, map, rules}
 use Rattle.std.proofs.lemmas.Fn.{filter_same}
 use Rattle.std.specs.Str.{bytes_eq}
 use Rattle.row_objects.specs.View.{policy_of}
-use Rattle.row_objects.proofs.Filters.{map-filter}
+use Rattle.row_ast.proofs.Filters.{map-filter}
 use Rattle.row_objects.proofs.policies.keep_others.Goals as goal
 
 pub returns : goal.returns

@@ -1,8 +1,9 @@
 use Rattle.std.proofs.Common.{◌≡◌, ◌<◌, false, length, map, sym, subst, arith}
 use Rattle.std.proofs.lemmas.List.{length-map}
 use Rattle.std.specs.Str.{bytes_eq}
-use Rattle.row_objects.specs.Objects.{most_roles}
-use Rattle.row_objects.specs.View.{membership_of, role_of}
+use Rattle.memberships.specs.Memberships.{most_roles}
+use Rattle.memberships.specs.View.{membership_of}
+use Rattle.row_objects.specs.View.{role_of}
 use Rattle.catalog.specs.Catalog.{Catalog, is_role}
 use Rattle.catalog.proofs.MoreRoles.{roles_after}
 use Rattle.catalog.proofs.Named.{none_there}

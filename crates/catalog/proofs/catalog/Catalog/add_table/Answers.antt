@@ -1,8 +1,10 @@
 use Rattle.std.proofs.Common.{◌≡◌, ℕ, List, false, map, sym, ap, subst}
 use Rattle.std.proofs.lemmas.Result.{on_ok_weaker, on_err_weaker}
 use Rattle.std.specs.Str.{bytes_eq}
-use Rattle.row_objects.specs.Objects.{Membership, Role, Table}
-use Rattle.row_objects.specs.View.{membership_of, role_of, table_entry}
+use Rattle.memberships.specs.Memberships.{Membership}
+use Rattle.row_objects.specs.Objects.{Role, Table}
+use Rattle.memberships.specs.View.{membership_of}
+use Rattle.row_objects.specs.View.{role_of, table_entry}
 use Rattle.catalog.specs.Catalog.{Catalog, is_table}
 use Rattle.catalog.proofs.Named.{none_there, one_more}
 use Rattle.catalog.proofs.catalog.Catalog.add_table.Goals as goal

@@ -1,0 +1,4 @@
+pub mod Entries
+pub mod Paths
+pub mod Marks
+pub mod Loops

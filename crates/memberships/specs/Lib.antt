@@ -1,0 +1,5 @@
+pub mod Named
+pub mod Lends
+pub mod Memberships
+pub mod Reached
+pub mod View

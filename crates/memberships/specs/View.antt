@@ -1,0 +1,6 @@
+-- What a membership of the program is.
+use Rattle.memberships.specs.declared.memberships.Membership as declared
+use Rattle.memberships.specs.Memberships.{Membership}
+
+abbrev pub membership_of : {A : Type 0} → declared.Membership A → Membership
+membership_of m = record { member = m.member; group = m.group }

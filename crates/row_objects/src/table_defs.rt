@@ -1,0 +1,33 @@
+//! New tables.
+
+ghost use Rattle.std.specs.Prelude.{◌≡◌, IfOk, List, map, ℕ};
+ghost use Rattle.value.specs.Columns.{column_of};
+ghost use Rattle.row_objects.specs.TableDefs.{new_table};
+ghost use Rattle.row_objects.specs.View.{table_entry};
+
+use crate::objects::TableDef;
+use memory::Heap;
+use std::alloc::AllocError;
+use text::{Items, Text};
+use value::{Column, copy_columns};
+
+/// A new table, which its creator owns.
+pub fn new_table<A: Heap>(
+    alloc: A,
+    actor: &str,
+    columns: &[Column<A>],
+) -> Result<TableDef<A>, AllocError>
+    ensures { IfOk result (λ t. (name : List ℕ) → table_entry (name, t) ≡ new_table actor.now name (map (λ c. column_of c) columns.now)) }
+{
+    let columns = copy_columns(alloc, columns)?;
+    let owner = Text::new(alloc, actor)?;
+    Ok(TableDef {
+        columns,
+        owner,
+        row_security: false,
+        forced: false,
+        policies: Items::new(alloc),
+        grants: Items::new(alloc),
+        indexes: Items::new(alloc),
+    })
+}
