@@ -1,6 +1,6 @@
 //! Worked rows of aggregates: their values, alone and within expressions, and that their sums are exact.
 
-use fixture_stores::run_script;
+use crate::passing::passes;
 use std::test::Fail;
 
 // Aggregates of values and nulls.
@@ -577,25 +577,25 @@ denied 42501 table deal
 
 #[test]
 fn aggregates_of_values_and_nulls(rt: HostRuntime) -> Result<(), Fail> {
-    Ok(run_script(rt.alloc(), VALUES)?)
+    passes(rt.alloc(), VALUES)
 }
 
 #[test]
 fn aggregates_are_parts_of_expressions(rt: HostRuntime) -> Result<(), Fail> {
-    Ok(run_script(rt.alloc(), NESTED)?)
+    passes(rt.alloc(), NESTED)
 }
 
 #[test]
 fn sums_are_exact(rt: HostRuntime) -> Result<(), Fail> {
-    Ok(run_script(rt.alloc(), NUMBERS)?)
+    passes(rt.alloc(), NUMBERS)
 }
 
 #[test]
 fn texts_and_truth_values_are_grouped(rt: HostRuntime) -> Result<(), Fail> {
-    Ok(run_script(rt.alloc(), TEXTS)?)
+    passes(rt.alloc(), TEXTS)
 }
 
 #[test]
 fn counts_follow_policies_and_rows(rt: HostRuntime) -> Result<(), Fail> {
-    Ok(run_script(rt.alloc(), CHANGED)?)
+    passes(rt.alloc(), CHANGED)
 }

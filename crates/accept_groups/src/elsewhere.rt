@@ -1,6 +1,6 @@
 //! Worked rows of groups, order and limits that PostgreSQL answers otherwise.
 
-use fixture_stores::run_script;
+use crate::passing::passes;
 use std::test::Fail;
 
 // What PostgreSQL answers in another way.
@@ -85,5 +85,5 @@ refused 42601 at 20
 
 #[test]
 fn what_postgresql_answers_otherwise(rt: HostRuntime) -> Result<(), Fail> {
-    Ok(run_script(rt.alloc(), ELSEWHERE)?)
+    passes(rt.alloc(), ELSEWHERE)
 }

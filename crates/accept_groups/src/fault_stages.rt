@@ -1,6 +1,6 @@
 //! Worked rows of faults of grouped queries: which stage gives it, and which of several is reported.
 
-use fixture_stores::run_script;
+use crate::passing::passes;
 use std::test::Fail;
 
 // The first stage that has a fault gives it: WHERE, arguments, sums, HAVING, items.
@@ -293,25 +293,25 @@ sum
 
 #[test]
 fn the_first_stage_that_faults_is_reported(rt: HostRuntime) -> Result<(), Fail> {
-    Ok(run_script(rt.alloc(), STAGES)?)
+    passes(rt.alloc(), STAGES)
 }
 
 #[test]
 fn the_least_fault_of_a_stage_is_reported(rt: HostRuntime) -> Result<(), Fail> {
-    Ok(run_script(rt.alloc(), LEAST)?)
+    passes(rt.alloc(), LEAST)
 }
 
 #[test]
 fn aggregates_fault_for_the_rows_that_are_seen(rt: HostRuntime) -> Result<(), Fail> {
-    Ok(run_script(rt.alloc(), COUNTED)?)
+    passes(rt.alloc(), COUNTED)
 }
 
 #[test]
 fn a_limit_hides_no_fault(rt: HostRuntime) -> Result<(), Fail> {
-    Ok(run_script(rt.alloc(), CUT)?)
+    passes(rt.alloc(), CUT)
 }
 
 #[test]
 fn the_kind_decides_at_one_offset(rt: HostRuntime) -> Result<(), Fail> {
-    Ok(run_script(rt.alloc(), KINDS)?)
+    passes(rt.alloc(), KINDS)
 }

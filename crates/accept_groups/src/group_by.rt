@@ -1,6 +1,6 @@
 //! Worked rows of GROUP BY and HAVING, on the store of `sales`.
 
-use fixture_stores::run_script;
+use crate::passing::passes;
 use std::test::Fail;
 
 // The classes of rows with the same columns of GROUP BY.
@@ -613,30 +613,30 @@ sum
 
 #[test]
 fn rows_are_grouped_by_columns(rt: HostRuntime) -> Result<(), Fail> {
-    Ok(run_script(rt.alloc(), COLUMNS)?)
+    passes(rt.alloc(), COLUMNS)
 }
 
 #[test]
 fn all_columns_are_shown_where_all_are_grouped(rt: HostRuntime) -> Result<(), Fail> {
-    Ok(run_script(rt.alloc(), STARS)?)
+    passes(rt.alloc(), STARS)
 }
 
 #[test]
 fn without_group_by_there_is_one_group(rt: HostRuntime) -> Result<(), Fail> {
-    Ok(run_script(rt.alloc(), EMPTY)?)
+    passes(rt.alloc(), EMPTY)
 }
 
 #[test]
 fn having_chooses_groups(rt: HostRuntime) -> Result<(), Fail> {
-    Ok(run_script(rt.alloc(), HAVING)?)
+    passes(rt.alloc(), HAVING)
 }
 
 #[test]
 fn only_rows_that_a_role_sees_count(rt: HostRuntime) -> Result<(), Fail> {
-    Ok(run_script(rt.alloc(), ROLES)?)
+    passes(rt.alloc(), ROLES)
 }
 
 #[test]
 fn combinations_are_grouped(rt: HostRuntime) -> Result<(), Fail> {
-    Ok(run_script(rt.alloc(), JOINED)?)
+    passes(rt.alloc(), JOINED)
 }

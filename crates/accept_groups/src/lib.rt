@@ -1,4 +1,4 @@
-//! Worked rows of groups, aggregates, ORDER BY, LIMIT and printing: tables of rows, each run by one test.
+//! Worked rows of groups, aggregates, ORDER BY, LIMIT and printing: scripts of rows, each run by one test.
 //! docs/ACCEPTANCE.md lists them.
 #![tactic(auto)]
 
@@ -12,6 +12,8 @@ mod fault_stages;
 mod group_by;
 #[cfg(test)]
 mod order;
+#[cfg(test)]
+mod passing;
 #[cfg(test)]
 mod refusals;
 #[cfg(test)]

@@ -1,6 +1,7 @@
 //! Worked rows of ORDER BY, LIMIT, and the text of an answer.
 
-use fixture_stores::{answered, run_script, sales};
+use crate::passing::passes;
+use fixture_stores::{answered, sales};
 use std::test::Fail;
 
 // ORDER BY headings and places; rows that are equal there follow by all columns, ascending.
@@ -460,17 +461,17 @@ a,b
 
 #[test]
 fn rows_are_ordered_by_keys_and_then_by_all_columns(rt: HostRuntime) -> Result<(), Fail> {
-    Ok(run_script(rt.alloc(), KEYS)?)
+    passes(rt.alloc(), KEYS)
 }
 
 #[test]
 fn a_limit_cuts_ordered_rows(rt: HostRuntime) -> Result<(), Fail> {
-    Ok(run_script(rt.alloc(), LIMITS)?)
+    passes(rt.alloc(), LIMITS)
 }
 
 #[test]
 fn answers_are_printed(rt: HostRuntime) -> Result<(), Fail> {
-    Ok(run_script(rt.alloc(), PRINTED)?)
+    passes(rt.alloc(), PRINTED)
 }
 
 #[test]

@@ -1,6 +1,6 @@
 //! Worked rows of what aggregates, GROUP BY, HAVING and ORDER BY do not take.
 
-use fixture_stores::run_script;
+use crate::passing::passes;
 use std::test::Fail;
 
 // Where an aggregate, or a column beside one, may not be, and what it takes.
@@ -334,15 +334,15 @@ refused 42601 at 36
 
 #[test]
 fn misplaced_aggregates_and_columns_are_refused(rt: HostRuntime) -> Result<(), Fail> {
-    Ok(run_script(rt.alloc(), REFUSED)?)
+    passes(rt.alloc(), REFUSED)
 }
 
 #[test]
 fn group_by_and_having_take_columns_and_a_condition(rt: HostRuntime) -> Result<(), Fail> {
-    Ok(run_script(rt.alloc(), CLAUSES)?)
+    passes(rt.alloc(), CLAUSES)
 }
 
 #[test]
 fn keys_that_name_no_output_column_are_refused(rt: HostRuntime) -> Result<(), Fail> {
-    Ok(run_script(rt.alloc(), WRONG_KEYS)?)
+    passes(rt.alloc(), WRONG_KEYS)
 }

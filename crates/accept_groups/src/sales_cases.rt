@@ -1,8 +1,8 @@
 //! Queries of several roles on the store of `sales`: groups, order and limits; and refusals, denials and faults.
 
+use crate::passing::passes;
 use crate::sales_refusals::REFUSALS;
 use crate::sales_rows::MORE_CASES;
-use fixture_stores::run_script;
 use std::test::Fail;
 
 // The first half of the cases that are answered with rows.
@@ -347,7 +347,7 @@ id
 
 #[test]
 fn cases_of_sales_are_answered(rt: HostRuntime) -> Result<(), Fail> {
-    run_script(rt.alloc(), CASES)?;
-    run_script(rt.alloc(), MORE_CASES)?;
-    Ok(run_script(rt.alloc(), REFUSALS)?)
+    passes(rt.alloc(), CASES)?;
+    passes(rt.alloc(), MORE_CASES)?;
+    passes(rt.alloc(), REFUSALS)
 }

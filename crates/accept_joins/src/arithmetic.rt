@@ -1,6 +1,6 @@
 //! Worked rows of arithmetic and casts, and where they fault.
 
-use fixture_stores::run_script;
+use crate::passing::passes;
 use std::test::Fail;
 
 // Arithmetic without a fault.
@@ -271,30 +271,30 @@ refused 54000
 
 #[test]
 fn arithmetic_has_values(rt: HostRuntime) -> Result<(), Fail> {
-    Ok(run_script(rt.alloc(), VALUES)?)
+    passes(rt.alloc(), VALUES)
 }
 
 #[test]
 fn casts_and_conditions_have_values(rt: HostRuntime) -> Result<(), Fail> {
-    Ok(run_script(rt.alloc(), CASTS)?)
+    passes(rt.alloc(), CASTS)
 }
 
 #[test]
 fn operations_fault_at_their_offset(rt: HostRuntime) -> Result<(), Fail> {
-    Ok(run_script(rt.alloc(), FAULTS)?)
+    passes(rt.alloc(), FAULTS)
 }
 
 #[test]
 fn names_types_and_grants_come_before_faults(rt: HostRuntime) -> Result<(), Fail> {
-    Ok(run_script(rt.alloc(), BEFORE)?)
+    passes(rt.alloc(), BEFORE)
 }
 
 #[test]
 fn texts_that_are_no_numbers_fault(rt: HostRuntime) -> Result<(), Fail> {
-    Ok(run_script(rt.alloc(), TEXTS)?)
+    passes(rt.alloc(), TEXTS)
 }
 
 #[test]
 fn parentheses_are_limited(rt: HostRuntime) -> Result<(), Fail> {
-    Ok(run_script(rt.alloc(), NESTED)?)
+    passes(rt.alloc(), NESTED)
 }

@@ -1,6 +1,6 @@
 //! Worked rows of faults: which are evaluated, and which is reported.
 
-use fixture_stores::run_script;
+use crate::passing::passes;
 use std::test::Fail;
 
 // A fault of a row that a role does not see is none, nor is one of a combination that is dropped.
@@ -474,35 +474,35 @@ fault 22012 at 9
 
 #[test]
 fn rows_that_are_not_seen_or_not_kept_do_not_fault(rt: HostRuntime) -> Result<(), Fail> {
-    Ok(run_script(rt.alloc(), HIDDEN)?)
+    passes(rt.alloc(), HIDDEN)
 }
 
 #[test]
 fn conditions_that_cannot_fault_decide_first(rt: HostRuntime) -> Result<(), Fail> {
-    Ok(run_script(rt.alloc(), CONJUNCTS)?)
+    passes(rt.alloc(), CONJUNCTS)
 }
 
 #[test]
 fn conditions_that_may_fault_decide_in_order(rt: HostRuntime) -> Result<(), Fail> {
-    Ok(run_script(rt.alloc(), IN_ORDER)?)
+    passes(rt.alloc(), IN_ORDER)
 }
 
 #[test]
 fn what_is_not_evaluated_does_not_fault(rt: HostRuntime) -> Result<(), Fail> {
-    Ok(run_script(rt.alloc(), SKIPPED)?)
+    passes(rt.alloc(), SKIPPED)
 }
 
 #[test]
 fn the_least_fault_of_all_rows_is_reported(rt: HostRuntime) -> Result<(), Fail> {
-    Ok(run_script(rt.alloc(), LEAST)?)
+    passes(rt.alloc(), LEAST)
 }
 
 #[test]
 fn the_kind_decides_at_one_offset(rt: HostRuntime) -> Result<(), Fail> {
-    Ok(run_script(rt.alloc(), KINDS)?)
+    passes(rt.alloc(), KINDS)
 }
 
 #[test]
 fn faults_come_with_the_rows_that_are_seen(rt: HostRuntime) -> Result<(), Fail> {
-    Ok(run_script(rt.alloc(), SHOWN)?)
+    passes(rt.alloc(), SHOWN)
 }

@@ -1,6 +1,6 @@
 //! Worked rows of joins, on the store of `sales`.
 
-use fixture_stores::run_script;
+use crate::passing::passes;
 use std::test::Fail;
 
 // Two entries: by comma, INNER JOIN and CROSS JOIN.
@@ -740,45 +740,45 @@ id,other
 
 #[test]
 fn two_entries_are_joined(rt: HostRuntime) -> Result<(), Fail> {
-    Ok(run_script(rt.alloc(), TWO)?)
+    passes(rt.alloc(), TWO)
 }
 
 #[test]
 fn nulls_are_not_joined_and_equal_rows_stay(rt: HostRuntime) -> Result<(), Fail> {
-    Ok(run_script(rt.alloc(), EQUAL)?)
+    passes(rt.alloc(), EQUAL)
 }
 
 #[test]
 fn a_role_sees_its_rows_in_each_entry_of_a_table(rt: HostRuntime) -> Result<(), Fail> {
-    Ok(run_script(rt.alloc(), SELF)?)
+    passes(rt.alloc(), SELF)
 }
 
 #[test]
 fn several_entries_are_joined(rt: HostRuntime) -> Result<(), Fail> {
-    Ok(run_script(rt.alloc(), SEVERAL)?)
+    passes(rt.alloc(), SEVERAL)
 }
 
 #[test]
 fn all_columns_of_all_entries_have_their_headings(rt: HostRuntime) -> Result<(), Fail> {
-    Ok(run_script(rt.alloc(), HEADED)?)
+    passes(rt.alloc(), HEADED)
 }
 
 #[test]
 fn an_on_reaches_the_entries_of_its_item(rt: HostRuntime) -> Result<(), Fail> {
-    Ok(run_script(rt.alloc(), REACHED)?)
+    passes(rt.alloc(), REACHED)
 }
 
 #[test]
 fn conditions_of_on_and_where_choose_together(rt: HostRuntime) -> Result<(), Fail> {
-    Ok(run_script(rt.alloc(), CONDITIONS)?)
+    passes(rt.alloc(), CONDITIONS)
 }
 
 #[test]
 fn policies_of_each_entry_decide(rt: HostRuntime) -> Result<(), Fail> {
-    Ok(run_script(rt.alloc(), CHANGED)?)
+    passes(rt.alloc(), CHANGED)
 }
 
 #[test]
 fn rows_of_each_entry_decide(rt: HostRuntime) -> Result<(), Fail> {
-    Ok(run_script(rt.alloc(), OTHER_ROWS)?)
+    passes(rt.alloc(), OTHER_ROWS)
 }

@@ -1,4 +1,4 @@
-//! Worked rows of joins, arithmetic and faults: tables of rows, each run by one test. docs/ACCEPTANCE.md lists them.
+//! Worked rows of joins, arithmetic and faults: scripts of rows, each run by one test. docs/ACCEPTANCE.md lists them.
 #![tactic(auto)]
 
 #[cfg(test)]
@@ -7,3 +7,5 @@ mod arithmetic;
 mod faults;
 #[cfg(test)]
 mod joins;
+#[cfg(test)]
+mod passing;

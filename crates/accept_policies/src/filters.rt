@@ -1,6 +1,6 @@
 //! Worked rows of WHERE and of items over one table, on the store of `sales`.
 
-use fixture_stores::run_script;
+use crate::passing::passes;
 use std::test::Fail;
 
 // Comparisons: a row on which one is null is not shown.
@@ -581,40 +581,40 @@ id
 
 #[test]
 fn comparisons_choose_rows(rt: HostRuntime) -> Result<(), Fail> {
-    Ok(run_script(rt.alloc(), COMPARED)?)
+    passes(rt.alloc(), COMPARED)
 }
 
 #[test]
 fn conditions_of_three_values_choose_rows(rt: HostRuntime) -> Result<(), Fail> {
-    Ok(run_script(rt.alloc(), TRUTH)?)
+    passes(rt.alloc(), TRUTH)
 }
 
 #[test]
 fn tests_and_cases_choose_rows(rt: HostRuntime) -> Result<(), Fail> {
-    Ok(run_script(rt.alloc(), TESTS)?)
+    passes(rt.alloc(), TESTS)
 }
 
 #[test]
 fn items_are_expressions(rt: HostRuntime) -> Result<(), Fail> {
-    Ok(run_script(rt.alloc(), ITEMS)?)
+    passes(rt.alloc(), ITEMS)
 }
 
 #[test]
 fn conditions_choose_among_the_rows_that_are_seen(rt: HostRuntime) -> Result<(), Fail> {
-    Ok(run_script(rt.alloc(), ROLES)?)
+    passes(rt.alloc(), ROLES)
 }
 
 #[test]
 fn conditions_are_refused_before_grants(rt: HostRuntime) -> Result<(), Fail> {
-    Ok(run_script(rt.alloc(), REFUSED)?)
+    passes(rt.alloc(), REFUSED)
 }
 
 #[test]
 fn what_postgresql_answers_otherwise(rt: HostRuntime) -> Result<(), Fail> {
-    Ok(run_script(rt.alloc(), ELSEWHERE)?)
+    passes(rt.alloc(), ELSEWHERE)
 }
 
 #[test]
 fn truth_values_choose_rows(rt: HostRuntime) -> Result<(), Fail> {
-    Ok(run_script(rt.alloc(), FLAGGED)?)
+    passes(rt.alloc(), FLAGGED)
 }

@@ -1,7 +1,7 @@
 //! Worked rows of policies, on the store of `sales`: who is held by row security, which policies apply, and what their
 //! conditions show.
 
-use fixture_stores::run_script;
+use crate::passing::passes;
 use std::test::Fail;
 
 // The owner, FORCE, BYPASSRLS and superusers.
@@ -859,25 +859,25 @@ id
 
 #[test]
 fn force_holds_the_owner_and_nobody_above(rt: HostRuntime) -> Result<(), Fail> {
-    Ok(run_script(rt.alloc(), FORCED)?)
+    passes(rt.alloc(), FORCED)
 }
 
 #[test]
 fn permissive_policies_add_and_restrictive_ones_narrow(rt: HostRuntime) -> Result<(), Fail> {
-    Ok(run_script(rt.alloc(), JOINED)?)
+    passes(rt.alloc(), JOINED)
 }
 
 #[test]
 fn a_policy_shows_where_it_is_true(rt: HostRuntime) -> Result<(), Fail> {
-    Ok(run_script(rt.alloc(), CONDITIONS)?)
+    passes(rt.alloc(), CONDITIONS)
 }
 
 #[test]
 fn policies_read_columns_and_the_role(rt: HostRuntime) -> Result<(), Fail> {
-    Ok(run_script(rt.alloc(), COLUMNS)?)
+    passes(rt.alloc(), COLUMNS)
 }
 
 #[test]
 fn policies_come_and_go(rt: HostRuntime) -> Result<(), Fail> {
-    Ok(run_script(rt.alloc(), CHANGED)?)
+    passes(rt.alloc(), CHANGED)
 }
