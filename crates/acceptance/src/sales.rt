@@ -3,14 +3,6 @@
 use fixture_stores::run_script;
 use std::test::Fail;
 
-/// A schema with each statement that takes or gives back memory.
-pub const INDEXED: &str = "CREATE ROLE audit BYPASSRLS; CREATE ROLE sales; CREATE ROLE alice;
-GRANT sales TO alice; CREATE TABLE deal (id bigint, owner text); ALTER TABLE deal OWNER TO audit;
-ALTER TABLE deal FORCE ROW LEVEL SECURITY; GRANT SELECT (id, owner) ON deal TO sales, PUBLIC;
-CREATE INDEX i ON deal (id); CREATE POLICY own ON deal TO sales USING (owner = 'x'); DROP POLICY own ON deal;
-CREATE POLICY near ON deal AS RESTRICTIVE USING (CASE WHEN id IN (1, NULL) THEN NOT owner < 'm' ELSE id BETWEEN 1 AND 9 OR owner IS NULL END);
-REVOKE SELECT (id) ON deal FROM sales; REVOKE sales FROM alice;";
-
 const WORKED: &str = "-- members_see_their_own_deals
 schema sales
 

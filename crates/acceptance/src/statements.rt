@@ -1,9 +1,8 @@
 //! Statements by roles, and what a store says of them.
 
-use crate::stores::made;
 use engine::Store;
 use fixture_stores::StoreFault::{Parse, Statement};
-use fixture_stores::{StoreFault, apply, deals};
+use fixture_stores::{StoreFault, apply, deals, made};
 use memory::Failure;
 use std::alloc::{AllocError, Global};
 use std::process::Abort;

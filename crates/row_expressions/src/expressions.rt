@@ -41,27 +41,7 @@ pub fn inner_expression<'t, A: Heap>(
     requires { 0 < reader.depth_limit }
     ensures { Gives (λ x. (located x.0, words_of x.1.now)) result (deep_at grammar reader.run_limit reader.depth_limit an_expression (words_of tokens.now)) }
 {
-    expression(reader.deeper(), tokens)
-}
-
-// A negation a level deeper.
-#[cycle(expression)]
-#[tactic(auto, using(row_grammar::proofs::Steps::deep_is))]
-fn inner_negation<'t, A: Heap>(reader: Reader<A>, tokens: &'t [Token<'t>]) -> Parsed<'t, Located<A>>
-    requires { 0 < reader.depth_limit }
-    ensures { Gives (λ x. (located x.0, words_of x.1.now)) result (deep_at grammar reader.run_limit reader.depth_limit a_negation (words_of tokens.now)) }
-{
-    negation(reader.deeper(), tokens)
-}
-
-// A unary expression a level deeper.
-#[cycle(expression)]
-#[tactic(auto, using(row_grammar::proofs::Steps::deep_is))]
-fn inner_unary<'t, A: Heap>(reader: Reader<A>, tokens: &'t [Token<'t>]) -> Parsed<'t, Located<A>>
-    requires { 0 < reader.depth_limit }
-    ensures { Gives (λ x. (located x.0, words_of x.1.now)) result (deep_at grammar reader.run_limit reader.depth_limit a_unary (words_of tokens.now)) }
-{
-    unary(reader.deeper(), tokens)
+    connected(Connective::Or, reader.deeper(), tokens)
 }
 
 // The word of this kind and an expression.
@@ -76,29 +56,6 @@ fn keyed<'t, A: Heap>(
 {
     let (_, rest) = expect(kind, tokens)?;
     inner_expression(reader, rest)
-}
-
-// The argument of a function.
-#[cycle(expression)]
-fn argument<'t, A: Heap>(reader: Reader<A>, tokens: &'t [Token<'t>]) -> Parsed<'t, CallSuffix<A>>
-    requires { 0 < reader.depth_limit }
-    ensures { Parses (λ t. suffix_of t) (made (λ e. rules.Argument e.1) (inner an_expression)) reader tokens.now result }
-{
-    let ((_, argument), rest) = inner_expression(reader, tokens)?;
-    Ok((CallSuffix::Argument(argument), rest))
-}
-
-// `expr AS type`.
-#[cycle(expression)]
-fn typed<'t, A: Heap>(
-    reader: Reader<A>,
-    tokens: &'t [Token<'t>],
-) -> Parsed<'t, (Located<A>, ColType)>
-    requires { 0 < reader.depth_limit }
-    ensures { Parses (λ t. (located t.0, t.1)) (both (inner an_expression) (after (is k.As) rules.type_name)) reader tokens.now result }
-{
-    let (operand, rest) = inner_expression(reader, tokens)?;
-    before(operand, as_type(reader, rest))
 }
 
 // `( expr )`.
@@ -122,7 +79,8 @@ fn cast<'t, A: Heap>(reader: Reader<A>, tokens: &'t [Token<'t>]) -> Parsed<'t, L
 {
     let (word, rest) = expect(TokenKind::Cast, tokens)?;
     let (_, rest) = open(TokenKind::Open, reader.depth_limit, rest)?;
-    let (((_, operand), to), rest) = closed(typed(reader, rest))?;
+    let (operand, rest) = inner_expression(reader, rest)?;
+    let (((_, operand), to), rest) = before(operand, closed(as_type(reader, rest)))?;
     let offset = word.offset;
     let cast = Expr::Cast {
         offset,
@@ -211,7 +169,8 @@ fn counted_rows<'t, A: Heap>(
     if sees(TokenKind::Star, tokens) {
         meant(TokenKind::Star, CallSuffix::Star, tokens)
     } else {
-        argument(reader, tokens)
+        let ((_, argument), rest) = inner_expression(reader, tokens)?;
+        Ok((CallSuffix::Argument(argument), rest))
     }
 }
 
@@ -252,7 +211,8 @@ fn aggregate_tail<'t, A: Heap>(
 {
     if sees(TokenKind::Open, tokens) {
         let (_, rest) = open(TokenKind::Open, reader.depth_limit, tokens)?;
-        closed(argument(reader, rest))
+        let ((_, argument), rest) = closed(inner_expression(reader, rest))?;
+        Ok((CallSuffix::Argument(argument), rest))
     } else {
         dotted(reader, tokens)
     }
@@ -295,13 +255,13 @@ fn primary<'t, A: Heap>(reader: Reader<A>, tokens: &'t [Token<'t>]) -> Parsed<'t
 
 // `- unary | primary`.
 #[cycle(expression)]
-#[tactic(auto, unfolding(row_reader::specs::Expressions::unary))]
+#[tactic(auto, using(row_grammar::proofs::Steps::deep_is), unfolding(row_reader::specs::Expressions::unary))]
 fn unary<'t, A: Heap>(reader: Reader<A>, tokens: &'t [Token<'t>]) -> Parsed<'t, Located<A>>
     ensures { Parses (λ t. located t) rules.unary reader tokens.now result }
 {
     if sees(TokenKind::Minus, tokens) {
         let (sign, rest) = open(TokenKind::Minus, reader.depth_limit, tokens)?;
-        let ((_, operand), rest) = inner_unary(reader, rest)?;
+        let ((_, operand), rest) = unary(reader.deeper(), rest)?;
         let offset = sign.offset;
         let value = boxed(reader.alloc, Expr::Negate { offset, operand });
         starting_at(offset, value, rest)
@@ -390,15 +350,6 @@ fn operations<'t, A: Heap>(
     Ok((left, rest))
 }
 
-// `AND sum`.
-#[cycle(expression)]
-fn upper_bound<'t, A: Heap>(reader: Reader<A>, tokens: &'t [Token<'t>]) -> Parsed<'t, Located<A>>
-    ensures { Parses (λ t. located t) (after (is k.And) rules.sum) reader tokens.now result }
-{
-    let (_, rest) = expect(TokenKind::And, tokens)?;
-    operations(Level::Sum, reader, rest)
-}
-
 // `BETWEEN sum AND sum`.
 #[cycle(expression)]
 #[tactic(auto, unfolding(row_reader::specs::Expressions::between))]
@@ -407,7 +358,8 @@ fn between<'t, A: Heap>(reader: Reader<A>, tokens: &'t [Token<'t>]) -> Parsed<'t
 {
     let (word, rest) = expect(TokenKind::Between, tokens)?;
     let ((_, low), rest) = operations(Level::Sum, reader, rest)?;
-    let ((_, high), rest) = upper_bound(reader, rest)?;
+    let (_, rest) = expect(TokenKind::And, rest)?;
+    let ((_, high), rest) = operations(Level::Sum, reader, rest)?;
     let offset = word.offset;
     Ok((Range::Bounds { offset, low, high }, rest))
 }
@@ -461,19 +413,6 @@ fn ranged_sum<'t, A: Heap>(reader: Reader<A>, tokens: &'t [Token<'t>]) -> Parsed
     with_rest(ranged(reader.alloc, operand, range), rest)
 }
 
-// `= ranged sum` or the like.
-#[cycle(expression)]
-#[tactic(auto, unfolding(row_reader::specs::Expressions::compared_with))]
-fn compared_with<'t, A: Heap>(
-    reader: Reader<A>,
-    tokens: &'t [Token<'t>],
-) -> Parsed<'t, ((u32, Comparison), Located<A>)>
-    ensures { Parses (λ t. (t.0, located t.1)) rules.compared_with reader tokens.now result }
-{
-    let (sign, rest) = comparison_sign(reader, tokens)?;
-    before(sign, ranged_sum(reader, rest))
-}
-
 // A comparison, of which there is at most one.
 #[cycle(expression)]
 #[tactic(auto, unfolding(row_reader::specs::Expressions::comparison, row_reader::specs::Expressions::compared_with, row_reader::specs::Expressions::comparison_sign, row_reader::specs::Language::of))]
@@ -484,7 +423,8 @@ fn comparison<'t, A: Heap>(reader: Reader<A>, tokens: &'t [Token<'t>]) -> Parsed
     if !sees_any(Class::Comparison, rest) {
         return Ok(((start, left), rest));
     }
-    let (((offset, operator), (_, right)), rest) = compared_with(reader, rest)?;
+    let ((offset, operator), rest) = comparison_sign(reader, rest)?;
+    let ((_, right), rest) = ranged_sum(reader, rest)?;
     let whole = Expr::Comparison {
         operator,
         offset,
@@ -515,13 +455,13 @@ fn null_test<'t, A: Heap>(reader: Reader<A>, tokens: &'t [Token<'t>]) -> Parsed<
 
 // `NOT negation | null test`.
 #[cycle(expression)]
-#[tactic(auto, unfolding(row_reader::specs::Expressions::negation))]
+#[tactic(auto, using(row_grammar::proofs::Steps::deep_is), unfolding(row_reader::specs::Expressions::negation))]
 fn negation<'t, A: Heap>(reader: Reader<A>, tokens: &'t [Token<'t>]) -> Parsed<'t, Located<A>>
     ensures { Parses (λ t. located t) rules.negation reader tokens.now result }
 {
     if sees(TokenKind::Not, tokens) {
         let (word, rest) = open(TokenKind::Not, reader.depth_limit, tokens)?;
-        let ((_, operand), rest) = inner_negation(reader, rest)?;
+        let ((_, operand), rest) = negation(reader.deeper(), rest)?;
         let offset = word.offset;
         let value = boxed(reader.alloc, Expr::Not { offset, operand });
         starting_at(offset, value, rest)
@@ -591,7 +531,6 @@ fn connected<'t, A: Heap>(
 }
 
 /// An expression: `conjunction {OR conjunction}`.
-#[cycle(expression)]
 pub fn expression<'t, A: Heap>(reader: Reader<A>, tokens: &'t [Token<'t>]) -> Parsed<'t, Located<A>>
     ensures { Parses (λ t. located t) rules.expression reader tokens.now result }
 {

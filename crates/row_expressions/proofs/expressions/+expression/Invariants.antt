@@ -20,20 +20,8 @@ use Rattle.row_expressions.proofs.expressions.+expression.Given as goal
 abbrev pub decreases-inner_expression : goal.decreases-inner_expression
 decreases-inner_expression g l = 30 * l.reader.depth_limit + 0
 
-abbrev pub decreases-inner_negation : goal.decreases-inner_negation
-decreases-inner_negation g l = 30 * l.reader.depth_limit + 0
-
-abbrev pub decreases-inner_unary : goal.decreases-inner_unary
-decreases-inner_unary g l = 30 * l.reader.depth_limit + 0
-
 abbrev pub decreases-keyed : goal.decreases-keyed
 decreases-keyed g l = 30 * l.reader.depth_limit + 1
-
-abbrev pub decreases-argument : goal.decreases-argument
-decreases-argument g l = 30 * l.reader.depth_limit + 1
-
-abbrev pub decreases-typed : goal.decreases-typed
-decreases-typed g l = 30 * l.reader.depth_limit + 1
 
 abbrev pub decreases-parenthesized : goal.decreases-parenthesized
 decreases-parenthesized g l = 30 * l.reader.depth_limit + 2
@@ -88,9 +76,6 @@ decreases-next_operand g l = 30 * l.reader.depth_limit + (8 + rank l.level)
 abbrev pub decreases-operations : goal.decreases-operations
 decreases-operations g l = 30 * l.reader.depth_limit + (9 + rank l.level)
 
-abbrev pub decreases-upper_bound : goal.decreases-upper_bound
-decreases-upper_bound g l = 30 * l.reader.depth_limit + 14
-
 abbrev pub decreases-between : goal.decreases-between
 decreases-between g l = 30 * l.reader.depth_limit + 15
 
@@ -102,9 +87,6 @@ decreases-range_tail g l = 30 * l.reader.depth_limit + 17
 
 abbrev pub decreases-ranged_sum : goal.decreases-ranged_sum
 decreases-ranged_sum g l = 30 * l.reader.depth_limit + 18
-
-abbrev pub decreases-compared_with : goal.decreases-compared_with
-decreases-compared_with g l = 30 * l.reader.depth_limit + 19
 
 abbrev pub decreases-comparison : goal.decreases-comparison
 decreases-comparison g l = 30 * l.reader.depth_limit + 20
@@ -128,9 +110,6 @@ decreases-next_member g l = 30 * l.reader.depth_limit + (24 + word_rank l.connec
 
 abbrev pub decreases-connected : goal.decreases-connected
 decreases-connected g l = 30 * l.reader.depth_limit + (25 + word_rank l.connective)
-
-abbrev pub decreases-expression : goal.decreases-expression
-decreases-expression g l = 30 * l.reader.depth_limit + 29
 
 abbrev pub invariant-operations-loop : goal.invariant-operations-loop
 invariant-operations-loop g l = run_on l.reader.run_limit l.reader.depth_limit (next_rule l.level) (of (sign_class l.level)) (folded_left (located l.left)) (l.reader.run_limit - l.counter) (map word_of l.rest) ≡ reads grammar l.reader.run_limit l.reader.depth_limit (run_rule l.level) (map word_of l.tokens)

@@ -1,9 +1,7 @@
 //! Each request for memory refused in turn.
 
 use crate::opening::open_or_out_of_memory;
-use crate::sales;
-use crate::stores::made;
-use fixture_stores::{DEALS, SCHEMA, StoreFault, deals, load, served, store_of};
+use fixture_stores::{DEALS, SCHEMA, StoreFault, deals, load, made, served, store_of};
 use memory::{Failure, Heap};
 use metered::Metered;
 use std::alloc::AllocError;
@@ -119,8 +117,16 @@ fn is_memory(failure: Failure<StoreFault>) -> bool {
     )
 }
 
+// A schema with each statement that takes or gives back memory.
+const INDEXED: &str = "CREATE ROLE audit BYPASSRLS; CREATE ROLE sales; CREATE ROLE alice;
+GRANT sales TO alice; CREATE TABLE deal (id bigint, owner text); ALTER TABLE deal OWNER TO audit;
+ALTER TABLE deal FORCE ROW LEVEL SECURITY; GRANT SELECT (id, owner) ON deal TO sales, PUBLIC;
+CREATE INDEX i ON deal (id); CREATE POLICY own ON deal TO sales USING (owner = 'x'); DROP POLICY own ON deal;
+CREATE POLICY near ON deal AS RESTRICTIVE USING (CASE WHEN id IN (1, NULL) THEN NOT owner < 'm' ELSE id BETWEEN 1 AND 9 OR owner IS NULL END);
+REVOKE SELECT (id) ON deal FROM sales; REVOKE sales FROM alice;";
+
 // The schemas of stores: of the deals, and with every statement that takes memory.
-static SCHEMAS: [&str; 2] = [SCHEMA, sales::INDEXED];
+static SCHEMAS: [&str; 2] = [SCHEMA, INDEXED];
 
 fn schemas() -> &'static [&'static str] {
     &SCHEMAS
