@@ -9,4 +9,6 @@ mod memory_refused;
 #[cfg(test)]
 mod opening;
 #[cfg(test)]
+mod stores;
+#[cfg(test)]
 mod writers;

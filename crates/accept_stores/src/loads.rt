@@ -1,9 +1,10 @@
 //! Texts of rows for a store, and their first fault.
 
+use crate::stores::made;
 use csv_records::Records;
 use engine::StoreError::Data;
 use engine::{Store, StoreError};
-use fixture_stores::{DEALS, FLAGS, SCHEMA, StoreFault, answered, deals, load, made, store_of};
+use fixture_stores::{DEALS, FLAGS, SCHEMA, StoreFault, answered, deals, load, store_of};
 use fixtures::in_pieces;
 use memory::Failure;
 use std::alloc::Global;

@@ -1,7 +1,8 @@
 //! Each request for memory refused in turn.
 
 use crate::opening::open_or_out_of_memory;
-use fixture_stores::{DEALS, SCHEMA, StoreFault, deals, load, made, served, store_of};
+use crate::stores::made;
+use fixture_stores::{DEALS, SCHEMA, StoreFault, deals, load, served, store_of};
 use memory::{Failure, Heap};
 use metered::Metered;
 use std::alloc::AllocError;

@@ -1,7 +1,8 @@
 //! Writers that fail, and what went out before.
 
+use crate::stores::made;
 use engine::{Store, serve};
-use fixture_stores::{deals, made};
+use fixture_stores::deals;
 use output::Output;
 use std::alloc::Global;
 use std::io;

@@ -8,3 +8,5 @@ mod answers;
 mod sales;
 #[cfg(test)]
 mod statements;
+#[cfg(test)]
+mod stores;

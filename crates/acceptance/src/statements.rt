@@ -1,8 +1,9 @@
 //! Statements by roles, and what a store says of them.
 
+use crate::stores::made;
 use engine::Store;
 use fixture_stores::StoreFault::{Parse, Statement};
-use fixture_stores::{StoreFault, apply, deals, made};
+use fixture_stores::{StoreFault, apply, deals};
 use memory::Failure;
 use std::alloc::{AllocError, Global};
 use std::process::Abort;

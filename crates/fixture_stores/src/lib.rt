@@ -10,6 +10,4 @@ mod stores;
 pub use rows::{Asked, Mismatch, answered};
 pub use sales_store::{SALES, SALES_DEALS, SALES_REGIONS, sales};
 pub use scripts::run_script;
-pub use stores::{
-    DEALS, FLAGS, OPEN, SCHEMA, StoreFault, apply, deals, load, made, served, store_of,
-};
+pub use stores::{DEALS, FLAGS, OPEN, SCHEMA, StoreFault, apply, deals, load, served, store_of};

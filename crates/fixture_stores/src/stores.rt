@@ -4,7 +4,6 @@ use engine::{Store, StoreError, serve};
 use memory::{Failure, Heap, boxed};
 use output::Output;
 use row_ast::Statement;
-use std::process::Abort;
 use syntax::{ParseError, parse_schema};
 use value::Refusal;
 
@@ -105,12 +104,4 @@ pub fn served<A: Heap>(
     };
     let status = serve(alloc, store, role, text, &mut out);
     (status, out)
-}
-
-/// The store, which has to be made.
-pub fn made<T: Drop>(rt: &impl Abort, store: Result<T, Failure<StoreFault>>) -> T {
-    match store {
-        Ok(store) => store,
-        Err(failure) => panic!(rt; "{failure:?}"),
-    }
 }

@@ -1,5 +1,5 @@
 -- The rules of the operators that bind alike, and of AND and OR.
-use Rattle.std.specs.Prelude.{ℕ, List}
+use Rattle.std.specs.Prelude.{ℕ}
 use Rattle.value.specs.declared.operators.Arithmetic.{Arithmetic}
 use Rattle.row_grammar.specs.Grammar.{word, both}
 use Rattle.row_tokens.specs.Words.{Word}

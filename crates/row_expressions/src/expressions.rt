@@ -6,9 +6,8 @@ ghost use Rattle.row_grammar.specs.Limits.{deep_at};
 ghost use Rattle.row_tokens.specs.View.{word_of, words_of};
 ghost use Rattle.row_reader.specs.Expressions as rules;
 ghost use Rattle.row_reader.specs.Expressions.{grammar};
-ghost use Rattle.row_grammar.specs.Grammar.{both, inner, made};
-ghost use Rattle.row_tokens.specs.declared.token.TokenKind.TheVariants as k;
-ghost use Rattle.row_reader.specs.Language.{an_expression, a_negation, a_unary, after, is};
+ghost use Rattle.row_grammar.specs.Grammar.{inner};
+ghost use Rattle.row_reader.specs.Language.{an_expression, after, is};
 ghost use Rattle.row_reader.specs.Reading.{Parses};
 ghost use Rattle.row_ast.specs.View.{arm_pair};
 ghost use Rattle.row_expressions.specs.Levels.{connected_rule, member_rule, next_member_rule, next_rule, operand_rule, run_rule, sign_class};
@@ -29,7 +28,7 @@ use row_reader::reader::{
 };
 use row_tokens::{Token, TokenKind};
 use text::Items;
-use value::{Arithmetic, ColType, Comparison};
+use value::{Arithmetic, Comparison};
 
 /// An expression a level deeper.
 #[cycle(expression)]
