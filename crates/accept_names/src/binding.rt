@@ -1,8 +1,9 @@
-//! Queries over the tables of `names`, and what they are with their columns found, or the first fault.
+//! Queries over the tables of `fixture_queries`, and what they are with their columns found, or the first fault.
 
 use crate::bound_texts::show_bound_query;
-use crate::names::{catalog, fault_as, query};
+use crate::queries::made;
 use catalog::Catalog;
+use fixture_queries::{catalog, fault_as, query};
 use fixtures::Printer;
 use from_clause::entries;
 use resolve::bind_query;
@@ -161,7 +162,7 @@ fn binds(
     row: &(&str, &str),
 ) -> Result<(), AllocError> {
     let (text, want) = row;
-    let query = query(rt, text)?;
+    let query = made(rt, query(rt.alloc(), text));
     let got = bound_as(rt.alloc(), catalog, &query, placed)?;
     assert_eq!(rt; got.as_str(), *want, "{text}");
     Ok(())
@@ -169,7 +170,7 @@ fn binds(
 
 #[test]
 fn queries_are_bound(rt: HostRuntime) -> Result<(), Fail> {
-    let catalog = catalog(&rt)?;
+    let catalog = made(&rt, catalog(rt.alloc()));
     for row in &BOUND {
         binds(&rt, &catalog, false, row)?;
     }

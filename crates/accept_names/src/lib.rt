@@ -1,5 +1,5 @@
-//! Worked rows of names: which name of a query stands for nothing, what the query needs to read, the query with its columns
-//! found, whether its aggregates and types are in order, and the values of its items.
+//! Worked rows of names: which name of a query stands for nothing, what the query needs to read, and the query with its
+//! columns found.
 #![tactic(auto)]
 
 #[cfg(test)]
@@ -7,8 +7,6 @@ mod binding;
 #[cfg(test)]
 mod bound_texts;
 #[cfg(test)]
-mod clauses;
-#[cfg(test)]
-mod expressions;
-#[cfg(test)]
 mod names;
+#[cfg(test)]
+mod queries;

@@ -1,22 +1,19 @@
 //! Queries over three tables, with the first fault of their names, or what they need to read.
 
+use crate::queries::made;
 use access::RequiredPrivilege;
 use catalog::Catalog;
+use fixture_queries::{catalog, fault_as, query};
 use from_clause::entries;
-use memory::{Failure, Heap, boxed};
+use memory::Failure;
 use query_parts::needed;
 use resolve::{bind, bind_query};
-use row_ast::{Query, Statement};
+use row_ast::Query;
 use scope::NameFault;
 use std::alloc::{AllocError, Global};
 use std::process::Abort;
 use std::test::Fail;
-use syntax::{parse_query, parse_schema};
 use value::Refusal;
-
-const SCHEMA: &str = "CREATE TABLE deal (id bigint, owner text, amount bigint);
-CREATE TABLE region (id bigint, name text);
-CREATE TABLE note (deal bigint, body text);";
 
 // A query, and what it needs to read: columns, and tables of which any part will do.
 static NEEDED: [(&str, &str); 13] = [
@@ -134,39 +131,6 @@ static FAULTS: [(&str, Refusal, u32); 21] = [
     ),
 ];
 
-fn apply_all<A: Heap>(
-    catalog: &mut Catalog<A>,
-    statements: &[Statement<A>],
-) -> Result<(), Refusal> {
-    for statement in statements {
-        catalog.apply("root", statement)?;
-    }
-    Ok(())
-}
-
-fn made<T: Drop, E: Drop>(rt: &impl Abort, made: Result<T, E>) -> T {
-    match made {
-        Ok(made) => made,
-        Err(_) => panic!(rt; "not made"),
-    }
-}
-
-/// The tables.
-pub fn catalog(rt: &(impl Abort + AllocGlobal)) -> Result<Box<Catalog<Global>>, AllocError> {
-    let mut catalog = boxed(rt.alloc(), Catalog::new(rt.alloc())?)?;
-    let statements = made(rt, parse_schema(rt.alloc(), SCHEMA));
-    assert_eq!(rt; apply_all(&mut catalog, statements.as_slice()), Ok(()));
-    Ok(catalog)
-}
-
-/// The query of a text.
-pub fn query(
-    rt: &(impl Abort + AllocGlobal),
-    text: &str,
-) -> Result<Box<Query<Global>>, AllocError> {
-    boxed(rt.alloc(), made(rt, parse_query(rt.alloc(), text)))
-}
-
 fn shown(alloc: Global, required: &[RequiredPrivilege<'_, Global>]) -> Result<String, AllocError> {
     let mut shown = String::new(alloc);
     for privilege in required {
@@ -178,14 +142,6 @@ fn shown(alloc: Global, required: &[RequiredPrivilege<'_, Global>]) -> Result<St
         shown.push_str(" ")?;
     }
     Ok(shown)
-}
-
-/// A fault as a text.
-pub fn fault_as(alloc: Global, failure: Failure<NameFault>) -> Result<String, AllocError> {
-    match failure {
-        Failure::Fault(fault) => { format!(in alloc; "{} at {}", fault.code.code(), fault.offset) }
-        Failure::OutOfMemory => format!(in alloc; "out of memory"),
-    }
 }
 
 // What a query needs to read as a text, or its first fault.
@@ -212,19 +168,15 @@ fn needs(
     row: &(&str, &str),
 ) -> Result<(), AllocError> {
     let (text, want) = row;
-    let query = query(rt, text)?;
+    let query = made(rt, query(rt.alloc(), text));
     let got = needed_as(rt.alloc(), catalog, &query)?;
     assert_eq!(rt; got.as_str(), *want, "{text}");
     Ok(())
 }
 
-fn fails(
-    rt: &(impl Abort + AllocGlobal),
-    catalog: &Catalog<Global>,
-    row: &(&str, Refusal, u32),
-) -> Result<(), AllocError> {
+fn fails(rt: &(impl Abort + AllocGlobal), catalog: &Catalog<Global>, row: &(&str, Refusal, u32)) {
     let (text, code, offset) = row;
-    let query = query(rt, text)?;
+    let query = made(rt, query(rt.alloc(), text));
     let want = NameFault {
         code: *code,
         offset: *offset,
@@ -233,12 +185,11 @@ fn fails(
         Err(Failure::Fault(fault)) => assert_eq!(rt; fault, want, "{text}"),
         _ => panic!(rt; "{text}"),
     }
-    Ok(())
 }
 
 #[test]
 fn needs_are_in_written_order(rt: HostRuntime) -> Result<(), Fail> {
-    let catalog = catalog(&rt)?;
+    let catalog = made(&rt, catalog(rt.alloc()));
     for row in &NEEDED {
         needs(&rt, &catalog, row)?;
     }
@@ -246,10 +197,9 @@ fn needs_are_in_written_order(rt: HostRuntime) -> Result<(), Fail> {
 }
 
 #[test]
-fn first_fault_of_names(rt: HostRuntime) -> Result<(), Fail> {
-    let catalog = catalog(&rt)?;
+fn first_fault_of_names(rt: HostRuntime) {
+    let catalog = made(&rt, catalog(rt.alloc()));
     for row in &FAULTS {
-        fails(&rt, &catalog, row)?;
+        fails(&rt, &catalog, row);
     }
-    Ok(())
 }

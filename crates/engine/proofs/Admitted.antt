@@ -8,7 +8,7 @@ use Rattle.resolve.specs.Resolved.{Bound}
 use Rattle.scope.specs.Entry.{and_then}
 use Rattle.replies.specs.Reply.{Reply}
 use Rattle.engine.specs.Database.{Rows}
-use Rattle.engine.specs.Admission.{admitted_query, query_read, admitted, refusal_to}
+use Rattle.admission.specs.Admission.{admitted_query, query_read, admitted, refusal_to}
 use Rattle.engine.specs.Answer.{admitted_reply, reply_to}
 
 pub reply_to_query : (cat : Catalog) (rows : Rows) (role : Name) (text : List ℕ) (q : Query) → query_read cat role text ≡ Ok q → reply_to cat rows role text ≡ admitted_reply cat rows role (admitted_query cat role q)

@@ -7,7 +7,7 @@ use Rattle.replies.specs.Reply.{Reply}
 use Rattle.report.specs.Restricted as tables
 use Rattle.report.proofs.HiddenRows.{same_answer_over}
 use Rattle.engine.specs.Database.{Rows}
-use Rattle.engine.specs.Admission.{admitted}
+use Rattle.admission.specs.Admission.{admitted}
 use Rattle.engine.specs.Answer.{seen, headings, rows_reply, admitted_reply, reply_to}
 use Rattle.engine.specs.Hidden.{SeesSame}
 

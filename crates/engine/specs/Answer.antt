@@ -12,7 +12,7 @@ use Rattle.report.specs.Answer.{answer_over}
 use Rattle.replies.specs.Reply as reply
 use Rattle.replies.specs.Reply.{Reply}
 use Rattle.engine.specs.Database.{Rows}
-use Rattle.engine.specs.Admission.{admitted}
+use Rattle.admission.specs.Admission.{admitted}
 
 -- ---- rows
 

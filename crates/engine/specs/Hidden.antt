@@ -5,7 +5,7 @@ use Rattle.catalog.specs.Catalog.{Catalog}
 use Rattle.resolve.specs.Resolved.{Bound}
 use Rattle.report.specs.Restricted as tables
 use Rattle.engine.specs.Database.{Rows}
-use Rattle.engine.specs.Admission.{admitted}
+use Rattle.admission.specs.Admission.{admitted}
 use Rattle.engine.specs.Answer.{seen}
 
 -- where the text is answered, the rows of each entry that the role sees, restricted to the columns of the entry that the text

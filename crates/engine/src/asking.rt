@@ -1,19 +1,22 @@
 //! Asking.
 
-ghost use Rattle.std.specs.Prelude.{◌≡◌, IfOk, map};
+ghost use Rattle.std.specs.Prelude.{◌≡◌, ℕ, List, Some, IfOk, map};
+ghost use Rattle.row_ast.specs.Ast.{Name};
 ghost use Rattle.row_ast.specs.View.{query_of};
 ghost use Rattle.scope.specs.View.{bound_item_of};
 ghost use Rattle.resolve.specs.View.{bound_of};
+ghost use Rattle.catalog.specs.Catalog.{Catalog};
+ghost use Rattle.replies.specs.Reply as report;
 ghost use Rattle.replies.specs.View.{reply_of};
-ghost use Rattle.engine.specs.Admission.{admitted_query};
-ghost use Rattle.engine.specs.Database.{rows_of};
+ghost use Rattle.admission.specs.Admission.{admitted_query, refusal_to};
+ghost use Rattle.engine.specs.Database.{Rows, rows_of};
 ghost use Rattle.engine.specs.Answer as spec;
 ghost use Rattle.engine.specs.Answer.{admitted_reply, answer_reply, reply_to};
 ghost use Rattle.engine.specs.Serving.{IsReply};
 
-use crate::admission::{admit, read_query};
 use crate::answer::answer_rows;
 use crate::store::Store;
+use admission::{admit, read_query};
 use memory::{Failure, Heap};
 use replies::Reply;
 use resolve::Bound;
@@ -98,3 +101,9 @@ pub fn ask<A: Heap>(alloc: A, store: &Store<A>, role: &str, text: &str) -> Reply
         },
     }
 }
+
+/// A refusal or denial is the reply, whatever the rows.
+#[tactic(auto, using(crate::proofs::Admitted::refusal_is_reply))]
+pub fn law_refusals_read_no_row()
+    ensures { (catalog : Catalog) (rows : Rows) (role : Name) (text : List ℕ) (reply : report.Reply) → refusal_to catalog role text ≡ Some reply → reply_to catalog rows role text ≡ reply }
+{}

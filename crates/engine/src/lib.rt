@@ -12,13 +12,12 @@
 //! ```
 #![tactic(auto)]
 
-mod admission;
 mod answer;
 mod asking;
 mod store;
 mod writing;
 
-pub use admission::{law_refusals_read_no_row, refusal};
-pub use asking::ask;
+pub use admission::refusal;
+pub use asking::{ask, law_refusals_read_no_row};
 pub use store::{Store, StoreError};
 pub use writing::{law_hidden_rows, serve};

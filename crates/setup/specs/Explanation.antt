@@ -5,7 +5,7 @@ use Rattle.row_ast.specs.Ast.{Name}
 use Rattle.catalog.specs.Catalog.{Catalog}
 use Rattle.replies.specs.Reply.{Reply}
 use Rattle.hints.specs.Hint.{hint}
-use Rattle.engine.specs.Admission.{refusal_to}
+use Rattle.admission.specs.Admission.{refusal_to}
 use Rattle.setup.specs.Lines.{memory_line}
 
 abbrev pub hint_for : List ℕ → Option Reply → List ℕ

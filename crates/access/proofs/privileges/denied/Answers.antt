@@ -1,7 +1,11 @@
 use Rattle.access.specs.View.{privilege_of}
-use Rattle.access.proofs.Passed.{passed}
+use Rattle.access.proofs.Passed.{missing, passed}
 use Rattle.access.proofs.privileges.denied.Goals as goal
 
 pub loop-privilege-preserved : goal.loop-privilege-preserved
 loop-privilege-preserved g c =
     passed c.args.catalog.now c.args.role.now (λ p. privilege_of p) c.args.needed.now c.loop-privilege.privilege-index c.privilege-item.result c.loop-privilege-test.true c.privilege-item.is _ c.loop-privilege.invariant (cc)
+
+pub returns-then-not-is_granted : goal.returns-then-not-is_granted
+returns-then-not-is_granted g c =
+    missing c.args.catalog.now c.args.role.now (λ p. privilege_of p) c.args.needed.now c.loop-privilege.privilege-index c.privilege-item.result c.loop-privilege-test.true c.privilege-item.is _ c.loop-privilege.invariant (cc)

@@ -1,6 +1,6 @@
 use Rattle.std.proofs.Common.{sym, ap, ◌∙◌}
 use Rattle.row_ast.specs.View.{query_of}
-use Rattle.engine.specs.View.{read_of}
+use Rattle.admission.specs.View.{read_of}
 use Rattle.engine.proofs.Admitted.{reply_to_query}
 use Rattle.engine.proofs.asking.answer.Goals as goal
 

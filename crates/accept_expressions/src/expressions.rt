@@ -1,14 +1,15 @@
-//! Values of expressions, asked as items of queries over the tables of `names`: on a row whose first column is 7 and whose
+//! Values of expressions, asked as items of queries over the tables of `fixture_queries`: on a row whose first column is 7 and whose
 //! other columns are null, for a role `bob`.
 
 ghost use Rattle.std.specs.Prelude.{nat_eq, pos, if◌then◌else◌};
 ghost use Rattle.value.specs.Datum.{int, null};
 ghost use Rattle.eval.specs.Meaning.{no_aggregate};
 
-use crate::names::{catalog, fault_as, query};
+use crate::queries::made;
 use catalog::Catalog;
 use eval::{Row, eval, eval_movable};
 use expr::{BoundExpr, ColumnId, is_movable};
+use fixture_queries::{catalog, fault_as, query};
 use memory::Failure;
 use resolve::bind;
 use row_ast::Query;
@@ -245,14 +246,14 @@ fn has_value(
     row: &(&str, &str),
 ) -> Result<(), AllocError> {
     let (text, want) = row;
-    let query = query(rt, text)?;
+    let query = made(rt, query(rt.alloc(), text));
     let got = value_of(rt.alloc(), catalog, &query)?;
     assert_eq!(rt; got.as_str(), *want, "{text}");
     Ok(())
 }
 
 fn have_values(rt: &(impl Abort + AllocGlobal), rows: &[(&str, &str)]) -> Result<(), AllocError> {
-    let catalog = catalog(rt)?;
+    let catalog = made(rt, catalog(rt.alloc()));
     for row in rows {
         has_value(rt, &catalog, row)?;
     }

@@ -1,7 +1,8 @@
-//! Queries over the tables of `names` whose aggregates and types are in order, or the first fault.
+//! Queries over the tables of `fixture_queries` whose aggregates and types are in order, or the first fault.
 
-use crate::names::{catalog, fault_as, query};
+use crate::queries::made;
 use catalog::Catalog;
+use fixture_queries::{catalog, fault_as, query};
 use resolve::bind;
 use row_ast::Query;
 use std::alloc::{AllocError, Global};
@@ -238,14 +239,14 @@ fn is_checked(
     row: &(&str, &str),
 ) -> Result<(), AllocError> {
     let (text, want) = row;
-    let query = query(rt, text)?;
+    let query = made(rt, query(rt.alloc(), text));
     let got = fault_of(rt.alloc(), catalog, &query)?;
     assert_eq!(rt; got.as_str(), *want, "{text}");
     Ok(())
 }
 
 fn are_checked(rt: &(impl Abort + AllocGlobal), rows: &[(&str, &str)]) -> Result<(), AllocError> {
-    let catalog = catalog(rt)?;
+    let catalog = made(rt, catalog(rt.alloc()));
     for row in rows {
         is_checked(rt, &catalog, row)?;
     }

@@ -1,21 +1,16 @@
 //! What is decided of a text before any row is read.
 
-ghost use Rattle.std.specs.Prelude.{◌≡◌, ℕ, List, Some, IfOk, map, option_map};
+ghost use Rattle.std.specs.Prelude.{◌≡◌, IfOk, option_map};
 ghost use Rattle.std.specs.Result.{result_err};
-ghost use Rattle.row_ast.specs.Ast.{Name};
 ghost use Rattle.row_ast.specs.View.{query_of};
-ghost use Rattle.catalog.specs.Catalog as cat;
 ghost use Rattle.access.specs.Access.{denial};
 ghost use Rattle.access.specs.View.{privilege_of};
 ghost use Rattle.query_parts.specs.Needed.{needed};
 ghost use Rattle.resolve.specs.View.{bound_of};
-ghost use Rattle.replies.specs.Reply as report;
 ghost use Rattle.replies.specs.View.{reply_of};
-ghost use Rattle.engine.specs.Admission as spec;
-ghost use Rattle.engine.specs.Admission.{denied_reply, refusal_to};
-ghost use Rattle.engine.specs.Answer.{reply_to};
-ghost use Rattle.engine.specs.Database.{Rows};
-ghost use Rattle.engine.specs.View.{admitted_of, read_of};
+ghost use Rattle.admission.specs.Admission as spec;
+ghost use Rattle.admission.specs.Admission.{denied_reply, refusal_to};
+ghost use Rattle.admission.specs.View.{admitted_of, read_of};
 
 use access::{RequiredPrivilege, denied};
 use catalog::Catalog;
@@ -78,8 +73,9 @@ fn unless_denied<'s, A: Heap>(
     }
 }
 
-// The query bound; or the first fault of its names, aggregates, types or keys, or the first privilege that is missing.
-pub(crate) fn admit<'s, A: Heap>(
+/// The query bound; or the refusal by the first fault of its names, aggregates, types or keys, or the denial of the first
+/// privilege that is missing. It fails where memory runs out.
+pub fn admit<'s, A: Heap>(
     alloc: A,
     catalog: &'s Catalog<A>,
     role: &str,
@@ -113,8 +109,9 @@ fn refused_text<A: Heap>(error: ParseError) -> Reply<A>
     }
 }
 
-// The query of a text, or the refusal of its role or of the text.
-pub(crate) fn read_query<A: Heap>(
+/// The query of a role's text, or the refusal where there is no such role (42704) or the text is no query. It fails where
+/// memory runs out.
+pub fn read_query<A: Heap>(
     alloc: A,
     catalog: &Catalog<A>,
     role: &str,
@@ -168,9 +165,3 @@ pub fn refusal<A: Heap>(
         Err(reply) => Ok(Some(reply)),
     }
 }
-
-/// A refusal or denial is the reply, whatever the rows.
-#[tactic(auto, using(crate::proofs::Admitted::refusal_is_reply))]
-pub fn law_refusals_read_no_row()
-    ensures { (catalog : cat.Catalog) (rows : Rows) (role : Name) (text : List ℕ) (reply : report.Reply) → refusal_to catalog role text ≡ Some reply → reply_to catalog rows role text ≡ reply }
-{}
