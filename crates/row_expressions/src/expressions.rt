@@ -14,9 +14,10 @@ ghost use Rattle.row_expressions.specs.Levels.{connected_rule, member_rule, next
 ghost use Rattle.expression_parts.specs.View.{located, range_of, signed_of, suffix_of, otherwise_of};
 
 use expression_parts::{
-    CallSuffix, Connective, Located, Otherwise, Range, as_type, called, case_of, combined,
-    connective_word, constant, counted, dotted, extend, in_list, is_null, joined, members_of,
-    plain_column, ranged,
+    CallSuffix, Connective, Located, Otherwise, Range, argument, arm_of, as_type, bounds,
+    called_with, case_of, combined, compared, connective_word, constant, counted_call, dotted,
+    extend, in_list, inverted, joined, members_of, negated, null_tested, other, plain_column,
+    with_range,
 };
 use memory::{Failure, Heap, boxed};
 use row_ast::{Arm, Expr};
@@ -28,7 +29,7 @@ use row_reader::reader::{
 };
 use row_tokens::{Token, TokenKind};
 use text::Items;
-use value::{Arithmetic, Comparison};
+use value::Arithmetic;
 
 /// An expression a level deeper.
 #[cycle(expression)]
@@ -96,13 +97,8 @@ fn arm<'t, A: Heap>(reader: Reader<A>, tokens: &'t [Token<'t>]) -> Parsed<'t, Ar
     requires { 0 < reader.depth_limit }
     ensures { Parses (λ t. arm_pair t) rules.arm reader tokens.now result }
 {
-    let ((_, when), rest) = keyed(TokenKind::When, reader, tokens)?;
-    let ((_, result), rest) = keyed(TokenKind::Then, reader, rest)?;
-    let arm = Arm {
-        when: Box::into_inner(when),
-        result: Box::into_inner(result),
-    };
-    Ok((arm, rest))
+    let (when, rest) = keyed(TokenKind::When, reader, tokens)?;
+    arm_of(when, keyed(TokenKind::Then, reader, rest))
 }
 
 // The arms of a CASE.
@@ -136,8 +132,7 @@ fn otherwise<'t, A: Heap>(reader: Reader<A>, tokens: &'t [Token<'t>]) -> Parsed<
     if !sees(TokenKind::Else, tokens) {
         return Ok((Otherwise::Nothing, tokens));
     }
-    let ((_, value), rest) = keyed(TokenKind::Else, reader, tokens)?;
-    Ok((Otherwise::Value(value), rest))
+    other(keyed(TokenKind::Else, reader, tokens))
 }
 
 // `CASE arms [ELSE expr] END`.
@@ -168,8 +163,7 @@ fn counted_rows<'t, A: Heap>(
     if sees(TokenKind::Star, tokens) {
         meant(TokenKind::Star, CallSuffix::Star, tokens)
     } else {
-        let ((_, argument), rest) = inner_expression(reader, tokens)?;
-        Ok((CallSuffix::Argument(argument), rest))
+        argument(inner_expression(reader, tokens))
     }
 }
 
@@ -194,9 +188,7 @@ fn count<'t, A: Heap>(reader: Reader<A>, tokens: &'t [Token<'t>]) -> Parsed<'t, 
     ensures { Parses (λ t. located t) rules.count reader tokens.now result }
 {
     let (word, rest) = expect(TokenKind::Count, tokens)?;
-    let (suffix, rest) = count_tail(reader, rest)?;
-    let value = counted(reader.alloc, &word, suffix);
-    starting_at(word.offset, value, rest)
+    counted_call(reader.alloc, &word, count_tail(reader, rest))
 }
 
 // What follows another function's name.
@@ -210,8 +202,7 @@ fn aggregate_tail<'t, A: Heap>(
 {
     if sees(TokenKind::Open, tokens) {
         let (_, rest) = open(TokenKind::Open, reader.depth_limit, tokens)?;
-        let ((_, argument), rest) = closed(inner_expression(reader, rest))?;
-        Ok((CallSuffix::Argument(argument), rest))
+        argument(closed(inner_expression(reader, rest)))
     } else {
         dotted(reader, tokens)
     }
@@ -224,9 +215,7 @@ fn aggregate<'t, A: Heap>(reader: Reader<A>, tokens: &'t [Token<'t>]) -> Parsed<
     ensures { Parses (λ t. located t) rules.aggregate reader tokens.now result }
 {
     let ((word, name), rest) = aggregate_name(reader, tokens)?;
-    let (suffix, rest) = aggregate_tail(reader, rest)?;
-    let value = called(reader.alloc, &word, name, suffix);
-    starting_at(word.offset, value, rest)
+    called_with(reader.alloc, &word, name, aggregate_tail(reader, rest))
 }
 
 // An expression without an operator outside parentheses.
@@ -260,10 +249,7 @@ fn unary<'t, A: Heap>(reader: Reader<A>, tokens: &'t [Token<'t>]) -> Parsed<'t, 
 {
     if sees(TokenKind::Minus, tokens) {
         let (sign, rest) = open(TokenKind::Minus, reader.depth_limit, tokens)?;
-        let ((_, operand), rest) = unary(reader.deeper(), rest)?;
-        let offset = sign.offset;
-        let value = boxed(reader.alloc, Expr::Negate { offset, operand });
-        starting_at(offset, value, rest)
+        negated(reader.alloc, sign.offset, unary(reader.deeper(), rest))
     } else {
         primary(reader, tokens)
     }
@@ -356,11 +342,9 @@ fn between<'t, A: Heap>(reader: Reader<A>, tokens: &'t [Token<'t>]) -> Parsed<'t
     ensures { Parses (λ t. range_of t) rules.between reader tokens.now result }
 {
     let (word, rest) = expect(TokenKind::Between, tokens)?;
-    let ((_, low), rest) = operations(Level::Sum, reader, rest)?;
-    let (_, rest) = expect(TokenKind::And, rest)?;
-    let ((_, high), rest) = operations(Level::Sum, reader, rest)?;
-    let offset = word.offset;
-    Ok((Range::Bounds { offset, low, high }, rest))
+    let (low, rest) = operations(Level::Sum, reader, rest)?;
+    let ((low, _), rest) = before(low, expect(TokenKind::And, rest))?;
+    bounds(word.offset, low, operations(Level::Sum, reader, rest))
 }
 
 // `NOT` and a range.
@@ -408,8 +392,7 @@ fn ranged_sum<'t, A: Heap>(reader: Reader<A>, tokens: &'t [Token<'t>]) -> Parsed
     ensures { Parses (λ t. located t) rules.ranged_sum reader tokens.now result }
 {
     let (operand, rest) = operations(Level::Sum, reader, tokens)?;
-    let (range, rest) = range_tail(reader, rest)?;
-    with_rest(ranged(reader.alloc, operand, range), rest)
+    with_range(reader.alloc, operand, range_tail(reader, rest))
 }
 
 // A comparison, of which there is at most one.
@@ -418,54 +401,25 @@ fn ranged_sum<'t, A: Heap>(reader: Reader<A>, tokens: &'t [Token<'t>]) -> Parsed
 fn comparison<'t, A: Heap>(reader: Reader<A>, tokens: &'t [Token<'t>]) -> Parsed<'t, Located<A>>
     ensures { Parses (λ t. located t) rules.comparison reader tokens.now result }
 {
-    let ((start, left), rest) = ranged_sum(reader, tokens)?;
+    let (left, rest) = ranged_sum(reader, tokens)?;
     if !sees_any(Class::Comparison, rest) {
-        return Ok(((start, left), rest));
+        return Ok((left, rest));
     }
-    let ((offset, operator), rest) = comparison_sign(reader, rest)?;
-    let ((_, right), rest) = ranged_sum(reader, rest)?;
-    let whole = Expr::Comparison {
-        operator,
-        offset,
-        left,
-        right,
-    };
-    starting_at(start, boxed(reader.alloc, whole), rest)
+    let ((left, sign), rest) = before(left, comparison_sign(reader, rest))?;
+    compared(reader.alloc, left, sign, ranged_sum(reader, rest))
 }
 
-// `comparison [IS [NOT] NULL]`.
+// `NOT negation | comparison [IS [NOT] NULL]`.
 #[cycle(expression)]
-#[tactic(auto, unfolding(row_reader::specs::Expressions::null_test, row_reader::specs::Expressions::is_null))]
-fn null_test<'t, A: Heap>(reader: Reader<A>, tokens: &'t [Token<'t>]) -> Parsed<'t, Located<A>>
-    ensures { Parses (λ t. located t) rules.null_test reader tokens.now result }
-{
-    let ((start, operand), rest) = comparison(reader, tokens)?;
-    if !sees(TokenKind::Is, rest) {
-        return Ok(((start, operand), rest));
-    }
-    let ((offset, negated), rest) = is_null(reader, rest)?;
-    let test = Expr::IsNull {
-        negated,
-        offset,
-        operand,
-    };
-    starting_at(start, boxed(reader.alloc, test), rest)
-}
-
-// `NOT negation | null test`.
-#[cycle(expression)]
-#[tactic(auto, using(row_grammar::proofs::Steps::deep_is), unfolding(row_reader::specs::Expressions::negation))]
+#[tactic(auto, using(row_grammar::proofs::Steps::deep_is), unfolding(row_reader::specs::Expressions::negation, row_reader::specs::Expressions::null_test))]
 fn negation<'t, A: Heap>(reader: Reader<A>, tokens: &'t [Token<'t>]) -> Parsed<'t, Located<A>>
     ensures { Parses (λ t. located t) rules.negation reader tokens.now result }
 {
     if sees(TokenKind::Not, tokens) {
         let (word, rest) = open(TokenKind::Not, reader.depth_limit, tokens)?;
-        let ((_, operand), rest) = negation(reader.deeper(), rest)?;
-        let offset = word.offset;
-        let value = boxed(reader.alloc, Expr::Not { offset, operand });
-        starting_at(offset, value, rest)
+        inverted(reader.alloc, word.offset, negation(reader.deeper(), rest))
     } else {
-        null_test(reader, tokens)
+        null_tested(reader, comparison(reader, tokens))
     }
 }
 

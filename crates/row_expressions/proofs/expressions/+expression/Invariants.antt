@@ -91,9 +91,6 @@ decreases-ranged_sum g l = 30 * l.reader.depth_limit + 18
 abbrev pub decreases-comparison : goal.decreases-comparison
 decreases-comparison g l = 30 * l.reader.depth_limit + 20
 
-abbrev pub decreases-null_test : goal.decreases-null_test
-decreases-null_test g l = 30 * l.reader.depth_limit + 21
-
 abbrev pub decreases-negation : goal.decreases-negation
 decreases-negation g l = 30 * l.reader.depth_limit + 22
 
