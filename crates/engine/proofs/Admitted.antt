@@ -7,7 +7,7 @@ use Rattle.catalog.specs.Catalog.{Catalog}
 use Rattle.resolve.specs.Resolved.{Bound}
 use Rattle.scope.specs.Entry.{and_then}
 use Rattle.replies.specs.Reply.{Reply}
-use Rattle.engine.specs.Database.{Rows}
+use Rattle.store.specs.Database.{Rows}
 use Rattle.admission.specs.Admission.{admitted_query, query_read, admitted, refusal_to}
 use Rattle.engine.specs.Answer.{admitted_reply, reply_to}
 

@@ -6,7 +6,7 @@ use Rattle.resolve.specs.Resolved.{Bound}
 use Rattle.replies.specs.Reply.{Reply}
 use Rattle.report.specs.Restricted as tables
 use Rattle.report.proofs.HiddenRows.{same_answer_over}
-use Rattle.engine.specs.Database.{Rows}
+use Rattle.store.specs.Database.{Rows}
 use Rattle.admission.specs.Admission.{admitted}
 use Rattle.engine.specs.Answer.{seen, headings, rows_reply, admitted_reply, reply_to}
 use Rattle.engine.specs.Hidden.{SeesSame}

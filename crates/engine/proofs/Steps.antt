@@ -9,7 +9,7 @@ use Rattle.catalog.specs.Catalog.{Catalog}
 use Rattle.access.specs.Access.{sees}
 use Rattle.access.specs.Guards.{Guard, shows}
 use Rattle.operators.specs.World.{GuardedTable, seen_rows}
-use Rattle.engine.specs.Database.{Rows}
+use Rattle.store.specs.Database.{Rows}
 use Rattle.engine.specs.Answer.{seen}
 use Rattle.engine.specs.Guarded.{guarded_tables}
 

@@ -11,7 +11,7 @@ use Rattle.resolve.specs.Resolved.{Bound}
 use Rattle.report.specs.Answer.{answer_over}
 use Rattle.replies.specs.Reply as reply
 use Rattle.replies.specs.Reply.{Reply}
-use Rattle.engine.specs.Database.{Rows}
+use Rattle.store.specs.Database.{Rows}
 use Rattle.admission.specs.Admission.{admitted}
 
 -- ---- rows

@@ -3,7 +3,7 @@ use Rattle.std.specs.Prelude.{List, [], ◌∷◌}
 use Rattle.scope.specs.Entry.{Entry}
 use Rattle.access.specs.Guards.{Guard}
 use Rattle.operators.specs.World.{GuardedTable}
-use Rattle.engine.specs.Database.{Rows}
+use Rattle.store.specs.Database.{Rows}
 
 abbrev pub guarded_tables : Rows → List Entry → List Guard → List GuardedTable
 guarded_tables rows [] guards = []

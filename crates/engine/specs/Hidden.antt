@@ -4,7 +4,7 @@ use Rattle.row_ast.specs.Ast.{Name}
 use Rattle.catalog.specs.Catalog.{Catalog}
 use Rattle.resolve.specs.Resolved.{Bound}
 use Rattle.report.specs.Restricted as tables
-use Rattle.engine.specs.Database.{Rows}
+use Rattle.store.specs.Database.{Rows}
 use Rattle.admission.specs.Admission.{admitted}
 use Rattle.engine.specs.Answer.{seen}
 

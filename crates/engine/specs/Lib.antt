@@ -1,6 +1,3 @@
-pub mod Database
-pub mod Loads
-pub mod View
 pub mod Answer
 pub mod Serving
 pub mod Hidden

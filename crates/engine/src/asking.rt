@@ -9,13 +9,12 @@ ghost use Rattle.catalog.specs.Catalog.{Catalog};
 ghost use Rattle.replies.specs.Reply as report;
 ghost use Rattle.replies.specs.View.{reply_of};
 ghost use Rattle.admission.specs.Admission.{admitted_query, refusal_to};
-ghost use Rattle.engine.specs.Database.{Rows, rows_of};
+ghost use Rattle.store.specs.Database.{Rows, rows_of};
 ghost use Rattle.engine.specs.Answer as spec;
 ghost use Rattle.engine.specs.Answer.{admitted_reply, answer_reply, reply_to};
 ghost use Rattle.engine.specs.Serving.{IsReply};
 
 use crate::answer::answer_rows;
-use crate::store::Store;
 use admission::{admit, read_query};
 use memory::{Failure, Heap};
 use replies::Reply;
@@ -23,6 +22,7 @@ use resolve::Bound;
 use row_ast::Query;
 use scope::BoundItem;
 use std::alloc::AllocError;
+use store::Store;
 use text::{Items, Text};
 use value::Refusal;
 

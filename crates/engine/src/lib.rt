@@ -14,7 +14,6 @@
 
 mod answer;
 mod asking;
-mod store;
 mod writing;
 
 pub use admission::refusal;

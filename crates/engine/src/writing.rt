@@ -7,16 +7,16 @@ ghost use Rattle.row_ast.specs.Ast.{Name};
 ghost use Rattle.catalog.specs.Catalog.{Catalog};
 ghost use Rattle.replies.specs.Reply.{no_memory};
 ghost use Rattle.replies.specs.ReplyText.{reply_text};
-ghost use Rattle.engine.specs.Database.{Rows, rows_of};
+ghost use Rattle.store.specs.Database.{Rows, rows_of};
 ghost use Rattle.engine.specs.Answer.{reply_to};
 ghost use Rattle.engine.specs.Serving.{IsWhole, Begins};
 ghost use Rattle.engine.specs.Hidden.{SeesSame};
 
 use crate::asking::ask;
-use crate::store::Store;
 use memory::Heap;
 use output::{Out, write_whole};
 use replies::{reply_status, reply_text};
+use store::Store;
 
 // Writes a text: its status, or 8 where the writer failed.
 fn send<W: Out>(out: &mut W, text: &[u8], status: u8) -> u8

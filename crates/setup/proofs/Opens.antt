@@ -4,7 +4,7 @@ use Rattle.memory.specs.Gives.{IsFailure}
 use Rattle.memory.specs.declared.failure.Failure.{Failure}
 use Rattle.memory.specs.declared.failure.Failure.TheVariants.{Fault, OutOfMemory}
 use Rattle.row_ast.specs.Ast.{Name}
-use Rattle.engine.specs.Database.{at_start}
+use Rattle.store.specs.Database.{at_start}
 use Rattle.setup.specs.Schema.{schema_applied}
 use Rattle.setup.specs.Opening.{IsNotOpened, schema_fault}
 use Rattle.setup.specs.declared.fault.SchemaError.{SchemaError}

@@ -13,10 +13,10 @@ use Rattle.tables.specs.Loading.{TableRows, Fields}
 use Rattle.memory.specs.declared.failure.Failure as memory
 use Rattle.memory.specs.declared.failure.Failure.TheVariants as failure
 use Rattle.row_ast.specs.Ast.{Name}
-use Rattle.engine.specs.declared.store.StoreError.{StoreError}
+use Rattle.store.specs.declared.store.StoreError.{StoreError}
 use Rattle.catalog.specs.Checks.{first_changed}
-use Rattle.engine.specs.Database.{is_named}
-use Rattle.engine.specs.Loads.{IsLoad, IsLoadFrom, with_rows}
+use Rattle.store.specs.Database.{is_named}
+use Rattle.store.specs.Loads.{IsLoad, IsLoadFrom, with_rows}
 use Rattle.setup.specs.Loads.{AreLoaded, IsFaultOf, IsRowFault, Knows, names_of}
 use Rattle.setup.specs.declared.fault.Fault.{Fault}
 use Rattle.setup.specs.declared.fault.Fault.TheVariants as fault

@@ -7,9 +7,9 @@ use Rattle.tables.specs.Loading.{TableRows}
 use Rattle.tables.specs.declared.LoadError.{LoadError}
 use Rattle.tables.specs.declared.LoadError.TheVariants as load
 use Rattle.row_ast.specs.Ast.{Name}
-use Rattle.engine.specs.declared.store.StoreError.TheVariants.{Data}
-use Rattle.engine.specs.Database.{columns_in}
-use Rattle.engine.specs.Loads.{IsLoadFrom}
+use Rattle.store.specs.declared.store.StoreError.TheVariants.{Data}
+use Rattle.store.specs.Database.{columns_in}
+use Rattle.store.specs.Loads.{IsLoadFrom}
 use Rattle.setup.specs.declared.fault.Fault.{Fault}
 use Rattle.setup.specs.declared.fault.Fault.TheVariants as fault
 

@@ -9,7 +9,7 @@ use Rattle.row_ast.specs.Statements.{Statement}
 use Rattle.syntax.specs.Parsing.{parsed_schema}
 use Rattle.syntax.specs.declared.fault.ParseError.{ParseError}
 use Rattle.syntax.specs.declared.fault.ParseError.TheVariants as parsing
-use Rattle.engine.specs.Database.{Database, changed_database}
+use Rattle.store.specs.Database.{Database, changed_database}
 use Rattle.setup.specs.declared.fault.SchemaError.{SchemaError}
 use Rattle.setup.specs.declared.fault.SchemaError.TheVariants as errors
 

@@ -4,11 +4,12 @@ ghost use Rattle.std.specs.Prelude.{◌≡◌, IfOk};
 ghost use Rattle.setup.specs.Explanation.{IsExplained, explanation};
 
 use crate::arguments::Arguments;
-use engine::{Store, refusal};
+use engine::refusal;
 use hints::hint;
 use memory::Heap;
 use output::{Out, write_whole};
 use std::alloc::AllocError;
+use store::Store;
 
 fn hint_for<A: Heap>(
     alloc: A,

@@ -3,15 +3,15 @@
 ghost use Rattle.std.specs.Prelude.{◌≡◌, ◌<◌, ℕ, List, length, map, None, Option, Ok, IfErr, IfOk, IsSome, OnErr, OnOk, slice_get};
 ghost use Rattle.std.specs.List.{find};
 ghost use Rattle.value.specs.Columns.{column_of};
-ghost use Rattle.engine.specs.Database.{is_named, columns_in};
-ghost use Rattle.engine.specs.Loads.{IsLoadFrom};
+ghost use Rattle.store.specs.Database.{is_named, columns_in};
+ghost use Rattle.store.specs.Loads.{IsLoadFrom};
 ghost use Rattle.setup.specs.Loads.{AreLoaded, IsFaultAt, IsFaultOf, IsLoadedAt, IsOfFile, IsRowFault, Knows, StopsAtTable, column_name, name_at, names_of};
 
 use crate::fault::Fault;
-use engine::{Store, StoreError};
 use memory::{Failure, Heap};
 use std::alloc::AllocError;
 use std::io::Read;
+use store::{Store, StoreError};
 use tables::LoadError;
 use text::Text;
 use value::Column;

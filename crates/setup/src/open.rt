@@ -6,8 +6,8 @@ ghost use Rattle.setup.specs.Opening.{IsOpened, IsNotOpened, schema_fault};
 use crate::fault::{Fault, SchemaError};
 use crate::load::{Folder, load_tables};
 use crate::schema::apply_schema;
-use engine::Store;
 use memory::{Failure, Heap};
+use store::Store;
 
 // The failure of a schema text that is not applied.
 fn schema_fault<A: Heap>(failure: Failure<SchemaError>) -> Failure<Fault<A>>

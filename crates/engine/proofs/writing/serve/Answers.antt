@@ -1,5 +1,5 @@
 use Rattle.std.proofs.Common.{subst}
-use Rattle.engine.specs.Database.{rows_of}
+use Rattle.store.specs.Database.{rows_of}
 use Rattle.engine.specs.Serving.{IsWhole}
 use Rattle.engine.proofs.HiddenRows.{same_reply}
 use Rattle.engine.proofs.writing.serve.Goals as goal

@@ -7,9 +7,9 @@ ghost use Rattle.value.specs.Columns.{column_of};
 ghost use Rattle.row_ast.specs.Statements.{CreateTable};
 ghost use Rattle.row_ast.specs.View.{statement_of};
 ghost use Rattle.catalog.specs.Changes.{takes_no_memory, IsChange, IsExactChange};
-ghost use Rattle.engine.specs.Database.{at_start, changed_database, columns_in, contents_named, empty_table, is_named};
-ghost use Rattle.engine.specs.Loads.{IsLoad, IsLoadFrom, LoadStops, store_failure};
-ghost use Rattle.engine.specs.View.{stored_of};
+ghost use Rattle.store.specs.Database.{at_start, changed_database, columns_in, contents_named, empty_table, is_named};
+ghost use Rattle.store.specs.Loads.{IsLoad, IsLoadFrom, LoadStops, store_failure};
+ghost use Rattle.store.specs.View.{stored_of};
 
 use catalog::Catalog;
 use csv_records::Records;
@@ -23,23 +23,23 @@ use text::{Items, Text};
 use thiserror::Error;
 use value::{Column, Refusal, copy_columns};
 
-/// A table's name and contents.
+// A table's name and contents.
 #[derive(Drop)]
-pub(crate) struct Stored<A: Heap> {
-    pub(crate) name: Text<A>,
-    pub(crate) contents: Table<A>,
+struct Stored<A: Heap> {
+    name: Text<A>,
+    contents: Table<A>,
 }
 
 /// A catalogue with the contents of its tables.
 #[derive(Drop)]
 pub struct Store<A: Heap> {
-    pub(crate) alloc: A,
-    pub(crate) catalog: Catalog<A>,
-    pub(crate) tables: Vec<Stored<A>, A>,
+    alloc: A,
+    catalog: Catalog<A>,
+    tables: Vec<Stored<A>, A>,
 }
 
 impl<A: Heap> Model for Store<A> {
-    ghost use Rattle.engine.specs.Database.{Database};
+    ghost use Rattle.store.specs.Database.{Database};
 
     ghost Value = { Database };
 
@@ -49,16 +49,13 @@ impl<A: Heap> Model for Store<A> {
 
     ghost coded = { Prim.hlevel (codes, movable_expr.the_code ℕ coded_ℕ) };
 
-    ghost use Rattle.engine.specs.View.{database_of};
+    ghost use Rattle.store.specs.View.{database_of};
 
     ghost view = { database_of };
 }
 
-/// The contents of the table of that name.
-pub(crate) fn contents_named<'a, A: Heap>(
-    tables: &'a [Stored<A>],
-    name: &str,
-) -> Option<&'a Table<A>>
+// The contents of the table of that name.
+fn contents_named<'a, A: Heap>(tables: &'a [Stored<A>], name: &str) -> Option<&'a Table<A>>
     ensures { option_map (λ t. t.now) result ≡ contents_named (map (λ t. stored_of t) tables.now) name.now }
 {
     match table_place(tables, name) {
@@ -175,8 +172,8 @@ impl<A: Heap> Store<A> {
         }
     }
 
-    // The contents of the table of that name.
-    pub(crate) fn contents(&self, name: &str) -> Option<&Table<A>>
+    /// The contents of the table of that name; none where it is not there.
+    pub fn contents(&self, name: &str) -> Option<&Table<A>>
         ensures { option_map (λ t. t.now) result ≡ contents_named self.now.tables name.now }
     {
         contents_named(&self.tables, name)

@@ -11,9 +11,9 @@ use Rattle.tables.specs.declared.LoadError.{LoadError}
 use Rattle.tables.specs.declared.LoadError.TheVariants as faults
 use Rattle.row_ast.specs.Ast.{Name}
 use Rattle.catalog.specs.Checks.{first_changed}
-use Rattle.engine.specs.declared.store.StoreError.{StoreError}
-use Rattle.engine.specs.declared.store.StoreError.TheVariants as errors
-use Rattle.engine.specs.Database.{is_named}
+use Rattle.store.specs.declared.store.StoreError.{StoreError}
+use Rattle.store.specs.declared.store.StoreError.TheVariants as errors
+use Rattle.store.specs.Database.{is_named}
 
 abbrev pub with_rows : List Row → Name × TableRows → Name × TableRows
 with_rows rows table = (table.0, record { columns = table.1.columns; rows = table.1.rows ++ rows })

@@ -2,9 +2,9 @@ use Rattle.std.proofs.Common.{◌≡◌, ◌⊎◌, ◌∙◌, Err, ap, subst, m
 use Rattle.value.specs.declared.refusal.Refusal.TheVariants.{OutOfMemory}
 use Rattle.row_ast.specs.View.{statement_of}
 use Rattle.catalog.specs.Changes.{changed}
-use Rattle.engine.specs.View.{stored_of}
-use Rattle.engine.proofs.Loads.{same_database, still_refused, taken_back}
-use Rattle.engine.proofs.store.Store.add_table.Goals as goal
+use Rattle.store.specs.View.{stored_of}
+use Rattle.store.proofs.Loads.{same_database, still_refused, taken_back}
+use Rattle.store.proofs.store.Store.add_table.Goals as goal
 
 pub returns-in-Err : goal.returns-in-Err
 returns-in-Err g c =

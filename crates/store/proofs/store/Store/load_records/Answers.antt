@@ -1,10 +1,10 @@
 use Rattle.std.proofs.Common.{[], Err, map, sym, refl}
-use Rattle.engine.specs.Database.{is_named}
-use Rattle.engine.specs.View.{stored_of}
-use Rattle.engine.proofs.Places.{none_found}
-use Rattle.engine.proofs.Loads.{IfSome-all, IfSome-map, rows_loaded, fault_reported, stops_loaded}
-use Rattle.engine.proofs.store.Store.load_records.Goals as goal
-use Rattle.engine.proofs.store.Store.load_records.Goals.{in-Ok, in-Err}
+use Rattle.store.specs.Database.{is_named}
+use Rattle.store.specs.View.{stored_of}
+use Rattle.store.proofs.Places.{none_found}
+use Rattle.store.proofs.Loads.{IfSome-all, IfSome-map, rows_loaded, fault_reported, stops_loaded}
+use Rattle.store.proofs.store.Store.load_records.Goals as goal
+use Rattle.store.proofs.store.Store.load_records.Goals.{in-Ok, in-Err}
 
 pub returns-in_default-clause-exact : goal.returns-in_default-clause-exact
 returns-in_default-clause-exact g c =

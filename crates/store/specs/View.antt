@@ -2,9 +2,9 @@
 use Rattle.std.specs.Prelude.{map}
 use Rattle.tables.specs.Loading.{TableRows}
 use Rattle.row_ast.specs.Ast.{Name}
-use Rattle.engine.specs.declared.store.Stored.{Stored}
-use Rattle.engine.specs.declared.store.Store.TheInside.{Inside}
-use Rattle.engine.specs.Database.{Database}
+use Rattle.store.specs.declared.store.Stored.{Stored}
+use Rattle.store.specs.declared.store.Store.TheInside.{Inside}
+use Rattle.store.specs.Database.{Database}
 
 abbrev pub stored_of : {A : Type 0} → Stored A → Name × TableRows
 stored_of s = (s.name, s.contents)

@@ -1,4 +1,4 @@
--- A load at the place of a table, and a world by its parts.
+-- A load at the place of a table, and a database by its parts.
 use Rattle.std.proofs.Common.{◌≡◌, ◌⊎◌, inl, inr, ℕ, Bool, true, false, cond, ◌-◌, List, [], ◌++◌, append-nil, take, map, set, get_or, find, Option, Some, None, IfSome, Result, Ok, Err, refl, sym, ap, ◌∙◌, length}
 use Rattle.std.proofs.lemmas.List.{take_at}
 use Rattle.std.specs.List.{position_from}
@@ -17,11 +17,11 @@ use Rattle.memory.specs.declared.failure.Failure.TheVariants.{Fault, OutOfMemory
 use Rattle.row_ast.specs.Ast.{Name}
 use Rattle.row_ast.specs.Statements.{Statement}
 use Rattle.catalog.specs.Catalog.{Catalog}
-use Rattle.engine.specs.declared.store.StoreError.TheVariants as errors
-use Rattle.engine.specs.declared.store.StoreError.{StoreError}
-use Rattle.engine.specs.Database.{Database, is_named, with_catalog}
-use Rattle.engine.specs.Loads.{IsFirstFault, IsLoad, IsLoadFrom, LoadStops, LoadsRows, due_rows, store_failure, with_rows}
-use Rattle.engine.proofs.Places.{set_at, found_at}
+use Rattle.store.specs.declared.store.StoreError.TheVariants as errors
+use Rattle.store.specs.declared.store.StoreError.{StoreError}
+use Rattle.store.specs.Database.{Database, is_named, with_catalog}
+use Rattle.store.specs.Loads.{IsFirstFault, IsLoad, IsLoadFrom, LoadStops, LoadsRows, due_rows, store_failure, with_rows}
+use Rattle.store.proofs.Places.{set_at, found_at}
 
 -- what holds of a value, if it is there
 pub IfSome-map : {X : Type 0} (o : Option X) (P Q : X → Type 0) → ((x : X) → P x → Q x) → IfSome o P → IfSome o Q

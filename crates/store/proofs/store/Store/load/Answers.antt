@@ -1,11 +1,11 @@
 use Rattle.std.proofs.Common.{◌≡◌, ◌∙◌, ap, sym, refl}
 use Rattle.std.proofs.Math.Seq.{map-set_same}
-use Rattle.engine.specs.Database.{is_named}
-use Rattle.engine.specs.View.{stored_of}
-use Rattle.engine.proofs.Places.{none_found}
-use Rattle.engine.proofs.Loads.{loaded_from, none_loaded, store_result, same_database}
-use Rattle.engine.proofs.store.Store.load.Goals as goal
-use Rattle.engine.proofs.store.Store.load.Goals.{in-Ok, in-Err}
+use Rattle.store.specs.Database.{is_named}
+use Rattle.store.specs.View.{stored_of}
+use Rattle.store.proofs.Places.{none_found}
+use Rattle.store.proofs.Loads.{loaded_from, none_loaded, store_result, same_database}
+use Rattle.store.proofs.store.Store.load.Goals as goal
+use Rattle.store.proofs.store.Store.load.Goals.{in-Ok, in-Err}
 
 pub returns-in_default-clause-loaded : goal.returns-in_default-clause-loaded
 returns-in_default-clause-loaded g c =
