@@ -66,13 +66,13 @@ fn write_reply(
     status
 }
 
-// Answers a query, and returns the status of the reply.
-fn query(
+// Answers the query over a store, and returns the status of the reply.
+fn answer(
     rt: &HostRuntime,
     alloc: Global,
+    store: &Store<Global>,
     words: &QueryArguments<'_>,
 ) -> Result<u8, Failure<Fault<Global>>> {
-    let store = store_of(rt, alloc, words)?;
     let text = query_text(rt, alloc, words.text)?;
     let arguments = Arguments {
         schema: words.schema,
@@ -80,7 +80,17 @@ fn query(
         role: words.role,
         text: text.as_str(),
     };
-    Ok(write_reply(rt, alloc, &store, &arguments, words.explain_refusal))
+    Ok(write_reply(rt, alloc, store, &arguments, words.explain_refusal))
+}
+
+// Makes the store and answers the query, and returns the status of the reply.
+fn query(
+    rt: &HostRuntime,
+    alloc: Global,
+    words: &QueryArguments<'_>,
+) -> Result<u8, Failure<Fault<Global>>> {
+    let store = store_of(rt, alloc, words)?;
+    answer(rt, alloc, &store, words)
 }
 
 // Writes the codes with their meaning to standard output.
