@@ -1,19 +1,16 @@
 //! What stops the program before a reply.
 
-use clap::Error;
-use clap::error::ErrorKind;
+use command_line::CommandLineError;
 use memory::Failure;
 use output::Output;
 use setup::{Fault, report};
-use std::alloc::{AllocError, AllocFailed, Global};
+use std::alloc::{AllocError, Global};
 
 /// Why there is no reply.
 #[derive(Drop)]
 pub enum ProgramError {
-    /// The arguments are no command line.
-    Usage(Error),
-    /// Help was asked for.
-    Help(Error),
+    /// The command line asks for no request.
+    CommandLine(CommandLineError),
     /// There is no store.
     Setup(Failure<Fault<Global>>),
 }
@@ -24,45 +21,40 @@ impl From<AllocError> for ProgramError {
     }
 }
 
-impl<T: Drop> From<AllocFailed<T>> for ProgramError {
-    fn from(_error: AllocFailed<T>) -> ProgramError {
-        ProgramError::Setup(Failure::OutOfMemory)
-    }
-}
-
 impl From<Failure<Fault<Global>>> for ProgramError {
     fn from(failure: Failure<Fault<Global>>) -> ProgramError {
         ProgramError::Setup(failure)
     }
 }
 
-impl From<Error> for ProgramError {
-    fn from(error: Error) -> ProgramError {
-        match error.kind() {
-            ErrorKind::OutOfMemory => ProgramError::Setup(Failure::OutOfMemory),
-            ErrorKind::DisplayHelp | ErrorKind::DisplayVersion => ProgramError::Help(error),
-            _ => ProgramError::Usage(error),
-        }
+impl From<CommandLineError> for ProgramError {
+    fn from(error: CommandLineError) -> ProgramError {
+        ProgramError::CommandLine(error)
     }
+}
+
+fn report_failure(rt: &HostRuntime, failure: &Failure<Fault<Global>>) -> u8 {
+    let mut out = Output {
+        inner: rt.stderr(),
+        failed: 0,
+    };
+    report(rt.alloc(), failure, &mut out)
 }
 
 /// Prints what stopped the program, help to standard output and all else to standard error, and returns the exit status.
 pub fn print_error(rt: &HostRuntime, error: &ProgramError) -> u8 {
     match error {
-        ProgramError::Help(text) => {
+        ProgramError::CommandLine(CommandLineError::Help(text)) => {
             let _ = print!(rt; "{text}");
             0
         }
-        ProgramError::Usage(text) => {
+        ProgramError::CommandLine(CommandLineError::Usage(text)) => {
             let _ = eprint!(rt; "{text}");
             2
         }
-        ProgramError::Setup(failure) => {
-            let mut out = Output {
-                inner: rt.stderr(),
-                failed: 0,
-            };
-            report(rt.alloc(), failure, &mut out)
+        ProgramError::CommandLine(CommandLineError::OutOfMemory) => {
+            report_failure(rt, &Failure::OutOfMemory)
         }
+        ProgramError::Setup(failure) => report_failure(rt, failure),
     }
 }

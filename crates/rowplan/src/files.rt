@@ -55,7 +55,7 @@ fn path_of(alloc: Global, dir: &str, table: &str) -> Result<String, AllocError>
 }
 
 /// A folder with a file `t.csv` for each table `t`.
-#[derive(Clone, Copy)]
+#[derive(Drop)]
 pub struct Directory<'a, R: Files> {
     /// The file system.
     pub files: &'a R,

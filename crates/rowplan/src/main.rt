@@ -1,42 +1,78 @@
 //! The program `rowplan`: answers queries over a schema text and comma-separated tables.
 #![tactic(auto)]
 
-mod arguments;
 mod failure;
 mod files;
 
-use arguments::{QueryArguments, QueryText, Request, read_arguments};
+use command_line::{QueryArguments, QueryText, Request, read_arguments};
 use failure::{ProgramError, print_error};
 use files::{Directory, read_text};
 use hints::codes_text;
 use memory::Failure;
 use output::{Output, write_whole};
-use setup::{Arguments, explain_refusal, open_store, reply};
-use std::alloc::Global;
+use setup::{Arguments, Fault, explain_refusal, open_store, reply};
+use std::alloc::{AllocError, Global};
 use std::process::ExitCode;
 use std::{env, io};
+use store::Store;
+
+// The store of the schema and of the folder that the arguments name.
+fn store_of(
+    rt: &HostRuntime,
+    alloc: Global,
+    words: &QueryArguments<'_>,
+) -> Result<Store<Global>, Failure<Fault<Global>>> {
+    let schema = read_text(rt, alloc, words.schema)?;
+    let folder = Directory {
+        files: rt,
+        path: words.dir,
+    };
+    open_store(alloc, schema.as_str(), &folder)
+}
 
 // The text of the query.
 fn query_text(
     rt: &HostRuntime,
     alloc: Global,
     text: QueryText<'_>,
-) -> Result<String, ProgramError> {
+) -> Result<String, Failure<Fault<Global>>> {
     match text {
         QueryText::Given(text) => Ok(String::from_str(alloc, text)?),
-        QueryText::File(path) => Ok(read_text(rt, alloc, path)?),
+        QueryText::File(path) => read_text(rt, alloc, path),
     }
 }
 
 // Writes the reply to standard output, what a refusal means to standard error where that is asked for, and returns the
 // status of the reply.
-fn query(rt: &HostRuntime, alloc: Global, words: &QueryArguments<'_>) -> Result<u8, ProgramError> {
-    let schema = read_text(rt, alloc, words.schema)?;
-    let folder = Directory {
-        files: rt,
-        path: words.dir,
+fn write_reply(
+    rt: &HostRuntime,
+    alloc: Global,
+    store: &Store<Global>,
+    arguments: &Arguments<'_>,
+    explains: bool,
+) -> u8 {
+    let mut out = Output {
+        inner: io::writer(rt),
+        failed: 0,
     };
-    let store = open_store(alloc, schema.as_str(), &folder)?;
+    let status = reply(alloc, store, arguments, &mut out);
+    if explains && (status == 3 || status == 4 || status == 6) {
+        let mut error = Output {
+            inner: rt.stderr(),
+            failed: 0,
+        };
+        explain_refusal(alloc, store, arguments, &mut error);
+    }
+    status
+}
+
+// Answers the query over a store, and returns the status of the reply.
+fn answer(
+    rt: &HostRuntime,
+    alloc: Global,
+    store: &Store<Global>,
+    words: &QueryArguments<'_>,
+) -> Result<u8, Failure<Fault<Global>>> {
     let text = query_text(rt, alloc, words.text)?;
     let arguments = Arguments {
         schema: words.schema,
@@ -44,23 +80,21 @@ fn query(rt: &HostRuntime, alloc: Global, words: &QueryArguments<'_>) -> Result<
         role: words.role,
         text: text.as_str(),
     };
-    let mut out = Output {
-        inner: io::writer(rt),
-        failed: 0,
-    };
-    let status = reply(alloc, &store, &arguments, &mut out);
-    if words.explain_refusal && (status == 3 || status == 4 || status == 6) {
-        let mut error = Output {
-            inner: rt.stderr(),
-            failed: 0,
-        };
-        explain_refusal(alloc, &store, &arguments, &mut error);
-    }
-    Ok(status)
+    Ok(write_reply(rt, alloc, store, &arguments, words.explain_refusal))
+}
+
+// Makes the store and answers the query, and returns the status of the reply.
+fn query(
+    rt: &HostRuntime,
+    alloc: Global,
+    words: &QueryArguments<'_>,
+) -> Result<u8, Failure<Fault<Global>>> {
+    let store = store_of(rt, alloc, words)?;
+    answer(rt, alloc, &store, words)
 }
 
 // Writes the codes with their meaning to standard output.
-fn codes(rt: &HostRuntime, alloc: Global) -> Result<u8, ProgramError> {
+fn codes(rt: &HostRuntime, alloc: Global) -> Result<u8, AllocError> {
     let text = codes_text(alloc)?;
     let mut out = Output {
         inner: io::writer(rt),
@@ -72,22 +106,33 @@ fn codes(rt: &HostRuntime, alloc: Global) -> Result<u8, ProgramError> {
     }
 }
 
+// The words of the command line, of which the first is the program's name.
+fn command_words(rt: &HostRuntime, alloc: Global) -> Result<Vec<String>, AllocError> {
+    let Ok(args) = env::args(rt) else {
+        return Err(AllocError);
+    };
+    let mut words = Vec::new(alloc);
+    for word in args {
+        words.push(word)?;
+    }
+    Ok(words)
+}
+
+fn texts_of<'a>(alloc: Global, words: &'a [String]) -> Result<Vec<&'a str>, AllocError> {
+    let mut texts = Vec::new(alloc);
+    for word in words {
+        texts.push(word.as_str())?;
+    }
+    Ok(texts)
+}
+
 fn run(rt: &HostRuntime) -> Result<u8, ProgramError> {
     let alloc = rt.alloc();
-    let Ok(args) = env::args(rt) else {
-        return Err(ProgramError::Setup(Failure::OutOfMemory));
-    };
-    let mut owned = Vec::new(alloc);
-    for word in args {
-        owned.push(word)?;
-    }
-    let mut words = Vec::new(alloc);
-    for word in owned.iter() {
-        words.push(word.as_str())?;
-    }
-    match read_arguments(alloc, words.as_slice())? {
-        Request::Query(arguments) => query(rt, alloc, &arguments),
-        Request::Codes => codes(rt, alloc),
+    let words = command_words(rt, alloc)?;
+    let texts = texts_of(alloc, words.as_slice())?;
+    match read_arguments(alloc, texts.as_slice())? {
+        Request::Query(arguments) => Ok(query(rt, alloc, &arguments)?),
+        Request::Codes => Ok(codes(rt, alloc)?),
     }
 }
 

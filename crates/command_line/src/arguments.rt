@@ -1,9 +1,8 @@
 //! The arguments of a command line.
 
-use crate::failure::ProgramError;
+use crate::error::CommandLineError;
 use clap::error::ErrorKind;
 use clap::{Arg, ArgAction, ArgMatches, Command};
-use memory::Failure;
 use std::alloc::{AllocError, Global};
 
 /// The version of the program.
@@ -53,42 +52,50 @@ fn option<'a>(alloc: Global, name: &'a str, value: &'a str, help: &'a str) -> Ar
         .action(ArgAction::Set)
 }
 
-fn with_argument<'a>(
-    command: Command<'a>,
-    argument: Result<Arg<'a>, AllocError>,
-) -> Result<Command<'a>, ProgramError> {
-    Ok(command.arg(argument?)?)
-}
-
-fn query_command<'a>(alloc: Global) -> Result<Command<'a>, ProgramError> {
-    let schema = "The schema text, or - for standard input";
-    let dir = "The folder with a file T.csv for each table T";
-    let command = Command::new(alloc, "query")
-        .about("Writes the reply to a role's query as comma-separated text")
-        .after_help(EXAMPLE)
-        .arg(option(alloc, "schema", "FILE", schema).required(true))?
-        .arg(option(alloc, "dir", "DIR", dir).required(true))?
-        .arg(option(alloc, "role", "NAME", "The role that asks").required(true))?;
+// The arguments that the query's options and its text are read from.
+fn query_words<'a>(alloc: Global) -> Result<Vec<Arg<'a>>, AllocError> {
     let file = option(
         alloc,
         "file",
         "FILE",
         "A file with the query in place of TEXT, or - for standard input",
     );
-    let explain = Arg::new(alloc, "explain-refusal")
+    let file = file.conflicts_with("TEXT")?;
+    let text = Arg::new(alloc, "TEXT")
+        .help("The query; after -- where it starts with a minus")
+        .action(ArgAction::Set);
+    let text = text.required_unless_present("file")?;
+    let schema = "The schema text, or - for standard input";
+    let dir = "The folder with a file T.csv for each table T";
+    let words = [
+        option(alloc, "schema", "FILE", schema).required(true),
+        option(alloc, "dir", "DIR", dir).required(true),
+        option(alloc, "role", "NAME", "The role that asks").required(true),
+        file,
+        explain_refusal(alloc),
+        text,
+    ];
+    Ok(Vec::from_array(alloc, words)?)
+}
+
+fn explain_refusal<'a>(alloc: Global) -> Arg<'a> {
+    Arg::new(alloc, "explain-refusal")
         .long("explain-refusal")
         .help(
             "Says on standard error what a refusal or a denial means, and where it is in the text",
         )
-        .action(ArgAction::SetTrue);
-    let command = with_argument(command, file.conflicts_with("TEXT"))?.arg(explain)?;
-    let text = Arg::new(alloc, "TEXT")
-        .help("The query; after -- where it starts with a minus")
-        .action(ArgAction::Set);
-    with_argument(command, text.required_unless_present("file"))
+        .action(ArgAction::SetTrue)
 }
 
-fn command<'a>(alloc: Global) -> Result<Command<'a>, ProgramError> {
+fn query_command<'a>(alloc: Global) -> Result<Command<'a>, AllocError> {
+    let words = query_words(alloc)?;
+    Command::new(alloc, "query")
+        .about("Writes the reply to a role's query as comma-separated text")
+        .after_help(EXAMPLE)
+        .args(words)
+}
+
+fn command<'a>(alloc: Global) -> Result<Command<'a>, AllocError> {
     let query = query_command(alloc)?;
     let codes = "Lists the codes of refusals and faults with their meaning";
     let program = Command::new(alloc, "rowplan")
@@ -96,9 +103,8 @@ fn command<'a>(alloc: Global) -> Result<Command<'a>, ProgramError> {
         .about("Queries over tables with row security")
         .subcommand_required(true)
         .after_help(EXAMPLE)
-        .subcommand(query)?
-        .subcommand(Command::new(alloc, "codes").about(codes))?;
-    Ok(program)
+        .subcommand(query)?;
+    program.subcommand(Command::new(alloc, "codes").about(codes))
 }
 
 // The query's text or its file, of which one is there, or memory ran out.
@@ -160,16 +166,16 @@ fn request_of<'a>(matches: &ArgMatches<'a>) -> Option<Request<'a>> {
 fn accepted<'a>(
     command: &mut Command<'a>,
     request: Option<Request<'a>>,
-) -> Result<Request<'a>, ProgramError> {
+) -> Result<Request<'a>, CommandLineError> {
     let Some(request) = request else {
-        return Err(ProgramError::Setup(Failure::OutOfMemory));
+        return Err(CommandLineError::OutOfMemory);
     };
     if is_input_twice(&request) {
         let error = command.error(
             ErrorKind::ArgumentConflict,
             "standard input cannot be both the schema and the query",
         )?;
-        return Err(ProgramError::Usage(error));
+        return Err(CommandLineError::Usage(error));
     }
     Ok(request)
 }
@@ -178,7 +184,7 @@ fn accepted<'a>(
 pub fn read_arguments<'a>(
     alloc: Global,
     words: &'a [&'a str],
-) -> Result<Request<'a>, ProgramError> {
+) -> Result<Request<'a>, CommandLineError> {
     let mut command = command(alloc)?;
     let matches = command.try_get_matches_from_mut(words)?;
     accepted(&mut command, request_of(&matches))
