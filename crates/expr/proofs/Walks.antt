@@ -121,6 +121,14 @@ module _ {X : Type 0} (of : bound.BoundExpr → List X) (of_all : bound.BoundExp
     pub case_parts_some : (o : bound.BoundExpr) (mid new : List X) → e ≡ bound.Case offset as_ (bound.Value o) → mid ≡ known ++ of_arms as_ → new ≡ mid ++ of o → new ≡ known ++ of e
     case_parts_some o mid new is m n = n ∙ ap (λ l. l ++ of o) m ∙ append_assoc known (of_arms as_) (of o) ∙ ap (λ l. known ++ l) (sym (ap of is ∙ h.otherwise_some offset as_ o))
 
+-- ---- the parts of two members and of three, after those that are known
+
+pub two_parts : {X : Type 0} (known mid new a a' b : List X) → a ≡ a' → mid ≡ known ++ a → new ≡ mid ++ b → new ≡ known ++ (a' ++ b)
+two_parts known mid new a a' b e m n = rw (n, m, e) (append_assoc known a' b)
+
+pub three_parts : {X : Type 0} (known mid mid' new a a' b b' d : List X) → a ≡ a' → b ≡ b' → mid ≡ known ++ a → mid' ≡ mid ++ b → new ≡ mid' ++ d → new ≡ known ++ (a' ++ (b' ++ d))
+three_parts known mid mid' new a a' b b' d e f m m' n = rw (n, m', m, e, f) (append_assoc (known ++ a') b' d ∙ append_assoc known a' (b' ++ d))
+
 -- ---- a part that is pushed, as it is viewed
 
 pub one_more : {X Z : Type 0} (v : X → Z) (old new : List X) (x : X) (parts : List Z) → new ≡ old ++ x ∷ [] → parts ≡ v x ∷ [] → map v new ≡ map v old ++ parts

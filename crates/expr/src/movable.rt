@@ -9,7 +9,6 @@ use memory::Heap;
 
 /// Whether an expression never faults: it has no arithmetic, no cast and no aggregate.
 #[cycle(movable)]
-#[tactic(auto, using(crate::proofs::Trees::bound_lemmas))]
 pub fn is_movable<A: Heap>(expression: &BoundExpr<A>) -> bool
     ensures { result ≡ movable (bound_expr_of expression.now) }
 {

@@ -1,8 +1,8 @@
-use Rattle.std.proofs.Common.{ap, refl, rules, arith}
-use Rattle.std.proofs.lemmas.Result.{on_ok_weaker}
+use Rattle.std.proofs.Common.{ap, refl, arith}
+use Rattle.std.proofs.lemmas.Result.{IfOk-from_err, on_ok_weaker}
 use Rattle.expr.specs.Aggregates.{aggregates, all_aggregates, arms_aggregates}
 use Rattle.expr.specs.Weights.{weight}
-use Rattle.expr.proofs.Walks.{Gathers, parts_step, parts_over, arm_parts_step, arm_parts_over, case_parts_none, case_parts_some, and_is, or_is, case_none, case_some, case_lighter, exprs_still, arms_still, one_more}
+use Rattle.expr.proofs.Walks.{Gathers, parts_step, parts_over, arm_parts_step, arm_parts_over, case_parts_none, case_parts_some, and_is, or_is, case_none, case_some, case_lighter, exprs_lighter, exprs_still, when_lighter, result_lighter, arms_still, two_parts, three_parts, one_more}
 use Rattle.expr.specs.View.{aggregate_call_of, bound_expr_of}
 use Rattle.expr.proofs.aggregates.+aggregates.Goals as goal
 
@@ -28,13 +28,13 @@ pub push_arms_aggregates-returns : goal.push_arms_aggregates-returns
 push_arms_aggregates-returns g t c = arm_parts_over aggregates all_aggregates arms_aggregates gathers _ _ c.args.arms.now c.loop-arm.arm-index c.loop-arm.invariant.rest (omega (arith, c.loop-arm-test.false))
 
 pub push_aggregates-push_all_aggregates-requires : goal.push_aggregates-push_all_aggregates-requires
-push_aggregates-push_all_aggregates-requires g t c κs within = let w = ap weight (and_is c.args.expression.now c.in-And.offset c.in-And.members c.deref-in-And.result.now c.deref-in-And.ensures.value c.in-And.is) in search rules
+push_aggregates-push_all_aggregates-requires g t c κs within = let w = ap weight (and_is c.args.expression.now c.in-And.offset c.in-And.members c.deref-in-And.result.now c.deref-in-And.ensures.value c.in-And.is) in (omega (arith, c.decreases, w), within)
 
 pub push_aggregates-push_all_aggregates-requires-in-Or : goal.push_aggregates-push_all_aggregates-requires-in-Or
-push_aggregates-push_all_aggregates-requires-in-Or g t c κs within = let w = ap weight (or_is c.args.expression.now c.in-Or.offset c.in-Or.members c.deref-in-Or.result.now c.deref-in-Or.ensures.value c.in-Or.is) in search rules
+push_aggregates-push_all_aggregates-requires-in-Or g t c κs within = let w = ap weight (or_is c.args.expression.now c.in-Or.offset c.in-Or.members c.deref-in-Or.result.now c.deref-in-Or.ensures.value c.in-Or.is) in (omega (arith, c.decreases, w), within)
 
 pub push_aggregates-push_arms_aggregates-requires : goal.push_aggregates-push_arms_aggregates-requires
-push_aggregates-push_arms_aggregates-requires g t c κs within = let h = case_lighter c.args.expression.now c.in-Case.offset c.in-Case.arms c.deref-in-Case.result.now c.deref-in-Case.ensures.value c.in-Case.otherwise c.in-Case.is in search rules
+push_aggregates-push_arms_aggregates-requires g t c κs within = let w = case_lighter c.args.expression.now c.in-Case.offset c.in-Case.arms c.deref-in-Case.result.now c.deref-in-Case.ensures.value c.in-Case.otherwise c.in-Case.is in (omega (arith, c.decreases, w), within)
 
 pub push_aggregates-returns-in-And : goal.push_aggregates-returns-in-And
 push_aggregates-returns-in-And g t c = rw (and_is c.args.expression.now c.in-And.offset c.in-And.members c.deref-in-And.result.now c.deref-in-And.ensures.value c.in-And.is) c.push_all_aggregates.ensures
@@ -55,43 +55,109 @@ push_aggregates-returns-in-None g t c =
     c.in_ok-push_arms_aggregates-in-Case.ensures
 
 pub push_aggregates-push_aggregates-requires : goal.push_aggregates-push_aggregates-requires
-push_aggregates-push_aggregates-requires g t c κs within = let w = ap weight (ap bound_expr_of c.in-Negate.is) in search rules
+push_aggregates-push_aggregates-requires g t c κs within = let w = ap weight (ap bound_expr_of c.in-Negate.is) in let e = ap (λ e. weight (bound_expr_of e)) c.deref.ensures in (omega (arith, c.decreases, w, e), within)
 
 pub push_aggregates-push_aggregates-requires-in-Arithmetic : goal.push_aggregates-push_aggregates-requires-in-Arithmetic
-push_aggregates-push_aggregates-requires-in-Arithmetic g t c κs within = let w = ap weight (ap bound_expr_of c.in-Arithmetic.is) in search rules
+push_aggregates-push_aggregates-requires-in-Arithmetic g t c κs within = let w = ap weight (ap bound_expr_of c.in-Arithmetic.is) in let e = ap (λ e. weight (bound_expr_of e)) c.deref-in-Arithmetic.ensures in (omega (arith, c.decreases, w, e), within)
 
 pub push_aggregates-push_aggregates-requires-in-Arithmetic-2 : goal.push_aggregates-push_aggregates-requires-in-Arithmetic-2
-push_aggregates-push_aggregates-requires-in-Arithmetic-2 g t c κs within = let w = ap weight (ap bound_expr_of c.in-Arithmetic.is) in search rules
+push_aggregates-push_aggregates-requires-in-Arithmetic-2 g t c κs within = let w = ap weight (ap bound_expr_of c.in-Arithmetic.is) in let e = ap (λ e. weight (bound_expr_of e)) c.deref-in-Arithmetic-2.ensures in (omega (arith, c.decreases, w, e), within)
 
 pub push_aggregates-push_aggregates-requires-in-Comparison : goal.push_aggregates-push_aggregates-requires-in-Comparison
-push_aggregates-push_aggregates-requires-in-Comparison g t c κs within = let w = ap weight (ap bound_expr_of c.in-Comparison.is) in search rules
+push_aggregates-push_aggregates-requires-in-Comparison g t c κs within = let w = ap weight (ap bound_expr_of c.in-Comparison.is) in let e = ap (λ e. weight (bound_expr_of e)) c.deref-in-Comparison.ensures in (omega (arith, c.decreases, w, e), within)
 
 pub push_aggregates-push_aggregates-requires-in-Comparison-2 : goal.push_aggregates-push_aggregates-requires-in-Comparison-2
-push_aggregates-push_aggregates-requires-in-Comparison-2 g t c κs within = let w = ap weight (ap bound_expr_of c.in-Comparison.is) in search rules
+push_aggregates-push_aggregates-requires-in-Comparison-2 g t c κs within = let w = ap weight (ap bound_expr_of c.in-Comparison.is) in let e = ap (λ e. weight (bound_expr_of e)) c.deref-in-Comparison-2.ensures in (omega (arith, c.decreases, w, e), within)
 
 pub push_aggregates-push_aggregates-requires-in-Between : goal.push_aggregates-push_aggregates-requires-in-Between
-push_aggregates-push_aggregates-requires-in-Between g t c κs within = let w = ap weight (ap bound_expr_of c.in-Between.is) in search rules
+push_aggregates-push_aggregates-requires-in-Between g t c κs within = let w = ap weight (ap bound_expr_of c.in-Between.is) in let e = ap (λ e. weight (bound_expr_of e)) c.deref-in-Between.ensures in (omega (arith, c.decreases, w, e), within)
 
 pub push_aggregates-push_aggregates-requires-in-Between-2 : goal.push_aggregates-push_aggregates-requires-in-Between-2
-push_aggregates-push_aggregates-requires-in-Between-2 g t c κs within = let w = ap weight (ap bound_expr_of c.in-Between.is) in search rules
+push_aggregates-push_aggregates-requires-in-Between-2 g t c κs within = let w = ap weight (ap bound_expr_of c.in-Between.is) in let e = ap (λ e. weight (bound_expr_of e)) c.deref-in-Between-2.ensures in (omega (arith, c.decreases, w, e), within)
 
 pub push_aggregates-push_aggregates-requires-in-Between-3 : goal.push_aggregates-push_aggregates-requires-in-Between-3
-push_aggregates-push_aggregates-requires-in-Between-3 g t c κs within = let w = ap weight (ap bound_expr_of c.in-Between.is) in search rules
+push_aggregates-push_aggregates-requires-in-Between-3 g t c κs within = let w = ap weight (ap bound_expr_of c.in-Between.is) in let e = ap (λ e. weight (bound_expr_of e)) c.deref-in-Between-3.ensures in (omega (arith, c.decreases, w, e), within)
 
 pub push_aggregates-push_aggregates-requires-in-In : goal.push_aggregates-push_aggregates-requires-in-In
-push_aggregates-push_aggregates-requires-in-In g t c κs within = let w = ap weight (ap bound_expr_of c.in-In.is) in search rules
+push_aggregates-push_aggregates-requires-in-In g t c κs within = let w = ap weight (ap bound_expr_of c.in-In.is) in let e = ap (λ e. weight (bound_expr_of e)) c.deref-in-In.ensures in (omega (arith, c.decreases, w, e), within)
 
 pub push_aggregates-push_aggregates-requires-in-IsNull : goal.push_aggregates-push_aggregates-requires-in-IsNull
-push_aggregates-push_aggregates-requires-in-IsNull g t c κs within = let w = ap weight (ap bound_expr_of c.in-IsNull.is) in search rules
+push_aggregates-push_aggregates-requires-in-IsNull g t c κs within = let w = ap weight (ap bound_expr_of c.in-IsNull.is) in let e = ap (λ e. weight (bound_expr_of e)) c.deref-in-IsNull.ensures in (omega (arith, c.decreases, w, e), within)
 
 pub push_aggregates-push_aggregates-requires-in-Not : goal.push_aggregates-push_aggregates-requires-in-Not
-push_aggregates-push_aggregates-requires-in-Not g t c κs within = let w = ap weight (ap bound_expr_of c.in-Not.is) in search rules
+push_aggregates-push_aggregates-requires-in-Not g t c κs within = let w = ap weight (ap bound_expr_of c.in-Not.is) in let e = ap (λ e. weight (bound_expr_of e)) c.deref-in-Not.ensures in (omega (arith, c.decreases, w, e), within)
 
 pub push_aggregates-push_aggregates-requires-in-Cast : goal.push_aggregates-push_aggregates-requires-in-Cast
-push_aggregates-push_aggregates-requires-in-Cast g t c κs within = let w = ap weight (ap bound_expr_of c.in-Cast.is) in search rules
+push_aggregates-push_aggregates-requires-in-Cast g t c κs within = let w = ap weight (ap bound_expr_of c.in-Cast.is) in let e = ap (λ e. weight (bound_expr_of e)) c.deref-in-Cast.ensures in (omega (arith, c.decreases, w, e), within)
 
 pub push_aggregates-returns-in-CountStar : goal.push_aggregates-returns-in-CountStar
 push_aggregates-returns-in-CountStar g t c = on_ok_weaker c.push.result (λ n. one_more (λ x. aggregate_call_of x) _ _ _ _ n (ap aggregates (ap bound_expr_of c.in-CountStar.is))) c.push.ensures.ok
 
 pub push_aggregates-returns-in-Call : goal.push_aggregates-returns-in-Call
 push_aggregates-returns-in-Call g t c = on_ok_weaker c.push-in-Call.result (λ n. one_more (λ x. aggregate_call_of x) _ _ _ _ n (rw c.deref-in-Call.ensures (ap aggregates (ap bound_expr_of c.in-Call.is)))) c.push-in-Call.ensures.ok
+
+pub push_all_aggregates-loop-member-smaller : goal.push_all_aggregates-loop-member-smaller
+push_all_aggregates-loop-member-smaller g t c = omega (arith, c.loop-member-test.true)
+
+pub push_arms_aggregates-loop-arm-smaller : goal.push_arms_aggregates-loop-arm-smaller
+push_arms_aggregates-loop-arm-smaller g t c = omega (arith, c.loop-arm-test.true)
+
+pub push_aggregates-returns-in-Negate : goal.push_aggregates-returns-in-Negate
+push_aggregates-returns-in-Negate g t c = rw (ap bound_expr_of c.in-Negate.is) (rw c.deref.ensures at c.push_aggregates.ensures)
+
+pub push_aggregates-returns-in-In : goal.push_aggregates-returns-in-In
+push_aggregates-returns-in-In g t c = rw (ap bound_expr_of c.in-In.is) (rw c.deref-in-In.ensures at c.push_aggregates-in-In.ensures)
+
+pub push_aggregates-returns-in-IsNull : goal.push_aggregates-returns-in-IsNull
+push_aggregates-returns-in-IsNull g t c = rw (ap bound_expr_of c.in-IsNull.is) (rw c.deref-in-IsNull.ensures at c.push_aggregates-in-IsNull.ensures)
+
+pub push_aggregates-returns-in-Not : goal.push_aggregates-returns-in-Not
+push_aggregates-returns-in-Not g t c = rw (ap bound_expr_of c.in-Not.is) (rw c.deref-in-Not.ensures at c.push_aggregates-in-Not.ensures)
+
+pub push_aggregates-returns-in-Cast : goal.push_aggregates-returns-in-Cast
+push_aggregates-returns-in-Cast g t c = rw (ap bound_expr_of c.in-Cast.is) (rw c.deref-in-Cast.ensures at c.push_aggregates-in-Cast.ensures)
+
+pub push_aggregates-returns-in_ok-push_aggregates-in-Arithmetic : goal.push_aggregates-returns-in_ok-push_aggregates-in-Arithmetic
+push_aggregates-returns-in_ok-push_aggregates-in-Arithmetic g t c = rw (ap bound_expr_of c.in-Arithmetic.is) (on_ok_weaker c.push_aggregates-in-Arithmetic-2.result (two_parts _ _ _ _ _ _ (ap (λ e. aggregates (bound_expr_of e)) c.deref-in-Arithmetic.ensures) c.in_ok-push_aggregates-in-Arithmetic.ensures) (rw c.deref-in-Arithmetic-2.ensures at c.push_aggregates-in-Arithmetic-2.ensures))
+
+pub push_aggregates-returns-in_ok-push_aggregates-in-Comparison : goal.push_aggregates-returns-in_ok-push_aggregates-in-Comparison
+push_aggregates-returns-in_ok-push_aggregates-in-Comparison g t c = rw (ap bound_expr_of c.in-Comparison.is) (on_ok_weaker c.push_aggregates-in-Comparison-2.result (two_parts _ _ _ _ _ _ (ap (λ e. aggregates (bound_expr_of e)) c.deref-in-Comparison.ensures) c.in_ok-push_aggregates-in-Comparison.ensures) (rw c.deref-in-Comparison-2.ensures at c.push_aggregates-in-Comparison-2.ensures))
+
+pub push_aggregates-returns-in_ok-push_aggregates-in-Between-2 : goal.push_aggregates-returns-in_ok-push_aggregates-in-Between-2
+push_aggregates-returns-in_ok-push_aggregates-in-Between-2 g t c = rw (ap bound_expr_of c.in-Between.is) (on_ok_weaker c.push_aggregates-in-Between-3.result (three_parts _ _ _ _ _ _ _ _ _ (ap (λ e. aggregates (bound_expr_of e)) c.deref-in-Between.ensures) (ap (λ e. aggregates (bound_expr_of e)) c.deref-in-Between-2.ensures) c.in_ok-push_aggregates-in-Between.ensures c.in_ok-push_aggregates-in-Between-2.ensures) (rw c.deref-in-Between-3.ensures at c.push_aggregates-in-Between-3.ensures))
+
+pub push_aggregates-returns-in_err-push_aggregates-in-Arithmetic : goal.push_aggregates-returns-in_err-push_aggregates-in-Arithmetic
+push_aggregates-returns-in_err-push_aggregates-in-Arithmetic g t c = IfOk-from_err c.from_residual.result _ c.from_residual.ensures.0
+
+pub push_aggregates-returns-in_err-push_aggregates-in-Comparison : goal.push_aggregates-returns-in_err-push_aggregates-in-Comparison
+push_aggregates-returns-in_err-push_aggregates-in-Comparison g t c = IfOk-from_err c.from_residual-in_err-push_aggregates-in-Comparison.result _ c.from_residual-in_err-push_aggregates-in-Comparison.ensures.0
+
+pub push_aggregates-returns-in_err-push_aggregates-in-Between : goal.push_aggregates-returns-in_err-push_aggregates-in-Between
+push_aggregates-returns-in_err-push_aggregates-in-Between g t c = IfOk-from_err c.from_residual-in_err-push_aggregates-in-Between.result _ c.from_residual-in_err-push_aggregates-in-Between.ensures.0
+
+pub push_aggregates-returns-in_err-push_aggregates-in-Between-2 : goal.push_aggregates-returns-in_err-push_aggregates-in-Between-2
+push_aggregates-returns-in_err-push_aggregates-in-Between-2 g t c = IfOk-from_err c.from_residual-in_err-push_aggregates-in-Between-2.result _ c.from_residual-in_err-push_aggregates-in-Between-2.ensures.0
+
+pub push_aggregates-returns-in_err-push_arms_aggregates-in-Case : goal.push_aggregates-returns-in_err-push_arms_aggregates-in-Case
+push_aggregates-returns-in_err-push_arms_aggregates-in-Case g t c = IfOk-from_err c.from_residual-in_err-push_arms_aggregates-in-Case.result _ c.from_residual-in_err-push_arms_aggregates-in-Case.ensures.0
+
+pub push_all_aggregates-returns-in_err-push_aggregates : goal.push_all_aggregates-returns-in_err-push_aggregates
+push_all_aggregates-returns-in_err-push_aggregates g t c = IfOk-from_err c.from_residual.result _ c.from_residual.ensures.0
+
+pub push_arms_aggregates-returns-in_err-push_aggregates : goal.push_arms_aggregates-returns-in_err-push_aggregates
+push_arms_aggregates-returns-in_err-push_aggregates g t c = IfOk-from_err c.from_residual.result _ c.from_residual.ensures.0
+
+pub push_arms_aggregates-returns-in_err-push_aggregates-2 : goal.push_arms_aggregates-returns-in_err-push_aggregates-2
+push_arms_aggregates-returns-in_err-push_aggregates-2 g t c = IfOk-from_err c.from_residual-in_err-push_aggregates-2.result _ c.from_residual-in_err-push_aggregates-2.ensures.0
+
+pub push_aggregates-push_aggregates-requires-in-Some : goal.push_aggregates-push_aggregates-requires-in-Some
+push_aggregates-push_aggregates-requires-in-Some g t c κs within = let w = ap weight (case_some c.args.expression.now c.in-Case.offset c.in-Case.arms c.deref-in-Case.result.now c.deref-in-Case.ensures.value c.in-Case.otherwise c.in-Case.is c.in-Some.value c.in-Some.is) in let e = ap (λ e. weight (bound_expr_of e)) c.deref-in-Some.ensures in (omega (arith, c.decreases, w, e), within)
+
+pub push_all_aggregates-push_aggregates-requires : goal.push_all_aggregates-push_aggregates-requires
+push_all_aggregates-push_aggregates-requires g t c κs within = let w = exprs_lighter c.args.members.now c.loop-member.member-index c.member-item.result c.loop-member-test.true c.member-item.is c.loop-member.invariant.lighter in (omega (arith, c.decreases, w), within)
+
+pub push_arms_aggregates-push_aggregates-requires : goal.push_arms_aggregates-push_aggregates-requires
+push_arms_aggregates-push_aggregates-requires g t c κs within = let w = when_lighter c.args.arms.now c.loop-arm.arm-index c.arm-item.result c.loop-arm-test.true c.arm-item.is c.loop-arm.invariant.lighter in (omega (arith, c.decreases, w), within)
+
+pub push_arms_aggregates-push_aggregates-requires-in-loop-arm : goal.push_arms_aggregates-push_aggregates-requires-in-loop-arm
+push_arms_aggregates-push_aggregates-requires-in-loop-arm g t c κs within = let w = result_lighter c.args.arms.now c.loop-arm.arm-index c.arm-item.result c.loop-arm-test.true c.arm-item.is c.loop-arm.invariant.lighter in (omega (arith, c.decreases, w), within)

@@ -1,8 +1,8 @@
-use Rattle.std.proofs.Common.{ap, refl, rules, arith}
-use Rattle.std.proofs.lemmas.Result.{on_ok_weaker}
+use Rattle.std.proofs.Common.{ap, refl, arith}
+use Rattle.std.proofs.lemmas.Result.{IfOk-from_err, on_ok_weaker}
 use Rattle.expr.specs.Columns.{columns, all_columns, arms_columns}
 use Rattle.expr.specs.Weights.{weight}
-use Rattle.expr.proofs.Walks.{Gathers, parts_step, parts_over, arm_parts_step, arm_parts_over, case_parts_none, case_parts_some, and_is, or_is, case_none, case_some, case_lighter, exprs_still, arms_still}
+use Rattle.expr.proofs.Walks.{Gathers, parts_step, parts_over, arm_parts_step, arm_parts_over, case_parts_none, case_parts_some, and_is, or_is, case_none, case_some, case_lighter, exprs_lighter, exprs_still, when_lighter, result_lighter, arms_still, two_parts, three_parts}
 use Rattle.expr.specs.View.{bound_expr_of}
 use Rattle.expr.proofs.columns.+columns.Goals as goal
 
@@ -28,13 +28,13 @@ pub push_arms_columns-returns : goal.push_arms_columns-returns
 push_arms_columns-returns g t c = arm_parts_over columns all_columns arms_columns gathers _ _ c.args.arms.now c.loop-arm.arm-index c.loop-arm.invariant.rest (omega (arith, c.loop-arm-test.false))
 
 pub push_columns-push_all_columns-requires : goal.push_columns-push_all_columns-requires
-push_columns-push_all_columns-requires g t c κs within = let w = ap weight (and_is c.args.expression.now c.in-And.offset c.in-And.members c.deref-in-And.result.now c.deref-in-And.ensures.value c.in-And.is) in search rules
+push_columns-push_all_columns-requires g t c κs within = let w = ap weight (and_is c.args.expression.now c.in-And.offset c.in-And.members c.deref-in-And.result.now c.deref-in-And.ensures.value c.in-And.is) in (omega (arith, c.decreases, w), within)
 
 pub push_columns-push_all_columns-requires-in-Or : goal.push_columns-push_all_columns-requires-in-Or
-push_columns-push_all_columns-requires-in-Or g t c κs within = let w = ap weight (or_is c.args.expression.now c.in-Or.offset c.in-Or.members c.deref-in-Or.result.now c.deref-in-Or.ensures.value c.in-Or.is) in search rules
+push_columns-push_all_columns-requires-in-Or g t c κs within = let w = ap weight (or_is c.args.expression.now c.in-Or.offset c.in-Or.members c.deref-in-Or.result.now c.deref-in-Or.ensures.value c.in-Or.is) in (omega (arith, c.decreases, w), within)
 
 pub push_columns-push_arms_columns-requires : goal.push_columns-push_arms_columns-requires
-push_columns-push_arms_columns-requires g t c κs within = let h = case_lighter c.args.expression.now c.in-Case.offset c.in-Case.arms c.deref-in-Case.result.now c.deref-in-Case.ensures.value c.in-Case.otherwise c.in-Case.is in search rules
+push_columns-push_arms_columns-requires g t c κs within = let w = case_lighter c.args.expression.now c.in-Case.offset c.in-Case.arms c.deref-in-Case.result.now c.deref-in-Case.ensures.value c.in-Case.otherwise c.in-Case.is in (omega (arith, c.decreases, w), within)
 
 pub push_columns-returns-in-And : goal.push_columns-returns-in-And
 push_columns-returns-in-And g t c = rw (and_is c.args.expression.now c.in-And.offset c.in-And.members c.deref-in-And.result.now c.deref-in-And.ensures.value c.in-And.is) c.push_all_columns.ensures
@@ -55,43 +55,112 @@ push_columns-returns-in-None g t c =
     c.in_ok-push_arms_columns-in-Case.ensures
 
 pub push_columns-push_columns-requires : goal.push_columns-push_columns-requires
-push_columns-push_columns-requires g t c κs within = let w = ap weight (ap bound_expr_of c.in-Negate.is) in search rules
+push_columns-push_columns-requires g t c κs within = let w = ap weight (ap bound_expr_of c.in-Negate.is) in let e = ap (λ e. weight (bound_expr_of e)) c.deref.ensures in (omega (arith, c.decreases, w, e), within)
 
 pub push_columns-push_columns-requires-in-Arithmetic : goal.push_columns-push_columns-requires-in-Arithmetic
-push_columns-push_columns-requires-in-Arithmetic g t c κs within = let w = ap weight (ap bound_expr_of c.in-Arithmetic.is) in search rules
+push_columns-push_columns-requires-in-Arithmetic g t c κs within = let w = ap weight (ap bound_expr_of c.in-Arithmetic.is) in let e = ap (λ e. weight (bound_expr_of e)) c.deref-in-Arithmetic.ensures in (omega (arith, c.decreases, w, e), within)
 
 pub push_columns-push_columns-requires-in-Arithmetic-2 : goal.push_columns-push_columns-requires-in-Arithmetic-2
-push_columns-push_columns-requires-in-Arithmetic-2 g t c κs within = let w = ap weight (ap bound_expr_of c.in-Arithmetic.is) in search rules
+push_columns-push_columns-requires-in-Arithmetic-2 g t c κs within = let w = ap weight (ap bound_expr_of c.in-Arithmetic.is) in let e = ap (λ e. weight (bound_expr_of e)) c.deref-in-Arithmetic-2.ensures in (omega (arith, c.decreases, w, e), within)
 
 pub push_columns-push_columns-requires-in-Comparison : goal.push_columns-push_columns-requires-in-Comparison
-push_columns-push_columns-requires-in-Comparison g t c κs within = let w = ap weight (ap bound_expr_of c.in-Comparison.is) in search rules
+push_columns-push_columns-requires-in-Comparison g t c κs within = let w = ap weight (ap bound_expr_of c.in-Comparison.is) in let e = ap (λ e. weight (bound_expr_of e)) c.deref-in-Comparison.ensures in (omega (arith, c.decreases, w, e), within)
 
 pub push_columns-push_columns-requires-in-Comparison-2 : goal.push_columns-push_columns-requires-in-Comparison-2
-push_columns-push_columns-requires-in-Comparison-2 g t c κs within = let w = ap weight (ap bound_expr_of c.in-Comparison.is) in search rules
+push_columns-push_columns-requires-in-Comparison-2 g t c κs within = let w = ap weight (ap bound_expr_of c.in-Comparison.is) in let e = ap (λ e. weight (bound_expr_of e)) c.deref-in-Comparison-2.ensures in (omega (arith, c.decreases, w, e), within)
 
 pub push_columns-push_columns-requires-in-Between : goal.push_columns-push_columns-requires-in-Between
-push_columns-push_columns-requires-in-Between g t c κs within = let w = ap weight (ap bound_expr_of c.in-Between.is) in search rules
+push_columns-push_columns-requires-in-Between g t c κs within = let w = ap weight (ap bound_expr_of c.in-Between.is) in let e = ap (λ e. weight (bound_expr_of e)) c.deref-in-Between.ensures in (omega (arith, c.decreases, w, e), within)
 
 pub push_columns-push_columns-requires-in-Between-2 : goal.push_columns-push_columns-requires-in-Between-2
-push_columns-push_columns-requires-in-Between-2 g t c κs within = let w = ap weight (ap bound_expr_of c.in-Between.is) in search rules
+push_columns-push_columns-requires-in-Between-2 g t c κs within = let w = ap weight (ap bound_expr_of c.in-Between.is) in let e = ap (λ e. weight (bound_expr_of e)) c.deref-in-Between-2.ensures in (omega (arith, c.decreases, w, e), within)
 
 pub push_columns-push_columns-requires-in-Between-3 : goal.push_columns-push_columns-requires-in-Between-3
-push_columns-push_columns-requires-in-Between-3 g t c κs within = let w = ap weight (ap bound_expr_of c.in-Between.is) in search rules
+push_columns-push_columns-requires-in-Between-3 g t c κs within = let w = ap weight (ap bound_expr_of c.in-Between.is) in let e = ap (λ e. weight (bound_expr_of e)) c.deref-in-Between-3.ensures in (omega (arith, c.decreases, w, e), within)
 
 pub push_columns-push_columns-requires-in-In : goal.push_columns-push_columns-requires-in-In
-push_columns-push_columns-requires-in-In g t c κs within = let w = ap weight (ap bound_expr_of c.in-In.is) in search rules
+push_columns-push_columns-requires-in-In g t c κs within = let w = ap weight (ap bound_expr_of c.in-In.is) in let e = ap (λ e. weight (bound_expr_of e)) c.deref-in-In.ensures in (omega (arith, c.decreases, w, e), within)
 
 pub push_columns-push_columns-requires-in-IsNull : goal.push_columns-push_columns-requires-in-IsNull
-push_columns-push_columns-requires-in-IsNull g t c κs within = let w = ap weight (ap bound_expr_of c.in-IsNull.is) in search rules
+push_columns-push_columns-requires-in-IsNull g t c κs within = let w = ap weight (ap bound_expr_of c.in-IsNull.is) in let e = ap (λ e. weight (bound_expr_of e)) c.deref-in-IsNull.ensures in (omega (arith, c.decreases, w, e), within)
 
 pub push_columns-push_columns-requires-in-Not : goal.push_columns-push_columns-requires-in-Not
-push_columns-push_columns-requires-in-Not g t c κs within = let w = ap weight (ap bound_expr_of c.in-Not.is) in search rules
+push_columns-push_columns-requires-in-Not g t c κs within = let w = ap weight (ap bound_expr_of c.in-Not.is) in let e = ap (λ e. weight (bound_expr_of e)) c.deref-in-Not.ensures in (omega (arith, c.decreases, w, e), within)
 
 pub push_columns-push_columns-requires-in-Cast : goal.push_columns-push_columns-requires-in-Cast
-push_columns-push_columns-requires-in-Cast g t c κs within = let w = ap weight (ap bound_expr_of c.in-Cast.is) in search rules
+push_columns-push_columns-requires-in-Cast g t c κs within = let w = ap weight (ap bound_expr_of c.in-Cast.is) in let e = ap (λ e. weight (bound_expr_of e)) c.deref-in-Cast.ensures in (omega (arith, c.decreases, w, e), within)
 
 pub push_columns-push_columns-requires-in-Call : goal.push_columns-push_columns-requires-in-Call
-push_columns-push_columns-requires-in-Call g t c κs within = let w = ap weight (ap bound_expr_of c.in-Call.is) in search rules
+push_columns-push_columns-requires-in-Call g t c κs within = let w = ap weight (ap bound_expr_of c.in-Call.is) in let e = ap (λ e. weight (bound_expr_of e)) c.deref-in-Call.ensures in (omega (arith, c.decreases, w, e), within)
 
 pub push_columns-returns-in-Column : goal.push_columns-returns-in-Column
 push_columns-returns-in-Column g t c = rw (ap bound_expr_of c.in-Column.is) c.push.ensures.ok
+
+pub push_all_columns-loop-member-smaller : goal.push_all_columns-loop-member-smaller
+push_all_columns-loop-member-smaller g t c = omega (arith, c.loop-member-test.true)
+
+pub push_arms_columns-loop-arm-smaller : goal.push_arms_columns-loop-arm-smaller
+push_arms_columns-loop-arm-smaller g t c = omega (arith, c.loop-arm-test.true)
+
+pub push_columns-returns-in-Negate : goal.push_columns-returns-in-Negate
+push_columns-returns-in-Negate g t c = rw (ap bound_expr_of c.in-Negate.is) (rw c.deref.ensures at c.push_columns.ensures)
+
+pub push_columns-returns-in-In : goal.push_columns-returns-in-In
+push_columns-returns-in-In g t c = rw (ap bound_expr_of c.in-In.is) (rw c.deref-in-In.ensures at c.push_columns-in-In.ensures)
+
+pub push_columns-returns-in-IsNull : goal.push_columns-returns-in-IsNull
+push_columns-returns-in-IsNull g t c = rw (ap bound_expr_of c.in-IsNull.is) (rw c.deref-in-IsNull.ensures at c.push_columns-in-IsNull.ensures)
+
+pub push_columns-returns-in-Not : goal.push_columns-returns-in-Not
+push_columns-returns-in-Not g t c = rw (ap bound_expr_of c.in-Not.is) (rw c.deref-in-Not.ensures at c.push_columns-in-Not.ensures)
+
+pub push_columns-returns-in-Cast : goal.push_columns-returns-in-Cast
+push_columns-returns-in-Cast g t c = rw (ap bound_expr_of c.in-Cast.is) (rw c.deref-in-Cast.ensures at c.push_columns-in-Cast.ensures)
+
+pub push_columns-returns-in-Call : goal.push_columns-returns-in-Call
+push_columns-returns-in-Call g t c = rw (ap bound_expr_of c.in-Call.is) (rw c.deref-in-Call.ensures at c.push_columns-in-Call.ensures)
+
+pub push_columns-returns-in_ok-push_columns-in-Arithmetic : goal.push_columns-returns-in_ok-push_columns-in-Arithmetic
+push_columns-returns-in_ok-push_columns-in-Arithmetic g t c = rw (ap bound_expr_of c.in-Arithmetic.is) (on_ok_weaker c.push_columns-in-Arithmetic-2.result (two_parts _ _ _ _ _ _ (ap (λ e. columns (bound_expr_of e)) c.deref-in-Arithmetic.ensures) c.in_ok-push_columns-in-Arithmetic.ensures) (rw c.deref-in-Arithmetic-2.ensures at c.push_columns-in-Arithmetic-2.ensures))
+
+pub push_columns-returns-in_ok-push_columns-in-Comparison : goal.push_columns-returns-in_ok-push_columns-in-Comparison
+push_columns-returns-in_ok-push_columns-in-Comparison g t c = rw (ap bound_expr_of c.in-Comparison.is) (on_ok_weaker c.push_columns-in-Comparison-2.result (two_parts _ _ _ _ _ _ (ap (λ e. columns (bound_expr_of e)) c.deref-in-Comparison.ensures) c.in_ok-push_columns-in-Comparison.ensures) (rw c.deref-in-Comparison-2.ensures at c.push_columns-in-Comparison-2.ensures))
+
+pub push_columns-returns-in_ok-push_columns-in-Between-2 : goal.push_columns-returns-in_ok-push_columns-in-Between-2
+push_columns-returns-in_ok-push_columns-in-Between-2 g t c = rw (ap bound_expr_of c.in-Between.is) (on_ok_weaker c.push_columns-in-Between-3.result (three_parts _ _ _ _ _ _ _ _ _ (ap (λ e. columns (bound_expr_of e)) c.deref-in-Between.ensures) (ap (λ e. columns (bound_expr_of e)) c.deref-in-Between-2.ensures) c.in_ok-push_columns-in-Between.ensures c.in_ok-push_columns-in-Between-2.ensures) (rw c.deref-in-Between-3.ensures at c.push_columns-in-Between-3.ensures))
+
+pub push_columns-returns-in_err-push_columns-in-Arithmetic : goal.push_columns-returns-in_err-push_columns-in-Arithmetic
+push_columns-returns-in_err-push_columns-in-Arithmetic g t c = IfOk-from_err c.from_residual.result _ c.from_residual.ensures.0
+
+pub push_columns-returns-in_err-push_columns-in-Comparison : goal.push_columns-returns-in_err-push_columns-in-Comparison
+push_columns-returns-in_err-push_columns-in-Comparison g t c = IfOk-from_err c.from_residual-in_err-push_columns-in-Comparison.result _ c.from_residual-in_err-push_columns-in-Comparison.ensures.0
+
+pub push_columns-returns-in_err-push_columns-in-Between : goal.push_columns-returns-in_err-push_columns-in-Between
+push_columns-returns-in_err-push_columns-in-Between g t c = IfOk-from_err c.from_residual-in_err-push_columns-in-Between.result _ c.from_residual-in_err-push_columns-in-Between.ensures.0
+
+pub push_columns-returns-in_err-push_columns-in-Between-2 : goal.push_columns-returns-in_err-push_columns-in-Between-2
+push_columns-returns-in_err-push_columns-in-Between-2 g t c = IfOk-from_err c.from_residual-in_err-push_columns-in-Between-2.result _ c.from_residual-in_err-push_columns-in-Between-2.ensures.0
+
+pub push_columns-returns-in_err-push_arms_columns-in-Case : goal.push_columns-returns-in_err-push_arms_columns-in-Case
+push_columns-returns-in_err-push_arms_columns-in-Case g t c = IfOk-from_err c.from_residual-in_err-push_arms_columns-in-Case.result _ c.from_residual-in_err-push_arms_columns-in-Case.ensures.0
+
+pub push_all_columns-returns-in_err-push_columns : goal.push_all_columns-returns-in_err-push_columns
+push_all_columns-returns-in_err-push_columns g t c = IfOk-from_err c.from_residual.result _ c.from_residual.ensures.0
+
+pub push_arms_columns-returns-in_err-push_columns : goal.push_arms_columns-returns-in_err-push_columns
+push_arms_columns-returns-in_err-push_columns g t c = IfOk-from_err c.from_residual.result _ c.from_residual.ensures.0
+
+pub push_arms_columns-returns-in_err-push_columns-2 : goal.push_arms_columns-returns-in_err-push_columns-2
+push_arms_columns-returns-in_err-push_columns-2 g t c = IfOk-from_err c.from_residual-in_err-push_columns-2.result _ c.from_residual-in_err-push_columns-2.ensures.0
+
+pub push_columns-push_columns-requires-in-Some : goal.push_columns-push_columns-requires-in-Some
+push_columns-push_columns-requires-in-Some g t c κs within = let w = ap weight (case_some c.args.expression.now c.in-Case.offset c.in-Case.arms c.deref-in-Case.result.now c.deref-in-Case.ensures.value c.in-Case.otherwise c.in-Case.is c.in-Some.value c.in-Some.is) in let e = ap (λ e. weight (bound_expr_of e)) c.deref-in-Some.ensures in (omega (arith, c.decreases, w, e), within)
+
+pub push_all_columns-push_columns-requires : goal.push_all_columns-push_columns-requires
+push_all_columns-push_columns-requires g t c κs within = let w = exprs_lighter c.args.members.now c.loop-member.member-index c.member-item.result c.loop-member-test.true c.member-item.is c.loop-member.invariant.lighter in (omega (arith, c.decreases, w), within)
+
+pub push_arms_columns-push_columns-requires : goal.push_arms_columns-push_columns-requires
+push_arms_columns-push_columns-requires g t c κs within = let w = when_lighter c.args.arms.now c.loop-arm.arm-index c.arm-item.result c.loop-arm-test.true c.arm-item.is c.loop-arm.invariant.lighter in (omega (arith, c.decreases, w), within)
+
+pub push_arms_columns-push_columns-requires-in-loop-arm : goal.push_arms_columns-push_columns-requires-in-loop-arm
+push_arms_columns-push_columns-requires-in-loop-arm g t c κs within = let w = result_lighter c.args.arms.now c.loop-arm.arm-index c.arm-item.result c.loop-arm-test.true c.arm-item.is c.loop-arm.invariant.lighter in (omega (arith, c.decreases, w), within)

@@ -1,4 +1,5 @@
 use Rattle.std.proofs.Common.{ap, map}
+use Rattle.std.proofs.lemmas.Result.{err_from_is_err_and}
 use Rattle.value.specs.Datum.{row_of}
 use Rattle.groups.specs.View.{group_row_of}
 use Rattle.stages.proofs.Going.{stage_start, stage_next}
@@ -15,3 +16,8 @@ loop-group-preserved g c =
     let first = next c.args.groups.now c.loop-group.group-index c.group-item.result c.loop-group-test.true c.group-item.is in
     stage_next (λ r. row_of r) _ _ _ _ _ _ _ (ap (λ l. map (group_items_fate c.args.world.now.role.now (world_of c.args.world.now).query) (map (λ h. group_row_of h.now) l)) first)
     c.group_items_fate.ensures c.in_ok-add.ensures c.loop-group.invariant
+
+pub returns-in_err-add : goal.returns-in_err-add
+returns-in_err-add g c =
+    let p = err_from_is_err_and c.from_residual.result c.from_residual.ensures.1 in
+    rw (p.1, p.2) tt

@@ -25,3 +25,46 @@ returns-in_err-read_cell-clause-cells g c =
 
 pub returns-clause-cells : goal.returns-clause-cells
 returns-clause-cells g c = rw c.from.ensures (c.loop-i.invariant.1 ∙ no_cells _ _ c.args.row c.loop-i.i _ (rw length-map c.loop-i-test.false))
+
+pub returns-in_err-values-clause-wide : goal.returns-in_err-values-clause-wide
+returns-in_err-values-clause-wide g c =
+    let p = err_from_is_err_and c.from_residual.result c.from_residual.ensures.1 in
+    rw p.1 tt
+
+pub returns-in_err-values-clause-cells : goal.returns-in_err-values-clause-cells
+returns-in_err-values-clause-cells g c =
+    let p = err_from_is_err_and c.from_residual.result c.from_residual.ensures.1 in
+    rw (p.1, p.2) tt
+
+pub returns-in_err-values-clause-no_reader : goal.returns-in_err-values-clause-no_reader
+returns-in_err-values-clause-no_reader g c =
+    let p = err_from_is_err_and c.from_residual.result c.from_residual.ensures.1 in
+    rw (p.1, p.2) (λ r same. cc same)
+
+pub returns-in_err-push-clause-wide : goal.returns-in_err-push-clause-wide
+returns-in_err-push-clause-wide g c =
+    let p = err_from_is_err_and c.from_residual-in_err-push.result c.from_residual-in_err-push.ensures.1 in
+    rw p.1 tt
+
+pub returns-in_err-push-clause-cells : goal.returns-in_err-push-clause-cells
+returns-in_err-push-clause-cells g c =
+    let p = err_from_is_err_and c.from_residual-in_err-push.result c.from_residual-in_err-push.ensures.1 in
+    rw (p.1, p.2) tt
+
+pub returns-in_err-push-clause-no_reader : goal.returns-in_err-push-clause-no_reader
+returns-in_err-push-clause-no_reader g c =
+    let p = err_from_is_err_and c.from_residual-in_err-push.result c.from_residual-in_err-push.ensures.1 in
+    rw (p.1, p.2) (λ r same. cc same)
+
+pub returns-in_err-read_cell-clause-wide : goal.returns-in_err-read_cell-clause-wide
+returns-in_err-read_cell-clause-wide g c =
+    let p = err_from_is_err_and c.from_residual-in_err-read_cell.result c.from_residual-in_err-read_cell.ensures.1 in
+    rw p.1 tt
+
+pub returns-in_err-read_cell-clause-no_reader : goal.returns-in_err-read_cell-clause-no_reader
+returns-in_err-read_cell-clause-no_reader g c =
+    let p = err_from_is_err_and c.from_residual-in_err-read_cell.result c.from_residual-in_err-read_cell.ensures.1 in
+    rw (p.1, p.2) c.in_err-read_cell.ensures.no_reader
+
+pub returns-clause-no_reader : goal.returns-clause-no_reader
+returns-clause-no_reader g c = tt

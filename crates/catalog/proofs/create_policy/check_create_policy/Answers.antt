@@ -1,0 +1,35 @@
+use Rattle.std.proofs.Common.{inr, refl}
+use Rattle.catalog.proofs.create_policy.check_create_policy.Goals as goal
+
+pub returns-in_default-clause-checked : goal.returns-in_default-clause-checked
+returns-in_default-clause-checked g c =
+    let none = rw (c.in_default.is, c.as_str.ensures) at c.find_table.ensures.table in
+    inr (rw (← none) refl)
+
+pub returns-in_default-clause-within : goal.returns-in_default-clause-within
+returns-in_default-clause-within g c = tt
+
+pub returns-then-not-owns-clause-checked : goal.returns-then-not-owns-clause-checked
+returns-then-not-owns-clause-checked g c =
+    let found = rw (c.in-Some.is, c.as_str.ensures) at c.find_table.ensures.table in
+    let other = rw (c.if-not-owns.true) at c.owns.ensures in
+    inr (rw (← found, ← other) refl)
+
+pub returns-then-not-owns-clause-within : goal.returns-then-not-owns-clause-within
+returns-then-not-owns-clause-within g c = tt
+
+pub returns-then-not-are_known-clause-checked : goal.returns-then-not-are_known-clause-checked
+returns-then-not-are_known-clause-checked g c =
+    let found = rw (c.in-Some.is, c.as_str.ensures) at c.find_table.ensures.table in
+    let owner = rw (c.if-not-owns.false) at c.owns.ensures in
+    let unknown = rw (c.if-not-are_known.true, c.as_slice.ensures) at c.are_known.ensures in
+    inr (rw (← found, ← owner, ← unknown) refl)
+
+pub returns-then-not-are_known-clause-within : goal.returns-then-not-are_known-clause-within
+returns-then-not-are_known-clause-within g c = tt
+
+pub returns-then-has_policy-clause-within : goal.returns-then-has_policy-clause-within
+returns-then-has_policy-clause-within g c = tt
+
+pub returns-in-Err-clause-within : goal.returns-in-Err-clause-within
+returns-in-Err-clause-within g c = tt

@@ -1,0 +1,43 @@
+use Rattle.std.proofs.Common.{◌≡◌, ◌++◌, [], ◌∷◌, List, Result, Ok, ap, sym, ◌∙◌, arith}
+use Rattle.std.proofs.lemmas.List.{append-nil, at_drop_all}
+use Rattle.std.proofs.lemmas.Result.{err_from_is_err_and}
+use Rattle.value.specs.Datum.{Datum, datum, row_of}
+use Rattle.value.specs.declared.types.Value.{Value}
+use Rattle.value.specs.declared.faults.Fault.{Fault}
+use Rattle.expr.specs.View.{aggregate_calls_of}
+use Rattle.stages.specs.Stages.{first_then}
+use Rattle.stages.proofs.Walks.{next, done_then, done_nothing, put_next, fails_here}
+use Rattle.groups.specs.Members.{arguments}
+use Rattle.groups.proofs.members.arguments_on.Goals as goal
+
+-- a value is put: what is done, and then the rest, is still the whole
+put_step : {A : Type 0} (done new : List (Value A)) (v : Value A) (o : Result Datum Fault) (rest here whole : Result (List Datum) Fault) → here ≡ first_then o rest → done_then (row_of done) here ≡ whole → o ≡ Ok (datum v) → new ≡ done ++ v ∷ [] → done_then (row_of new) rest ≡ whole
+put_step done new v o rest here whole is so_far given pushed =
+    ap (λ l. done_then (row_of l) rest) pushed ∙ put_next done v rest ∙ ap (λ x. done_then (row_of done) (first_then x rest)) (sym given) ∙ ap (done_then (row_of done)) (sym is) ∙ so_far
+
+pub loop-call-init : goal.loop-call-init
+loop-call-init g c =
+    ap (λ l. done_then (row_of l) (arguments (g.R.Row.cells c.args.row.now) c.args.role.now (aggregate_calls_of c.args.calls.now))) c.new-values.ensures ∙ done_nothing _
+
+pub returns-in_err-argument_on : goal.returns-in_err-argument_on
+returns-in_err-argument_on g c =
+    let values = arguments (g.R.Row.cells c.args.row.now) c.args.role.now in
+    let first = next c.args.calls.now c.loop-call.call-index c.call-item.result c.loop-call-test.true c.call-item.is in
+    let is = ap (λ l. done_then (row_of c.loop-call.values) (values (aggregate_calls_of l))) (sym first) ∙ c.loop-call.invariant in
+    let fails = fails_here (row_of c.loop-call.values) _ _ _ _ c.in_err-argument_on.ensures is in
+    let p = err_from_is_err_and c.from_residual.result c.from_residual.ensures.1 in
+    rw (p.1, p.2) fails
+
+pub returns-in_err-push : goal.returns-in_err-push
+returns-in_err-push g c =
+    let p = err_from_is_err_and c.from_residual-in_err-push.result c.from_residual-in_err-push.ensures.1 in
+    rw (p.1, p.2) tt
+
+pub loop-call-preserved : goal.loop-call-preserved
+loop-call-preserved g c =
+    let first = next c.args.calls.now c.loop-call.call-index c.call-item.result c.loop-call-test.true c.call-item.is in
+    put_step c.loop-call.values _ _ _ _ _ _ (ap (λ l. arguments (g.R.Row.cells c.args.row.now) c.args.role.now (aggregate_calls_of l)) first) c.loop-call.invariant c.in_ok-argument_on.ensures c.in_ok-push.ensures.ok
+
+pub returns : goal.returns
+returns g c =
+    sym c.loop-call.invariant ∙ at_drop_all (λ l. done_then (row_of c.loop-call.values) (arguments (g.R.Row.cells c.args.row.now) c.args.role.now (aggregate_calls_of l))) c.args.calls.now c.loop-call.call-index (omega arith) ∙ ap Ok (append-nil _)

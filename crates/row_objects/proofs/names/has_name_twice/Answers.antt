@@ -1,0 +1,8 @@
+use Rattle.std.proofs.Common.{map, sym, ap, ◌∙◌, arith}
+use Rattle.std.proofs.lemmas.List.{drop_all}
+use Rattle.value.specs.Columns.{column_of}
+use Rattle.row_objects.specs.ColumnNames.{has_name_twice}
+use Rattle.row_objects.proofs.names.has_name_twice.Goals as goal
+
+pub returns : goal.returns
+returns g c = sym (ap (λ l. has_name_twice (map (λ x. column_of x) l)) (drop_all c.loop-i.i c.args.columns.now (omega (arith, c.loop-i-test.false)))) ∙ c.loop-i.invariant
