@@ -1,7 +1,6 @@
 -- The tables of a world are what the role sees of each entry.
-use Rattle.std.proofs.Common.{◌≡◌, ◌⊎◌, inl, inr, ℕ, Bool, cond, List, [], ◌∷◌, ◌++◌, map, filter, refl, sym, ap, ap₂, ◌∙◌, append_assoc, append-nil, Ok, Err, Result}
+use Rattle.std.proofs.Common.{◌≡◌, ◌⊎◌, inl, inr, ℕ, Bool, cond, List, [], ◌∷◌, ◌++◌, map, filter, refl, sym, ap, ap₂, ◌∙◌, append_assoc, append-nil}
 use Rattle.std.proofs.lemmas.List.{map-append}
-use Rattle.std.specs.Prelude.{IfOk}
 use Rattle.value.specs.Datum.{Row}
 use Rattle.row_ast.specs.Ast.{Name}
 use Rattle.scope.specs.Entry.{Entry}
@@ -36,11 +35,6 @@ module _ {E G : Type 0} (entry : E → Entry) (guard : G → Guard) (cat : Catal
   seen_are (e ∷ es) (g ∷ gs) same =
       ap₂ ◌∷◌ (filter_same (shows role (guard g)) (sees cat role (entry e).table) (λ row. first_is _ _ _ _ (same row)) (rows (entry e).table.name))
       (seen_are es gs (λ row. others_are _ _ _ _ (same row)))
-
--- a result of which one thing is said, and the same thing
-pub same_due : {X Y E : Type 0} (v : X → Y) (r : Result X E) (a b : Y) → a ≡ b → IfOk r (λ x. v x ≡ a) → IfOk r (λ x. v x ≡ b)
-same_due v (Ok x) a b e h = h ∙ e
-same_due v (Err f) a b e h = tt
 
 -- ---- the walk that guards tables
 

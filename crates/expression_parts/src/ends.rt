@@ -2,6 +2,7 @@
 //! alive at a `?` of the parser.
 
 ghost use Rattle.std.specs.Prelude.{Ok, option_map};
+ghost use Rattle.std.specs.Result.{is_ok};
 ghost use Rattle.row_ast.specs.Ast as ast;
 ghost use Rattle.row_ast.specs.View.{arm_pair, expr_of};
 ghost use Rattle.row_reader.specs.Expressions as rules;
@@ -17,25 +18,28 @@ use row_reader::reader::{Parsed, Reader, before, sees, starting_at, with_rest};
 use row_tokens::{Token, TokenKind};
 use value::{Aggregate, Comparison};
 
-/// The argument of a call.
+/// The argument of a call. It takes no memory.
 pub fn argument<'t, A: Heap>(read: Parsed<'t, Located<A>>) -> Parsed<'t, CallSuffix<A>>
     ensures { GoesOn (λ t. located t) (λ x us. Ok (rules.Argument x.1, us)) (λ t. suffix_of t) read.entry result }
+    ensures no_memory { is_ok result ≡ is_ok read.entry }
 {
     let ((_, argument), rest) = read?;
     Ok((CallSuffix::Argument(argument), rest))
 }
 
-/// The result after ELSE.
+/// The result after ELSE. It takes no memory.
 pub fn other<'t, A: Heap>(read: Parsed<'t, Located<A>>) -> Parsed<'t, Otherwise<A>>
     ensures { GoesOn (λ t. located t) (λ x us. Ok (ast.Value x.1, us)) (λ t. otherwise_of t) read.entry result }
+    ensures no_memory { is_ok result ≡ is_ok read.entry }
 {
     let ((_, value), rest) = read?;
     Ok((Otherwise::Value(value), rest))
 }
 
-/// An arm of a CASE, of its condition and its result.
+/// An arm of a CASE, of its condition and its result. It takes no memory.
 pub fn arm_of<'t, A: Heap>(when: Located<A>, read: Parsed<'t, Located<A>>) -> Parsed<'t, Arm<A>>
     ensures { GoesOn (λ t. located t) (λ x us. Ok ((expr_of when.1.value, x.1), us)) (λ t. arm_pair t) read.entry result }
+    ensures no_memory { is_ok result ≡ is_ok read.entry }
 {
     let ((_, result), rest) = read?;
     let (_, when) = when;
@@ -97,13 +101,14 @@ pub fn inverted<'t, A: Heap>(
     starting_at(offset, value, rest)
 }
 
-/// `BETWEEN low AND high`, by the offset of BETWEEN.
+/// `BETWEEN low AND high`, by the offset of BETWEEN. It takes no memory.
 pub fn bounds<'t, A: Heap>(
     offset: u32,
     low: Located<A>,
     read: Parsed<'t, Located<A>>,
 ) -> Parsed<'t, Range<A>>
     ensures { GoesOn (λ t. located t) (λ x us. Ok (rules.Bounds offset (expr_of low.1.value) x.1, us)) (λ t. range_of t) read.entry result }
+    ensures no_memory { is_ok result ≡ is_ok read.entry }
 {
     let ((_, high), rest) = read?;
     let (_, low) = low;

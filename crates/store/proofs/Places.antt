@@ -35,9 +35,6 @@ module _ {E : Type 0} (p : E → Bool) where
       go true h more = absurd (some_is_not k h)
       go false h more = (ap (λ l. e ∷ l) (more h).0, (more h).1)
 
-  pub none_at : (f : E → E) (es : List E) → position_from p 0 es ≡ None → first_changed p f es ≡ es
-  none_at f es h = (none_from f es 0 h).0
-
   pub none_found : (es : List E) → position_from p 0 es ≡ None → find p es ≡ None
   none_found es h = (none_from (λ e. e) es 0 h).1
 
