@@ -270,8 +270,7 @@ fn opens_without(rt: &(impl Abort + AllocGlobal), nth: u64) -> bool {
     false
 }
 
-/// An opening, with each request for memory refused in turn.
-pub fn open_or_out_of_memory(rt: &(impl Abort + AllocGlobal)) {
+fn opens_or_out_of_memory(rt: &(impl Abort + AllocGlobal)) {
     let mut refused = 0u64;
     for nth in 1..1000u64 {
         if opens_without(rt, nth) {
@@ -281,4 +280,9 @@ pub fn open_or_out_of_memory(rt: &(impl Abort + AllocGlobal)) {
     }
     assert!(rt; refused > 20, "{refused}");
     assert!(rt; refused < 900, "{refused}");
+}
+
+#[test]
+fn refused_memory_of_openings_is_reported(rt: HostRuntime) {
+    opens_or_out_of_memory(&rt);
 }

@@ -8,8 +8,8 @@ use Rattle.memory.specs.Gives.{IsFailure}
 use Rattle.row_ast.specs.Statements.{Statement}
 use Rattle.store.specs.Database.{Database, changed_database}
 use Rattle.setup.specs.Schema.{StopsAfter, applied, applied_from, numbered, refused_by, root, then_apply}
-use Rattle.setup.specs.declared.fault.SchemaError.{SchemaError}
-use Rattle.setup.specs.declared.fault.SchemaError.TheVariants as errors
+use Rattle.startup.specs.declared.fault.SchemaError.{SchemaError}
+use Rattle.startup.specs.declared.fault.SchemaError.TheVariants as errors
 
 -- one statement more
 applied_more : (n : ℕ) (db mid after : Database) (acts : List Statement) (act : Statement) → applied_from n db acts ≡ Ok mid → changed_database mid root act ≡ Ok after → applied_from n db (acts ++ act ∷ []) ≡ Ok after

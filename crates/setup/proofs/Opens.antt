@@ -7,7 +7,7 @@ use Rattle.row_ast.specs.Ast.{Name}
 use Rattle.store.specs.Database.{at_start}
 use Rattle.setup.specs.Schema.{schema_applied}
 use Rattle.setup.specs.Opening.{IsNotOpened, schema_fault}
-use Rattle.setup.specs.declared.fault.SchemaError.{SchemaError}
+use Rattle.startup.specs.declared.fault.SchemaError.{SchemaError}
 
 pub schema_stops : (A : Type 0) (schema : List ℕ) (paths : Name → List ℕ) (bytes : Name → Option (List ℕ)) (e : Failure SchemaError) → IsFailure e (schema_applied at_start schema) → IsNotOpened {A = A} schema paths bytes (schema_fault e)
 schema_stops A schema paths bytes (Fault e) h = h

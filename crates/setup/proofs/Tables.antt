@@ -18,8 +18,8 @@ use Rattle.catalog.specs.Checks.{first_changed}
 use Rattle.store.specs.Database.{is_named}
 use Rattle.store.specs.Loads.{IsLoad, IsLoadFrom, with_rows}
 use Rattle.setup.specs.Loads.{AreLoaded, IsFaultOf, IsRowFault, Knows, names_of}
-use Rattle.setup.specs.declared.fault.Fault.{Fault}
-use Rattle.setup.specs.declared.fault.Fault.TheVariants as fault
+use Rattle.startup.specs.declared.fault.Fault.{Fault}
+use Rattle.startup.specs.declared.fault.Fault.TheVariants as fault
 
 -- ---- the names stay
 
@@ -91,10 +91,6 @@ fault_known path known left old name (failure.Fault (fault.Data table column e))
 fault_known path known left old name failure.OutOfMemory k h = inr tt
 
 -- ---- a fact of one outcome, from another fact
-
-pub on_ok : {T E : Type 0} (r : Result T E) (P Q : Type 0) → (P → Q) → OnOk r P → OnOk r Q
-on_ok (Ok x) P Q f h = f h
-on_ok (Err e) P Q f h = tt
 
 pub if_err : {T E : Type 0} (r : Result T E) (P Q : E → Type 0) → ((e : E) → P e → Q e) → IfErr r P → IfErr r Q
 if_err (Ok x) P Q f h = tt

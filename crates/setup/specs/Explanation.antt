@@ -6,7 +6,7 @@ use Rattle.catalog.specs.Catalog.{Catalog}
 use Rattle.replies.specs.Reply.{Reply}
 use Rattle.hints.specs.Hint.{hint}
 use Rattle.admission.specs.Admission.{refusal_to}
-use Rattle.setup.specs.Lines.{memory_line}
+use Rattle.startup.specs.Lines.{memory_line}
 
 abbrev pub hint_for : List ℕ → Option Reply → List ℕ
 hint_for text None = []

@@ -10,8 +10,8 @@ use Rattle.row_ast.specs.Ast.{Name}
 use Rattle.store.specs.declared.store.StoreError.TheVariants.{Data}
 use Rattle.store.specs.Database.{columns_in}
 use Rattle.store.specs.Loads.{IsLoadFrom}
-use Rattle.setup.specs.declared.fault.Fault.{Fault}
-use Rattle.setup.specs.declared.fault.Fault.TheVariants as fault
+use Rattle.startup.specs.declared.fault.Fault.{Fault}
+use Rattle.startup.specs.declared.fault.Fault.TheVariants as fault
 
 -- the names of the tables, in order of creation
 abbrev pub names_of : List (Name × TableRows) → List Name

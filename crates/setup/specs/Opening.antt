@@ -7,9 +7,9 @@ use Rattle.row_ast.specs.Ast.{Name}
 use Rattle.store.specs.Database.{Database, at_start}
 use Rattle.setup.specs.Schema.{schema_applied}
 use Rattle.setup.specs.Loads.{AreLoaded, StopsAtTable, names_of}
-use Rattle.setup.specs.declared.fault.SchemaError.{SchemaError}
-use Rattle.setup.specs.declared.fault.Fault.{Fault}
-use Rattle.setup.specs.declared.fault.Fault.TheVariants as fault
+use Rattle.startup.specs.declared.fault.SchemaError.{SchemaError}
+use Rattle.startup.specs.declared.fault.Fault.{Fault}
+use Rattle.startup.specs.declared.fault.Fault.TheVariants as fault
 
 -- the schema text makes the tables, without rows, and each is loaded from its file
 abbrev pub IsOpened : List ℕ → (Name → Option (List ℕ)) → Database → Type 0

@@ -10,8 +10,8 @@ use Rattle.syntax.specs.Parsing.{parsed_schema}
 use Rattle.syntax.specs.declared.fault.ParseError.{ParseError}
 use Rattle.syntax.specs.declared.fault.ParseError.TheVariants as parsing
 use Rattle.store.specs.Database.{Database, changed_database}
-use Rattle.setup.specs.declared.fault.SchemaError.{SchemaError}
-use Rattle.setup.specs.declared.fault.SchemaError.TheVariants as errors
+use Rattle.startup.specs.declared.fault.SchemaError.{SchemaError}
+use Rattle.startup.specs.declared.fault.SchemaError.TheVariants as errors
 
 -- the superuser who is there from the start
 abbrev pub root : Name

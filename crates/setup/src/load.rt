@@ -7,8 +7,8 @@ ghost use Rattle.store.specs.Database.{is_named, columns_in};
 ghost use Rattle.store.specs.Loads.{IsLoadFrom};
 ghost use Rattle.setup.specs.Loads.{AreLoaded, IsFaultAt, IsFaultOf, IsLoadedAt, IsOfFile, IsRowFault, Knows, StopsAtTable, column_name, name_at, names_of};
 
-use crate::fault::Fault;
 use memory::{Failure, Heap};
+use startup::Fault;
 use std::alloc::AllocError;
 use std::io::Read;
 use store::{Store, StoreError};

@@ -3,10 +3,10 @@
 ghost use Rattle.std.specs.Prelude.{◌≡◌, IfErr, IfOk};
 ghost use Rattle.setup.specs.Opening.{IsOpened, IsNotOpened, schema_fault};
 
-use crate::fault::{Fault, SchemaError};
 use crate::load::{Folder, load_tables};
 use crate::schema::apply_schema;
 use memory::{Failure, Heap};
+use startup::{Fault, SchemaError};
 use store::Store;
 
 // The failure of a schema text that is not applied.

@@ -6,9 +6,9 @@ ghost use Rattle.row_ast.specs.View.{statement_of};
 ghost use Rattle.syntax.specs.Parsing.{parsed_schema};
 ghost use Rattle.setup.specs.Schema.{IsStep, StopsAfter, StopsAfterFront, applied, refused_by, schema_applied};
 
-use crate::fault::SchemaError;
 use memory::{Failure, Heap};
 use row_ast::Statement;
+use startup::SchemaError;
 use store::Store;
 use syntax::{ParseError, parse_schema};
 use value::Refusal;

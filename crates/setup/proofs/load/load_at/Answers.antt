@@ -2,7 +2,8 @@ use Rattle.std.proofs.Common.{◌≡◌, ◌∙◌, Some, ap, inl, sym}
 use Rattle.std.specs.List.{slice_get}
 use Rattle.std.proofs.lemmas.Option.{slice_get-map}
 use Rattle.setup.specs.Loads.{names_of}
-use Rattle.setup.proofs.Tables.{if_err, named, on_ok}
+use Rattle.startup.proofs.Outcomes.{on_ok}
+use Rattle.setup.proofs.Tables.{if_err, named}
 use Rattle.setup.proofs.load.load_at.Goals as goal
 
 pub returns-in_default-new-clause-fault : goal.returns-in_default-new-clause-fault

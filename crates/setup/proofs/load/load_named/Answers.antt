@@ -1,5 +1,6 @@
 use Rattle.std.proofs.Common.{Ok, inl}
-use Rattle.setup.proofs.Tables.{fault_known, if_err, load_known, on_ok}
+use Rattle.startup.proofs.Outcomes.{on_ok}
+use Rattle.setup.proofs.Tables.{fault_known, if_err, load_known}
 use Rattle.setup.proofs.load.load_named.Goals as goal
 
 pub returns-in-Ok-clause-loaded : goal.returns-in-Ok-clause-loaded

@@ -8,10 +8,10 @@ use Rattle.tables.specs.declared.LoadError.TheVariants as load
 use Rattle.memory.specs.declared.failure.Failure as memory
 use Rattle.memory.specs.declared.failure.Failure.TheVariants as failure
 use Rattle.row_ast.specs.Ast.{Name}
-use Rattle.setup.specs.declared.fault.SchemaError.{SchemaError}
-use Rattle.setup.specs.declared.fault.SchemaError.TheVariants as schema
-use Rattle.setup.specs.declared.fault.Fault.{Fault}
-use Rattle.setup.specs.declared.fault.Fault.TheVariants as fault
+use Rattle.startup.specs.declared.fault.SchemaError.{SchemaError}
+use Rattle.startup.specs.declared.fault.SchemaError.TheVariants as schema
+use Rattle.startup.specs.declared.fault.Fault.{Fault}
+use Rattle.startup.specs.declared.fault.Fault.TheVariants as fault
 
 -- out of memory
 abbrev pub memory_line : List ℕ

@@ -1,7 +1,7 @@
 //! The line on standard error for what stops the program.
 
 ghost use Rattle.std.specs.Prelude.{◌≡◌, ◌++◌, ◌∷◌, ◌⊎◌, [], IfOk, OnOk};
-ghost use Rattle.setup.specs.Lines.{IsReported, data_line, failure_line, failure_status, fault_line, fault_status, in_column, in_row, memory_line, schema_line, syntax_line};
+ghost use Rattle.startup.specs.Lines.{IsReported, data_line, failure_line, failure_status, fault_line, fault_status, in_column, in_row, memory_line, schema_line, syntax_line};
 
 use crate::fault::{Fault, SchemaError};
 use hints::{push_number, push_str};

@@ -1,6 +1,5 @@
 //! Each request for memory refused in turn.
 
-use crate::opening::open_or_out_of_memory;
 use crate::stores::made;
 use fixture_stores::{DEALS, SCHEMA, StoreFault, deals, load, served, store_of};
 use memory::{Failure, Heap};
@@ -189,5 +188,4 @@ fn refused_memory_of_stores_and_answers_is_reported(rt: HostRuntime) {
         store_or_refusal_of_memory(&rt, schema);
     }
     refused_load_adds_nothing(&rt);
-    open_or_out_of_memory(&rt);
 }
