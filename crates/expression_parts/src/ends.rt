@@ -20,7 +20,7 @@ use value::{Aggregate, Comparison};
 
 /// The argument of a call. It takes no memory.
 pub fn argument<'t, A: Heap>(read: Parsed<'t, Located<A>>) -> Parsed<'t, CallSuffix<A>>
-    ensures { GoesOn (λ t. located t) (λ x us. Ok (rules.Argument x.1, us)) (λ t. suffix_of t) read.entry result }
+    ensures goes_on { GoesOn (λ t. located t) (λ x us. Ok (rules.Argument x.1, us)) (λ t. suffix_of t) read.entry result }
     ensures no_memory { is_ok result ≡ is_ok read.entry }
 {
     let ((_, argument), rest) = read?;
@@ -29,7 +29,7 @@ pub fn argument<'t, A: Heap>(read: Parsed<'t, Located<A>>) -> Parsed<'t, CallSuf
 
 /// The result after ELSE. It takes no memory.
 pub fn other<'t, A: Heap>(read: Parsed<'t, Located<A>>) -> Parsed<'t, Otherwise<A>>
-    ensures { GoesOn (λ t. located t) (λ x us. Ok (ast.Value x.1, us)) (λ t. otherwise_of t) read.entry result }
+    ensures goes_on { GoesOn (λ t. located t) (λ x us. Ok (ast.Value x.1, us)) (λ t. otherwise_of t) read.entry result }
     ensures no_memory { is_ok result ≡ is_ok read.entry }
 {
     let ((_, value), rest) = read?;
@@ -38,7 +38,7 @@ pub fn other<'t, A: Heap>(read: Parsed<'t, Located<A>>) -> Parsed<'t, Otherwise<
 
 /// An arm of a CASE, of its condition and its result. It takes no memory.
 pub fn arm_of<'t, A: Heap>(when: Located<A>, read: Parsed<'t, Located<A>>) -> Parsed<'t, Arm<A>>
-    ensures { GoesOn (λ t. located t) (λ x us. Ok ((expr_of when.1.value, x.1), us)) (λ t. arm_pair t) read.entry result }
+    ensures goes_on { GoesOn (λ t. located t) (λ x us. Ok ((expr_of when.1.value, x.1), us)) (λ t. arm_pair t) read.entry result }
     ensures no_memory { is_ok result ≡ is_ok read.entry }
 {
     let ((_, result), rest) = read?;
@@ -107,7 +107,7 @@ pub fn bounds<'t, A: Heap>(
     low: Located<A>,
     read: Parsed<'t, Located<A>>,
 ) -> Parsed<'t, Range<A>>
-    ensures { GoesOn (λ t. located t) (λ x us. Ok (rules.Bounds offset (expr_of low.1.value) x.1, us)) (λ t. range_of t) read.entry result }
+    ensures goes_on { GoesOn (λ t. located t) (λ x us. Ok (rules.Bounds offset (expr_of low.1.value) x.1, us)) (λ t. range_of t) read.entry result }
     ensures no_memory { is_ok result ≡ is_ok read.entry }
 {
     let ((_, high), rest) = read?;
