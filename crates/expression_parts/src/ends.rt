@@ -1,7 +1,7 @@
 //! What is made of an expression once it is read. Each takes what was read, or why reading stopped, so that no tree is
 //! alive at a `?` of the parser.
 
-ghost use Rattle.std.specs.Prelude.{Ok, option_map};
+ghost use Rattle.std.specs.Prelude.{◌≡◌, Ok, option_map};
 ghost use Rattle.std.specs.Result.{is_ok};
 ghost use Rattle.row_ast.specs.Ast as ast;
 ghost use Rattle.row_ast.specs.View.{arm_pair, expr_of};
