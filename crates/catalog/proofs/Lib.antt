@@ -5,6 +5,7 @@ pub mod Policies
 pub mod Grants
 pub mod Revoked
 pub mod Counts
+pub mod TableChanges
 pub mod Known
 pub mod MoreRoles
 pub mod NoLoop
