@@ -1,8 +1,8 @@
 //! Queries over the tables of `fixture_queries`, and what they are with their columns found, or the first fault.
 
-use crate::bound_texts::show_bound_query;
 use crate::queries::made;
 use catalog::Catalog;
+use fixture_bound_texts::show_bound_query;
 use fixture_queries::{catalog, fault_as, query};
 use fixtures::Printer;
 use from_clause::entries;

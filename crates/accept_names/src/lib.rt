@@ -5,8 +5,6 @@
 #[cfg(test)]
 mod binding;
 #[cfg(test)]
-mod bound_texts;
-#[cfg(test)]
 mod names;
 #[cfg(test)]
 mod queries;

@@ -1,14 +1,15 @@
 -- The members of an AND, and the conjuncts of a part.
 use Rattle.std.proofs.Common.{◌≡◌, Bool, true, false, ℕ, suc, ◌+◌, ◌<◌, ◌≤◌, List, [], ◌∷◌, ◌++◌, length, map, get_or, drop, drop-cons, append_assoc, append-nil, refl, sym, ap, ◌∙◌, arith}
-use Rattle.std.specs.Prelude.{filter, Result, Ok, Err, IfOk}
-use Rattle.std.specs.List.{list_all}
+use Rattle.std.specs.Prelude.{filter, Option, Result, Ok, Err, IfOk}
+use Rattle.std.specs.List.{flat_map, list_all}
 use Rattle.std.proofs.Math.Bool.{beq}
 use Rattle.std.proofs.Math.ListN.{drop_of_length-le}
 use Rattle.expr.specs.Bound.{BoundExpr}
 use Rattle.expr.specs.Movable.{movable}
 use Rattle.expr.specs.View.{bound_expr_of, bound_exprs}
 use Rattle.expr.specs.declared.bound.BoundExpr as declared
-use Rattle.query_parts.specs.Conjuncts.{members, is_in_part}
+use Rattle.scope.specs.BoundQuery.{BoundQuery}
+use Rattle.query_parts.specs.Conjuncts.{conjuncts, conjuncts_in, members, is_in_part}
 
 pub members_of : {A : Type 0} (es : List (declared.BoundExpr A)) → members (bound_exprs es) ≡ map (λ e. bound_expr_of e) es
 members_of [] = refl
@@ -26,6 +27,10 @@ all_filtered p (x ∷ xs) = go (p x) refl (all_filtered p xs)
 pub if_all_filtered : {V E Z : Type 0} (view : V → List Z) (p : Z → Bool) (xs : List Z) (r : Result V E) → IfOk r (λ v. view v ≡ filter p xs) → IfOk r (λ v. list_all p (view v) ≡ true)
 if_all_filtered view p xs (Ok v) h = rw h (all_filtered p xs)
 if_all_filtered view p xs (Err e) h = tt
+
+-- those of each ON, and then of WHERE
+pub of_each : (q : BoundQuery) (ons : List (Option BoundExpr)) (k0 k1 k2 : List BoundExpr) → ons ≡ q.ons → k0 ≡ [] → k1 ≡ k0 ++ flat_map conjuncts_in ons → k2 ≡ k1 ++ conjuncts_in q.filter → k2 ≡ conjuncts q
+of_each q ons k0 k1 k2 o e0 e1 e2 = rw (e2, e1, e0, o) refl
 
 -- ---- one view more of each item that is read
 

@@ -1,4 +1,5 @@
 //! Bound queries written as texts: a column is its numbers, `entry.column`, and all else is as `fixtures` writes it.
+#![tactic(auto)]
 
 use expr::{BoundArm, BoundExpr, ColumnId};
 use fixtures::{
