@@ -1,5 +1,5 @@
 -- What goes on from a tree that was read gives what its rule and then the step read.
-use Rattle.std.proofs.Common.{◌≡◌, List, Result, Ok, Err, refl}
+use Rattle.std.proofs.Common.{List, Result, Ok, Err, refl}
 use denote.Ref.{Bor}
 use Rattle.memory.specs.Gives.{Gives}
 use Rattle.memory.specs.declared.failure.Failure.{Failure}

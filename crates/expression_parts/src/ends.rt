@@ -1,21 +1,22 @@
 //! What is made of an expression once it is read. Each takes what was read, or why reading stopped, so that no tree is
 //! alive at a `?` of the parser.
 
-ghost use Rattle.std.specs.Prelude.{◌≡◌, Ok, option_map};
+ghost use Rattle.std.specs.Prelude.{◌≡◌, Ok, map, option_map};
 ghost use Rattle.std.specs.Result.{is_ok};
 ghost use Rattle.row_ast.specs.Ast as ast;
 ghost use Rattle.row_ast.specs.View.{arm_pair, expr_of};
 ghost use Rattle.row_reader.specs.Expressions as rules;
 ghost use Rattle.row_tokens.specs.View.{word_of};
-ghost use Rattle.expression_parts.specs.GoesOn.{GoesOn, null_step};
+ghost use Rattle.expression_parts.specs.GoesOn.{GoesOn, case_step, cast_step, null_step};
 ghost use Rattle.expression_parts.specs.View.{located, otherwise_of, range_of, signed_of, suffix_of};
 
-use crate::build::{CallSuffix, Located, Otherwise, Range, called, counted, ranged};
-use crate::leaves::is_null;
+use crate::build::{CallSuffix, Located, Otherwise, Range, called, case_of, counted, ranged};
+use crate::leaves::{as_type, is_null};
 use memory::{Heap, boxed};
 use row_ast::{Arm, Expr};
-use row_reader::reader::{Parsed, Reader, before, sees, starting_at, with_rest};
+use row_reader::reader::{Parsed, Reader, before, closed, expect, sees, starting_at, with_rest};
 use row_tokens::{Token, TokenKind};
+use text::Items;
 use value::{Aggregate, Comparison};
 
 /// The argument of a call. It takes no memory.
@@ -167,4 +168,36 @@ pub fn null_tested<'t, A: Heap>(
         operand,
     };
     starting_at(start, boxed(reader.alloc, test), rest)
+}
+
+/// The operand of a CAST, and what follows it: `AS type )`; by the offset of CAST.
+pub fn cast_to<'t, A: Heap>(
+    reader: Reader<A>,
+    offset: u32,
+    read: Parsed<'t, Located<A>>,
+) -> Parsed<'t, Located<A>>
+    ensures { GoesOn (λ t. located t) (cast_step reader.run_limit reader.depth_limit offset) (λ t. located t) read.entry result }
+{
+    let ((_, operand), rest) = read?;
+    let ((operand, to), rest) = before(operand, closed(as_type(reader, rest)))?;
+    let cast = Expr::Cast {
+        offset,
+        to,
+        operand,
+    };
+    starting_at(offset, boxed(reader.alloc, cast), rest)
+}
+
+/// The arms of a CASE, what follows them, and END; by the offset of CASE.
+pub fn case_ended<'t, A: Heap>(
+    alloc: A,
+    offset: u32,
+    arms: Items<Arm<A>, A>,
+    read: Parsed<'t, Otherwise<A>>,
+) -> Parsed<'t, Located<A>>
+    ensures { GoesOn (λ t. otherwise_of t) (case_step offset (map (λ a. arm_pair a) arms)) (λ t. located t) read.entry result }
+{
+    let (other, rest) = read?;
+    let (_, rest) = expect(TokenKind::End, rest)?;
+    starting_at(offset, case_of(alloc, offset, arms, other), rest)
 }

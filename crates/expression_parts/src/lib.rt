@@ -10,7 +10,7 @@ pub use build::{
     counted, extend, joined, members_of, ranged,
 };
 pub use ends::{
-    argument, arm_of, bounds, called_with, compared, counted_call, inverted, negated, null_tested,
-    other, with_range,
+    argument, arm_of, bounds, called_with, case_ended, cast_to, compared, counted_call, inverted,
+    negated, null_tested, other, with_range,
 };
 pub use leaves::{as_type, constant, dotted, in_list, is_null, plain_column};

@@ -1,5 +1,5 @@
 -- What a query answers over the combinations that pass its movable conjuncts.
-use Rattle.std.specs.Prelude.{Bool, true, false, List, [], ◌∷◌, ◌++◌, map, option_to_list, Option, Some, None, Result, Ok, Err}
+use Rattle.std.specs.Prelude.{Bool, true, false, List, [], ◌∷◌, ◌++◌, map, option_to_list, Result, Ok, Err}
 use Rattle.std.specs.List.{flat_map}
 use Rattle.value.specs.Datum.{Row}
 use Rattle.value.specs.Conditions.{truth_at}

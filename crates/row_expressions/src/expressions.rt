@@ -14,18 +14,18 @@ ghost use Rattle.row_expressions.specs.Levels.{connected_rule, member_rule, next
 ghost use Rattle.expression_parts.specs.View.{located, range_of, signed_of, suffix_of, otherwise_of};
 
 use expression_parts::{
-    CallSuffix, Connective, Located, Otherwise, Range, argument, arm_of, as_type, bounds,
-    called_with, case_of, combined, compared, connective_word, constant, counted_call, dotted,
+    CallSuffix, Connective, Located, Otherwise, Range, argument, arm_of, bounds, called_with,
+    case_ended, cast_to, combined, compared, connective_word, constant, counted_call, dotted,
     extend, in_list, inverted, joined, members_of, negated, null_tested, other, plain_column,
     with_range,
 };
-use memory::{Failure, Heap, boxed};
-use row_ast::{Arm, Expr};
+use memory::{Failure, Heap};
+use row_ast::Arm;
 use row_grammar::ReadError;
 use row_reader::operators::{addition, aggregate_name, comparison_sign, multiplication};
 use row_reader::reader::{
     Class, Parsed, Reader, before, closed, expect, meant, next_offset, open, present, sees,
-    sees_any, starting_at, unplaced, with_rest,
+    sees_any, unplaced, with_rest,
 };
 use row_tokens::{Token, TokenKind};
 use text::Items;
@@ -79,15 +79,7 @@ fn cast<'t, A: Heap>(reader: Reader<A>, tokens: &'t [Token<'t>]) -> Parsed<'t, L
 {
     let (word, rest) = expect(TokenKind::Cast, tokens)?;
     let (_, rest) = open(TokenKind::Open, reader.depth_limit, rest)?;
-    let (operand, rest) = inner_expression(reader, rest)?;
-    let (((_, operand), to), rest) = before(operand, closed(as_type(reader, rest)))?;
-    let offset = word.offset;
-    let cast = Expr::Cast {
-        offset,
-        to,
-        operand,
-    };
-    starting_at(offset, boxed(reader.alloc, cast), rest)
+    cast_to(reader, word.offset, inner_expression(reader, rest))
 }
 
 // `WHEN expr THEN expr`.
@@ -143,11 +135,7 @@ fn case<'t, A: Heap>(reader: Reader<A>, tokens: &'t [Token<'t>]) -> Parsed<'t, L
 {
     let (word, rest) = open(TokenKind::Case, reader.depth_limit, tokens)?;
     let (arms, rest) = arms(reader, rest)?;
-    let (other, rest) = otherwise(reader, rest)?;
-    let (_, rest) = expect(TokenKind::End, rest)?;
-    let offset = word.offset;
-    let case = case_of(reader.alloc, offset, arms, other);
-    starting_at(offset, case, rest)
+    case_ended(reader.alloc, word.offset, arms, otherwise(reader, rest))
 }
 
 // `* | expr`.

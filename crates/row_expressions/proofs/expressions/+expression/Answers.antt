@@ -5,7 +5,7 @@ use Rattle.std.specs.List.{flat_map}
 use Rattle.std.specs.Prelude.{Result, Box, IfOk}
 use denote.Ref.{Bor}
 use Rattle.memory.specs.Gives.{Gives}
-use Rattle.row_grammar.specs.Decoder.{first, head_in, word_at, opened_at, Outcome}
+use Rattle.row_grammar.specs.Decoder.{◌>>=◌, first, head_in, word_at, opened_at, Outcome}
 use Rattle.row_grammar.specs.declared.error.ReadError.{ReadError}
 use Rattle.row_grammar.specs.Limits.{reads, can_open}
 use Rattle.row_grammar.proofs.Steps.{fault_along, run_start, run_err}
@@ -19,10 +19,12 @@ use Rattle.row_reader.specs.Expressions as rules
 use Rattle.row_reader.specs.Expressions.{grammar, nested_first, folded_left, and_of, or_of}
 use Rattle.row_ast.specs.View.{expr_of, arm_pair}
 use Rattle.row_ast.specs.declared.expr.Expr.{Expr as Tree}
-use Rattle.row_reader.specs.Reading.{starting_at, with_rest}
+use Rattle.row_reader.specs.Reading.{with_rest}
 use Rattle.expression_parts.specs.Connectives.{connective_word, joined_expr, members_of}
 use Rattle.row_expressions.specs.Levels.{connected_rule, member_rule, next_member_rule, next_rule, operand_rule, run_rule, sign_class}
-use Rattle.expression_parts.specs.View.{located}
+use Rattle.expression_parts.specs.GoesOn.{case_step}
+use Rattle.expression_parts.specs.View.{located, otherwise_of}
+use Rattle.expression_parts.proofs.GoesOn.{goes_on}
 use Rattle.expression_parts.specs.declared.build.Connective.{Connective}
 use Rattle.expression_parts.specs.declared.build.Connective.TheVariants as word
 use Rattle.row_expressions.specs.declared.expressions.Level.{Level}
@@ -32,11 +34,6 @@ use Rattle.row_expressions.proofs.Runs.{run_on, run_stop, run_full, run_fail, ru
 use Rattle.row_expressions.proofs.expressions.+expression.Goals as goal
 
 -- ---- what is made at the end
-
-placed : {A F : Type 0} (start : ℕ) (made : Result (Box (Tree A) A) F) (rest : Bor (List Token)) (whole : Expr) (due : Outcome Word Located) → IfOk made (λ e. expr_of e.value ≡ whole) → due ≡ Ok ((start, whole), words_of rest.now)
-    → Gives (λ x. (located x.0, words_of x.1.now)) (starting_at start made rest) due
-placed start (Ok e) rest whole due h r = r ∙ ap (λ (x : Expr). let o : Outcome Word Located = Ok ((start, x), words_of rest.now) in o) (sym h)
-placed start (Err e) rest whole due h r = tt
 
 kept : {A F : Type 0} (made : Result (ℕ × Box (Tree A) A) F) (rest : Bor (List Token)) (whole : Located) (due : Outcome Word Located) → IfOk made (λ p. located p ≡ whole) → due ≡ Ok (whole, words_of rest.now)
     → Gives (λ x. (located x.0, words_of x.1.now)) (with_rest made rest) due
@@ -216,19 +213,17 @@ module _ (w d : _) (ts : List Word) (u : Word) (us : List Word) (opened : opened
     unfolding rules.case
     case_read v ys r = rw opened (rw arms (rw otherwise (rw r refl)))
 
-pub case-returns-in_err-other : goal.case-returns-in_err-other
-case-returns-in_err-other g t c =
-    let p = err_from_is_err_and c.from_residual-in_err-other.result c.from_residual-in_err-other.ensures.1 in
-    rw (p.1, p.2) (fault_along _ (reads grammar c.args.reader.run_limit c.args.reader.depth_limit rules.otherwise (map word_of c.in_ok-arms.rest.now)) (reads grammar c.args.reader.run_limit c.args.reader.depth_limit rules.case (map word_of c.args.tokens.now))
-    (case_no_other c.args.reader.run_limit c.args.reader.depth_limit (map word_of c.args.tokens.now) (word_of c.in_ok-word.word) (map word_of c.in_ok-word.rest.now) c.in_ok-word.ensures.token _ (map word_of c.in_ok-arms.rest.now) c.in_ok-arms.ensures) c.in_err-other.ensures)
+  ended : (x : Otherwise × List Word) → reads grammar w d rules.otherwise vs ≡ Ok x → (e : Outcome Word Word) → word_at kind_of (is k.End) x.1 ≡ e → reads grammar w d rules.case ts ≡ case_step u.at as_ x.0 x.1
+  ended x r (Err stop) e = rw e (case_no_end x.0 x.1 r stop e)
+  ended x r (Ok z) e = rw e (case_read x.0 x.1 r z.0 z.1 e)
 
-pub case-returns-in_err-rest : goal.case-returns-in_err-rest
-case-returns-in_err-rest g t c =
-    let p = err_from_is_err_and c.from_residual-in_err-rest.result c.from_residual-in_err-rest.ensures.1 in
-    rw (p.1, p.2) (fault_along _ (word_at kind_of (is k.End) (map word_of c.in_ok-other.rest.now)) (reads grammar c.args.reader.run_limit c.args.reader.depth_limit rules.case (map word_of c.args.tokens.now))
-    (case_no_end c.args.reader.run_limit c.args.reader.depth_limit (map word_of c.args.tokens.now) (word_of c.in_ok-word.word) (map word_of c.in_ok-word.rest.now) c.in_ok-word.ensures.token _ (map word_of c.in_ok-arms.rest.now) c.in_ok-arms.ensures _ (map word_of c.in_ok-other.rest.now) c.in_ok-other.ensures) c.in_err-rest.ensures)
+  -- a CASE goes on from what follows its arms
+  case_goes_on : (o : Outcome Word Otherwise) → reads grammar w d rules.otherwise vs ≡ o → reads grammar w d rules.case ts ≡ (o >>= λ x. case_step u.at as_ x.0 x.1)
+  case_goes_on (Err stop) r = case_no_other stop r
+  case_goes_on (Ok x) r = ended x r (word_at kind_of (is k.End) x.1) refl
 
 pub case-returns : goal.case-returns
 case-returns g t c =
-    rw c.starting_at.ensures (placed c.in_ok-word.word.offset c.case_of-case.result c.in_ok-rest.rest _ _ c.case_of-case.ensures
-    (case_read c.args.reader.run_limit c.args.reader.depth_limit (map word_of c.args.tokens.now) (word_of c.in_ok-word.word) (map word_of c.in_ok-word.rest.now) c.in_ok-word.ensures.token _ (map word_of c.in_ok-arms.rest.now) c.in_ok-arms.ensures _ (map word_of c.in_ok-other.rest.now) c.in_ok-other.ensures (word_of c.in_ok-rest.field-0-0) (map word_of c.in_ok-rest.rest.now) c.in_ok-rest.ensures))
+    rw (case_goes_on c.args.reader.run_limit c.args.reader.depth_limit (map word_of c.args.tokens.now) (word_of c.in_ok-word.word) (map word_of c.in_ok-word.rest.now) c.in_ok-word.ensures.token _ (map word_of c.in_ok-arms.rest.now) c.in_ok-arms.ensures
+    (reads grammar c.args.reader.run_limit c.args.reader.depth_limit rules.otherwise (map word_of c.in_ok-arms.rest.now)) refl)
+    (goes_on (λ t. otherwise_of t) (case_step c.in_ok-word.word.offset (map (λ a. arm_pair a) c.in_ok-arms.arms)) (λ t. located t) c.otherwise.result c.case_ended.result _ c.case_ended.ensures c.otherwise.ensures)
