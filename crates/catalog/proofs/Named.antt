@@ -1,8 +1,6 @@
 -- Named things as entries with a name.
-use Rattle.std.proofs.Common.{◌≡◌, ℕ, ◌+◌, Bool, true, false, cond, List, [], ◌∷◌, ◌++◌, map, find, Option, Some, None, is_some, option_map, refl, sym, ap, ◌∙◌, true≢false}
-use Rattle.std.proofs.lemmas.List.{map-append}
+use Rattle.std.proofs.Common.{◌≡◌, ℕ, ◌+◌, Bool, true, false, cond, List, [], ◌∷◌, map, find, Option, Some, None, is_some, option_map, refl, sym, ap, ◌∙◌, true≢false}
 use Rattle.std.specs.List.{position_from}
-use Rattle.catalog.specs.Checks.{with_last}
 
 pub is_some-map : {X Y : Type 0} (f : X → Y) (o : Option X) → is_some (option_map f o) ≡ is_some o
 is_some-map f None = refl
@@ -28,11 +26,3 @@ module _ {X Y : Type 0} (f : X → Y) (p : Y → Bool) where
       go : (o : Option X) → is_some o ≡ false → o ≡ None
       go None e = refl
       go (Some x) e = absurd (true≢false e)
-
--- ---- one more at the end, as it is seen
-
-pub one_more : {X Y : Type 0} (f : X → Y) (old new : List X) (x : X) (y : Y) → new ≡ old ++ x ∷ [] → f x ≡ y → map f new ≡ map f old ++ y ∷ []
-one_more f old new x y e is = ap (map f) e ∙ map-append f old (x ∷ []) ∙ ap (λ z. map f old ++ z ∷ []) is
-
-pub one_made : {X Y : Type 0} (f : X → Y) (old new : List X) (x : X) (o : Option Y) → new ≡ old ++ x ∷ [] → Some (f x) ≡ o → map f new ≡ with_last (map f old) o
-one_made f old new x o e is = one_more f old new x (f x) e refl ∙ ap (with_last (map f old)) is

@@ -1,12 +1,12 @@
 -- A table changed at its place.
-use Rattle.std.proofs.Common.{◌≡◌, ℕ, zero, suc, ◌+◌, ◌≤◌, Bool, true, false, cond, List, [], ◌∷◌, map, slice_get, Option, Some, None, Result, Ok, bytes_eq, refl, sym, ap, ◌∙◌, arith}
+use Rattle.std.proofs.Common.{◌≡◌, ℕ, zero, suc, ◌+◌, ◌≤◌, Bool, true, false, cond, List, [], ◌∷◌, Option, Some, None, Result, Ok, bytes_eq, refl, sym, ap, ◌∙◌, arith}
 use Rattle.std.specs.List.{position_from}
 use Rattle.value.specs.declared.refusal.Refusal.{Refusal}
 use Rattle.row_ast.specs.Ast.{Name}
-use Rattle.memberships.specs.Named.{set_value_at}
 use Rattle.row_objects.specs.Objects.{Table}
 use Rattle.catalog.specs.Catalog.{Catalog, table_place}
-use Rattle.catalog.specs.Checks.{changed_at, first_changed, unless, with_table}
+use Rattle.row_objects.specs.TableChanges.{changed_at}
+use Rattle.catalog.specs.Checks.{first_changed, unless, with_table}
 
 some_is : (i j : ℕ) → ◌≡◌ {A = Option ℕ} (Some i) (Some j) → i ≡ j
 some_is i j e = cc
@@ -45,22 +45,6 @@ module _ {E : Type 0} (p : E → Bool) where
     -- the change at the place of the first is the change of the first
     changed_first : (es : List E) (i : ℕ) → position_from p 0 es ≡ Some i → changed_at i f es ≡ first_changed p f es
     changed_first es i h = changed_from es 0 i (h ∙ some_of i (0 + i) (omega arith))
-
-module _ {V E : Type 0} (v : Name × V → E) where
-  some_value : (x y : V) → ◌≡◌ {A = Option V} (Some x) (Some y) → x ≡ y
-  some_value x y e = cc
-
-  -- a thing written at a place
-  pub written_at : (f : E → E) (es : List (Name × V)) (i : ℕ) (old new : V) → slice_get (map (λ e. e.1) es) i ≡ Some old → ((n : Name) → v (n, new) ≡ f (v (n, old))) → map v (set_value_at es i new) ≡ changed_at i f (map v es)
-  written_at f [] i old new at h = refl
-  written_at f (e ∷ es) zero old new at h = ap (λ x. x ∷ map v es) (h e.0 ∙ ap (λ (x : V). f (v (e.0, x))) (sym (some_value e.1 old at)))
-  written_at f (e ∷ es) (suc i) old new at h = ap (λ l. v e ∷ l) (written_at f es i old new at h)
-
-  -- one that is the same there
-  pub unchanged_at : (es : List (Name × V)) (i : ℕ) (old new : V) → slice_get (map (λ e. e.1) es) i ≡ Some old → ((n : Name) → v (n, new) ≡ v (n, old)) → map v (set_value_at es i new) ≡ map v es
-  unchanged_at [] i old new at h = refl
-  unchanged_at (e ∷ es) zero old new at h = ap (λ x. x ∷ map v es) (h e.0 ∙ ap (λ (x : V). v (e.0, x)) (sym (some_value e.1 old at)))
-  unchanged_at (e ∷ es) (suc i) old new at h = ap (λ l. v e ∷ l) (unchanged_at es i old new at h)
 
 -- the change at the place of the table that the checks found is the one that is due
 pub due : (cat : Catalog) (name : Name) (f : Table → Table) (place : ℕ) (refusal : Option Refusal) (new : Catalog) → refusal ≡ None → table_place name cat ≡ Some place

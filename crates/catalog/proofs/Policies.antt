@@ -8,9 +8,10 @@ use Rattle.expr.specs.Movable.{movable, if_movable}
 use Rattle.row_objects.specs.Objects.{Table}
 use Rattle.row_objects.specs.Policies.{has_policy_room, new_policy}
 use Rattle.scope.specs.declared.fault.NameFault.{NameFault}
+use Rattle.row_objects.specs.TableChanges.{changed_at, with_new_policy}
 use Rattle.catalog.specs.Catalog.{Catalog, table_named}
-use Rattle.catalog.specs.Checks.{changed_at, first_changed, first_refusal, unless, with_table}
-use Rattle.catalog.specs.CreatePolicy.{after_create_policy, bound_predicate, checks_bound, with_bound, with_new_policy, with_policy, CheckedPolicy, CheckedPredicate}
+use Rattle.catalog.specs.Checks.{first_changed, first_refusal, unless, with_table}
+use Rattle.catalog.specs.CreatePolicy.{after_create_policy, bound_predicate, checks_bound, with_bound, with_policy, CheckedPolicy, CheckedPredicate}
 use Rattle.catalog.proofs.Places.{due}
 
 -- ---- changes that agree on the first

@@ -6,9 +6,9 @@ use Rattle.row_ast.specs.Ast.{Name}
 use Rattle.grants.specs.Grants.{Grant, takes, without_grants}
 use Rattle.row_objects.specs.Objects.{Table}
 use Rattle.memberships.proofs.Paths.{text_same}
+use Rattle.row_objects.specs.TableChanges.{without_grants_to}
 use Rattle.catalog.specs.Catalog.{table_named}
 use Rattle.catalog.specs.Checks.{first_changed, if_found}
-use Rattle.catalog.specs.RevokeSelect.{without_grants_to}
 use Rattle.catalog.specs.Granted.{held_by, on_table, RevokedColumns, RevokedTable}
 
 -- on the table: no grant to the role is left

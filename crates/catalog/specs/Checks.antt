@@ -1,5 +1,5 @@
 -- What the statements share: checks in order, and one table changed.
-use Rattle.std.specs.Prelude.{◌≡◌, ℕ, zero, suc, Bool, nat_le, List, [], ◌∷◌, ◌++◌, length, Option, Some, None, Result, Ok, Err, if◌then◌else◌}
+use Rattle.std.specs.Prelude.{◌≡◌, ℕ, Bool, nat_le, List, [], ◌∷◌, length, Option, Some, None, Result, Ok, Err, if◌then◌else◌}
 use Rattle.std.specs.Str.{bytes_eq}
 use Rattle.value.specs.declared.refusal.Refusal.{Refusal}
 use Rattle.row_ast.specs.Ast.{Name}
@@ -44,14 +44,3 @@ first_changed p f (e ∷ es) = if p e then f e ∷ es else e ∷ first_changed p
 
 abbrev pub with_table : Catalog → Name → (Table → Table) → Catalog
 with_table cat name f = record cat { tables = first_changed (λ t. bytes_eq name t.name) f cat.tables }
-
--- the one at a place, changed
-abbrev pub changed_at : {E : Type 0} → ℕ → (E → E) → List E → List E
-changed_at i f [] = []
-changed_at zero f (e ∷ es) = f e ∷ es
-changed_at (suc i) f (e ∷ es) = e ∷ changed_at i f es
-
--- with one more at the end, if it is there
-abbrev pub with_last : {X : Type 0} → List X → Option X → List X
-with_last xs None = xs
-with_last xs (Some x) = xs ++ x ∷ []

@@ -3,9 +3,10 @@ use Rattle.std.specs.Prelude.{ℕ, true, not, List, [], ◌∷◌}
 use Rattle.value.specs.declared.refusal.Refusal.TheVariants as r
 use Rattle.row_ast.specs.Ast.{Name}
 use Rattle.row_objects.specs.Objects.{Table}
-use Rattle.row_objects.specs.Indexes.{is_indexed, new_index}
+use Rattle.row_objects.specs.Indexes.{is_indexed}
+use Rattle.row_objects.specs.TableChanges.{with_index}
 use Rattle.catalog.specs.Catalog.{Catalog, is_index, is_table, owns, place_of, table_named}
-use Rattle.catalog.specs.Checks.{Check, if_found, with_last, with_table}
+use Rattle.catalog.specs.Checks.{Check, if_found, with_table}
 
 -- the name is new to tables and indexes, and the column at the place has no index yet
 abbrev pub checks_new_index : Catalog → Name → Table → ℕ → List Check
@@ -18,9 +19,6 @@ abbrev pub checks_create_index : Catalog → Name → Name → Name → Name →
 checks_create_index cat actor name table column = if_found ((true, r.UndefinedTable) ∷ []) (λ t.
     (not (owns cat actor t), r.InsufficientPrivilege)
     ∷ if_found ((true, r.UndefinedColumn) ∷ []) (checks_new_index cat name t) (place_of t.columns column)) (table_named table cat)
-
-abbrev pub with_index : Name → Name → Table → Table
-with_index name column t = record t { indexes = with_last t.indexes (new_index name column t.columns) }
 
 abbrev pub after_create_index : Catalog → Name → Name → Name → Catalog
 after_create_index cat name table column = with_table cat table (with_index name column)

@@ -1,18 +1,19 @@
 -- CREATE POLICY name ON table [AS RESTRICTIVE] TO roles USING (predicate).
-use Rattle.std.specs.Prelude.{◌≡◌, ◌⊎◌, ℕ, true, not, List, [], ◌∷◌, ◌++◌, Option, Some, None, option_map, Result, Ok, Err}
+use Rattle.std.specs.Prelude.{◌≡◌, ◌⊎◌, ℕ, true, not, List, [], ◌∷◌, Option, Some, None, option_map, Result, Ok, Err}
 use Rattle.std.specs.List.{list_all}
 use Rattle.value.specs.declared.refusal.Refusal.{Refusal}
 use Rattle.value.specs.declared.refusal.Refusal.TheVariants as r
 use Rattle.row_ast.specs.Ast.{Name, Expr, CreatePolicy}
 use Rattle.expr.specs.Bound.{BoundExpr}
 use Rattle.expr.specs.Movable.{movable}
-use Rattle.row_objects.specs.Objects.{Policy, Table}
+use Rattle.row_objects.specs.Objects.{Table}
 use Rattle.row_objects.specs.Policies.{has_policy, has_policy_room, new_policy}
 use Rattle.scope.specs.declared.fault.NameFault.{NameFault}
 use Rattle.scope.specs.Entry.{Entry}
 use Rattle.scope.specs.Lookup.{everywhere}
 use Rattle.scope.specs.BoundExprs.{bound_expr}
 use Rattle.typing.specs.Clauses.{condition_fault}
+use Rattle.row_objects.specs.TableChanges.{with_new_policy}
 use Rattle.catalog.specs.Catalog.{Catalog, is_known, owns, table_named, table_place}
 use Rattle.catalog.specs.Checks.{Check, if_found, with_table}
 
@@ -65,9 +66,6 @@ CheckedPolicy (Ok found) refusal cat p =
     (refusal ≡ None) × (table_place p.table cat ≡ Some found.0) × (option_map (λ t. bound_predicate t p.predicate) (table_named p.table cat) ≡ Some (Ok found.1))
 
 -- ---- effect
-
-abbrev pub with_new_policy : Policy → Table → Table
-with_new_policy p t = record t { policies = t.policies ++ p ∷ [] }
 
 -- a condition whose names stand for nothing is refused, and does not come this far
 abbrev pub with_bound : CreatePolicy → Table → Result BoundExpr NameFault → Table

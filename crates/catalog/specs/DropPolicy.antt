@@ -2,8 +2,8 @@
 use Rattle.std.specs.Prelude.{true, not, List, [], ◌∷◌}
 use Rattle.value.specs.declared.refusal.Refusal.TheVariants as r
 use Rattle.row_ast.specs.Ast.{Name}
-use Rattle.row_objects.specs.Objects.{Table}
-use Rattle.row_objects.specs.Policies.{has_policy, without_policy}
+use Rattle.row_objects.specs.Policies.{has_policy}
+use Rattle.row_objects.specs.TableChanges.{without_policy_named}
 use Rattle.catalog.specs.Catalog.{Catalog, owns, table_named}
 use Rattle.catalog.specs.Checks.{Check, if_found, with_table}
 
@@ -11,9 +11,6 @@ abbrev pub checks_drop_policy : Catalog → Name → Name → Name → List Chec
 checks_drop_policy cat actor name table = if_found ((true, r.UndefinedTable) ∷ []) (λ t.
     (not (owns cat actor t), r.InsufficientPrivilege)
     ∷ (not (has_policy t.policies name), r.UndefinedObject) ∷ []) (table_named table cat)
-
-abbrev pub without_policy_named : Name → Table → Table
-without_policy_named name t = record t { policies = without_policy name t.policies }
 
 abbrev pub after_drop_policy : Catalog → Name → Name → Catalog
 after_drop_policy cat name table = with_table cat table (without_policy_named name)

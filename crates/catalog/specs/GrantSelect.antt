@@ -4,9 +4,8 @@ use Rattle.std.specs.List.{list_all}
 use Rattle.value.specs.declared.refusal.Refusal.TheVariants as r
 use Rattle.row_ast.specs.Ast as ast
 use Rattle.row_ast.specs.Ast.{Name}
-use Rattle.row_objects.specs.Objects.{Table}
-use Rattle.grants.specs.Grants.{grants_to_all, with_grants}
 use Rattle.row_objects.specs.ColumnNames.{are_columns}
+use Rattle.row_objects.specs.TableChanges.{with_grants_to}
 use Rattle.catalog.specs.Catalog.{Catalog, is_known, owns, table_named}
 use Rattle.catalog.specs.Checks.{Check, if_found, with_table}
 
@@ -16,9 +15,6 @@ checks_select cat actor grant = if_found ((true, r.UndefinedTable) ∷ []) (λ t
     (not (owns cat actor t), r.InsufficientPrivilege)
     ∷ (not (are_columns t.columns grant.columns), r.UndefinedColumn)
     ∷ (not (list_all (is_known cat) grant.roles), r.UndefinedObject) ∷ []) (table_named grant.table cat)
-
-abbrev pub with_grants_to : ast.Grant → Table → Table
-with_grants_to grant t = record t { grants = with_grants t.grants (grants_to_all grant.columns grant.roles) }
 
 abbrev pub after_grant_select : Catalog → ast.Grant → Catalog
 after_grant_select cat grant = with_table cat grant.table (with_grants_to grant)

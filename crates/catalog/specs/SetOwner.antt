@@ -2,7 +2,7 @@
 use Rattle.std.specs.Prelude.{true, not, ◌&&◌, ◌||◌, List, [], ◌∷◌}
 use Rattle.value.specs.declared.refusal.Refusal.TheVariants as r
 use Rattle.row_ast.specs.Ast.{Name}
-use Rattle.row_objects.specs.Objects.{Table}
+use Rattle.row_objects.specs.TableChanges.{with_owner}
 use Rattle.catalog.specs.Catalog.{Catalog, belongs, is_role, is_superuser, table_named}
 use Rattle.catalog.specs.Checks.{Check, if_found, with_table}
 
@@ -11,9 +11,6 @@ checks_set_owner cat actor table owner = if_found ((true, r.UndefinedTable) ∷ 
     (not (is_role cat owner), r.UndefinedObject)
     -- an actor that is no superuser must belong to both owners, the old and the new
     ∷ (not (is_superuser cat actor || (belongs cat actor t.owner && belongs cat actor owner)), r.InsufficientPrivilege) ∷ []) (table_named table cat)
-
-abbrev pub with_owner : Name → Table → Table
-with_owner owner t = record t { owner = owner }
 
 abbrev pub after_set_owner : Catalog → Name → Name → Catalog
 after_set_owner cat table owner = with_table cat table (with_owner owner)

@@ -1,16 +1,16 @@
 //! `CREATE INDEX name ON table (column)` (PostgreSQL: CREATE INDEX).
 
-ghost use Rattle.std.specs.Prelude.{◌≡◌, ◌<◌, IfOk, OnErr, OnOk, length, map};
-ghost use Rattle.row_objects.specs.View.{table_entry, table_of};
+ghost use Rattle.std.specs.Prelude.{◌≡◌, ◌<◌, IfOk, OnErr, OnOk, length};
+ghost use Rattle.row_objects.specs.View.{table_of};
+ghost use Rattle.row_objects.specs.TableChanges.{changed_at, with_index};
 ghost use Rattle.catalog.specs.Catalog.{table_place};
-ghost use Rattle.catalog.specs.Checks.{changed_at, first_refusal, unless, Checked};
-ghost use Rattle.catalog.specs.CreateIndex.{after_create_index, checks_create_index, checks_new_index, with_index};
+ghost use Rattle.catalog.specs.Checks.{first_refusal, unless, Checked};
+ghost use Rattle.catalog.specs.CreateIndex.{after_create_index, checks_create_index, checks_new_index};
 ghost use Rattle.catalog.specs.Changes.{IsChange};
 
 use crate::catalog::Catalog;
-use memberships::ByName;
 use memory::Heap;
-use row_objects::{Table, TableDef, is_indexed, new_index, place};
+use row_objects::{Table, add_index, is_indexed, place};
 use std::alloc::AllocError;
 use value::Refusal;
 
@@ -58,31 +58,13 @@ fn check_create_index<A: Heap>(
     }
 }
 
-fn add_index_in<A: Heap>(
-    alloc: A,
-    tables: &mut ByName<TableDef<A>, A>,
-    place: usize,
-    name: &str,
-    column: &str,
-) -> Result<(), AllocError>
-    requires { place < length tables.old }
-    ensures done { OnOk result (map (λ t. table_entry t) tables.new ≡ changed_at place (with_index name.now column.now) (map (λ t. table_entry t) tables.old)) }
-    ensures unchanged { OnErr result (map (λ t. table_entry t) tables.new ≡ map (λ t. table_entry t) tables.old) }
-{
-    let table = tables.at_mut(place);
-    if let Some(made) = new_index(alloc, name, column, table.columns.as_slice())? {
-        table.indexes.push(made)?;
-    }
-    Ok(())
-}
-
 impl<A: Heap> Catalog<A> {
     fn add_index_at(&mut self, place: usize, name: &str, column: &str) -> Result<(), AllocError>
         requires { place < length self.old.tables }
         ensures done { OnOk result (self.new ≡ record self.old { tables = changed_at place (with_index name.now column.now) self.old.tables }) }
         ensures unchanged { OnErr result (self.new ≡ self.old) }
     {
-        add_index_in(self.alloc, &mut self.tables, place, name, column)
+        add_index(self.alloc, &mut self.tables, place, name, column)
     }
 
     /// Makes an index, if no check refuses it.

@@ -1,23 +1,23 @@
 //! `CREATE POLICY name ON table [AS RESTRICTIVE] TO roles USING (predicate)` (PostgreSQL: CREATE POLICY).
 
-ghost use Rattle.std.specs.Prelude.{◌≡◌, ◌<◌, IfOk, None, Ok, OnErr, OnOk, length, map};
+ghost use Rattle.std.specs.Prelude.{◌≡◌, ◌<◌, IfOk, None, Ok, OnErr, OnOk, length};
 ghost use Rattle.row_ast.specs.View.{create_policy_of, expr_of};
 ghost use Rattle.expr.specs.View.{bound_expr_of};
 ghost use Rattle.row_objects.specs.Policies.{new_policy as made_policy};
-ghost use Rattle.row_objects.specs.View.{policy_of, table_entry, table_of};
+ghost use Rattle.row_objects.specs.View.{table_of};
 ghost use Rattle.scope.specs.View.{entry_of};
-ghost use Rattle.catalog.specs.Checks.{changed_at, first_refusal, unless};
+ghost use Rattle.row_objects.specs.TableChanges.{changed_at, with_new_policy};
+ghost use Rattle.catalog.specs.Checks.{first_refusal, unless};
 ghost use Rattle.catalog.specs.CreatePolicy as spec;
-ghost use Rattle.catalog.specs.CreatePolicy.{after_create_policy, bound_predicate, checks_bound, checks_create_policy, checks_predicate, with_new_policy, CheckedPolicy, CheckedPredicate};
+ghost use Rattle.catalog.specs.CreatePolicy.{after_create_policy, bound_predicate, checks_bound, checks_create_policy, checks_predicate, CheckedPolicy, CheckedPredicate};
 ghost use Rattle.catalog.specs.Changes.{IsChange};
 
 use crate::catalog::Catalog;
 use expr::{BoundExpr, is_movable};
-use memberships::ByName;
 use memory::{Failure, Heap};
 use movable_expr::MovableExpr;
 use row_ast::{CreatePolicy, Expr};
-use row_objects::{Policy, Table, TableDef, has_policy, new_policy};
+use row_objects::{Table, add_policy, has_policy, new_policy};
 use scope::{Entry, bind_expr, everywhere};
 use std::alloc::AllocError;
 use typing::condition_fault;
@@ -91,19 +91,6 @@ fn check_create_policy<A: Heap>(
     }
 }
 
-fn add_policy_in<A: Heap>(
-    tables: &mut ByName<TableDef<A>, A>,
-    place: usize,
-    policy: Policy<A>,
-) -> Result<(), AllocError>
-    requires { place < length tables.old }
-    ensures done { OnOk result (map (λ t. table_entry t) tables.new ≡ changed_at place (with_new_policy (policy_of policy)) (map (λ t. table_entry t) tables.old)) }
-    ensures unchanged { OnErr result (map (λ t. table_entry t) tables.new ≡ map (λ t. table_entry t) tables.old) }
-{
-    let table = tables.at_mut(place);
-    table.policies.push(policy)
-}
-
 impl<A: Heap> Catalog<A> {
     fn add_policy_at(
         &mut self,
@@ -117,7 +104,7 @@ impl<A: Heap> Catalog<A> {
     {
         match new_policy(self.alloc, policy, predicate) {
             Err(error) => Err(error),
-            Ok(made) => add_policy_in(&mut self.tables, place, made),
+            Ok(made) => add_policy(&mut self.tables, place, made),
         }
     }
 

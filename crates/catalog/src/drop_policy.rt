@@ -1,16 +1,15 @@
 //! `DROP POLICY name ON table` (PostgreSQL: DROP POLICY).
 
-ghost use Rattle.std.specs.Prelude.{◌≡◌, ◌<◌, IfOk, length, map};
-ghost use Rattle.row_objects.specs.View.{table_entry};
+ghost use Rattle.std.specs.Prelude.{◌≡◌, ◌<◌, IfOk, length};
+ghost use Rattle.row_objects.specs.TableChanges.{changed_at, without_policy_named};
 ghost use Rattle.catalog.specs.Catalog.{table_place};
-ghost use Rattle.catalog.specs.Checks.{changed_at, first_refusal, unless, Checked};
-ghost use Rattle.catalog.specs.DropPolicy.{after_drop_policy, checks_drop_policy, without_policy_named};
+ghost use Rattle.catalog.specs.Checks.{first_refusal, unless, Checked};
+ghost use Rattle.catalog.specs.DropPolicy.{after_drop_policy, checks_drop_policy};
 ghost use Rattle.catalog.specs.Changes.{IsExactChange};
 
 use crate::catalog::Catalog;
-use memberships::ByName;
 use memory::Heap;
-use row_objects::{TableDef, has_policy, remove_policy};
+use row_objects::{drop_policy, has_policy};
 use value::Refusal;
 
 fn check_drop_policy<A: Heap>(
@@ -34,20 +33,12 @@ fn check_drop_policy<A: Heap>(
     }
 }
 
-fn drop_policy_in<A: Heap>(alloc: A, tables: &mut ByName<TableDef<A>, A>, place: usize, name: &str)
-    requires { place < length tables.old }
-    ensures { map (λ t. table_entry t) tables.new ≡ changed_at place (without_policy_named name.now) (map (λ t. table_entry t) tables.old) }
-{
-    let table = tables.at_mut(place);
-    remove_policy(alloc, &mut table.policies, name);
-}
-
 impl<A: Heap> Catalog<A> {
     fn drop_policy_at(&mut self, place: usize, name: &str)
         requires { place < length self.old.tables }
         ensures { self.new ≡ record self.old { tables = changed_at place (without_policy_named name.now) self.old.tables } }
     {
-        drop_policy_in(self.alloc, &mut self.tables, place, name);
+        drop_policy(self.alloc, &mut self.tables, place, name);
     }
 
     /// Takes a policy from a table, if no check refuses it. It takes no memory.

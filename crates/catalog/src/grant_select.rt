@@ -1,19 +1,17 @@
 //! `GRANT SELECT [(columns)] ON table TO roles` (PostgreSQL: GRANT).
 
-ghost use Rattle.std.specs.Prelude.{◌≡◌, ◌<◌, IfOk, OnErr, OnOk, length, map};
+ghost use Rattle.std.specs.Prelude.{◌≡◌, ◌<◌, IfOk, OnErr, OnOk, length};
 ghost use Rattle.row_ast.specs.View.{grant_of};
-ghost use Rattle.row_objects.specs.View.{table_entry};
+ghost use Rattle.row_objects.specs.TableChanges.{changed_at, with_grants_to};
 ghost use Rattle.catalog.specs.Catalog.{table_place};
-ghost use Rattle.catalog.specs.Checks.{changed_at, first_refusal, unless, Checked};
-ghost use Rattle.catalog.specs.GrantSelect.{after_grant_select, checks_select, with_grants_to};
+ghost use Rattle.catalog.specs.Checks.{first_refusal, unless, Checked};
+ghost use Rattle.catalog.specs.GrantSelect.{after_grant_select, checks_select};
 ghost use Rattle.catalog.specs.Changes.{IsChange};
 
 use crate::catalog::Catalog;
-use grants::add_grants;
-use memberships::ByName;
 use memory::Heap;
 use row_ast::Grant;
-use row_objects::{TableDef, are_columns};
+use row_objects::{are_columns, grant_select};
 use std::alloc::AllocError;
 use value::Refusal;
 
@@ -40,32 +38,13 @@ pub(crate) fn check_select<A: Heap>(
     }
 }
 
-fn grant_in<A: Heap>(
-    alloc: A,
-    tables: &mut ByName<TableDef<A>, A>,
-    place: usize,
-    grant: &Grant<A>,
-) -> Result<(), AllocError>
-    requires { place < length tables.old }
-    ensures done { OnOk result (map (λ t. table_entry t) tables.new ≡ changed_at place (with_grants_to (grant_of grant.now)) (map (λ t. table_entry t) tables.old)) }
-    ensures unchanged { OnErr result (map (λ t. table_entry t) tables.new ≡ map (λ t. table_entry t) tables.old) }
-{
-    let table = tables.at_mut(place);
-    add_grants(
-        alloc,
-        &mut table.grants,
-        &grant.columns,
-        grant.roles.as_slice(),
-    )
-}
-
 impl<A: Heap> Catalog<A> {
     fn grant_at(&mut self, place: usize, grant: &Grant<A>) -> Result<(), AllocError>
         requires { place < length self.old.tables }
         ensures done { OnOk result (self.new ≡ record self.old { tables = changed_at place (with_grants_to (grant_of grant.now)) self.old.tables }) }
         ensures unchanged { OnErr result (self.new ≡ self.old) }
     {
-        grant_in(self.alloc, &mut self.tables, place, grant)
+        grant_select(self.alloc, &mut self.tables, place, grant)
     }
 
     /// Grants SELECT on a table, or on columns of it, to roles, if no check refuses it. What is granted already stays as it is.

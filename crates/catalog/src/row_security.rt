@@ -1,17 +1,16 @@
 //! `ALTER TABLE table ENABLE`, `DISABLE`, `FORCE` or `NO FORCE ROW LEVEL SECURITY` (PostgreSQL: ALTER TABLE).
 
-ghost use Rattle.std.specs.Prelude.{◌≡◌, ◌<◌, IfOk, List, length, map, ℕ};
-ghost use Rattle.row_objects.specs.View.{table_entry};
+ghost use Rattle.std.specs.Prelude.{◌≡◌, ◌<◌, IfOk, length};
+ghost use Rattle.row_objects.specs.TableChanges.{changed_at, with_row_security};
 ghost use Rattle.catalog.specs.Catalog.{table_place};
-ghost use Rattle.catalog.specs.Checks.{changed_at, first_refusal, unless, Checked};
-ghost use Rattle.catalog.specs.RowSecurity.{after_row_security, checks_row_security, with_row_security};
+ghost use Rattle.catalog.specs.Checks.{first_refusal, unless, Checked};
+ghost use Rattle.catalog.specs.RowSecurity.{after_row_security, checks_row_security};
 ghost use Rattle.catalog.specs.Changes.{IsExactChange};
 
 use crate::catalog::Catalog;
-use memberships::ByName;
 use memory::Heap;
 use row_ast::RowSecurity;
-use row_objects::TableDef;
+use row_objects::set_row_security;
 use value::Refusal;
 
 fn check_row_security<A: Heap>(
@@ -32,30 +31,12 @@ fn check_row_security<A: Heap>(
     }
 }
 
-fn set<A: Heap>(table: &mut TableDef<A>, setting: RowSecurity)
-    ensures { (name : List ℕ) → table_entry (name, table.new) ≡ with_row_security setting (table_entry (name, table.old)) }
-{
-    match setting {
-        RowSecurity::Enable => table.row_security = true,
-        RowSecurity::Disable => table.row_security = false,
-        RowSecurity::Force => table.forced = true,
-        RowSecurity::NoForce => table.forced = false,
-    }
-}
-
-fn set_in<A: Heap>(tables: &mut ByName<TableDef<A>, A>, place: usize, setting: RowSecurity)
-    requires { place < length tables.old }
-    ensures { map (λ t. table_entry t) tables.new ≡ changed_at place (with_row_security setting) (map (λ t. table_entry t) tables.old) }
-{
-    set(tables.at_mut(place), setting);
-}
-
 impl<A: Heap> Catalog<A> {
     fn set_row_security_at(&mut self, place: usize, setting: RowSecurity)
         requires { place < length self.old.tables }
         ensures { self.new ≡ record self.old { tables = changed_at place (with_row_security setting) self.old.tables } }
     {
-        set_in(&mut self.tables, place, setting);
+        set_row_security(&mut self.tables, place, setting);
     }
 
     /// Sets row security, if no check refuses it. It takes no memory.

@@ -1,16 +1,16 @@
 //! `ALTER TABLE table OWNER TO owner` (PostgreSQL: ALTER TABLE).
 
-ghost use Rattle.std.specs.Prelude.{◌≡◌, ◌<◌, ◌&&◌, ◌||◌, IfOk, OnErr, OnOk, length, map};
-ghost use Rattle.row_objects.specs.View.{table_entry, table_of};
+ghost use Rattle.std.specs.Prelude.{◌≡◌, ◌<◌, ◌&&◌, ◌||◌, IfOk, OnErr, OnOk, length};
+ghost use Rattle.row_objects.specs.View.{table_of};
+ghost use Rattle.row_objects.specs.TableChanges.{changed_at, with_owner};
 ghost use Rattle.catalog.specs.Catalog.{belongs, is_superuser, table_place};
-ghost use Rattle.catalog.specs.Checks.{changed_at, first_refusal, unless, Checked};
-ghost use Rattle.catalog.specs.SetOwner.{after_set_owner, checks_set_owner, with_owner};
+ghost use Rattle.catalog.specs.Checks.{first_refusal, unless, Checked};
+ghost use Rattle.catalog.specs.SetOwner.{after_set_owner, checks_set_owner};
 ghost use Rattle.catalog.specs.Changes.{IsChange};
 
 use crate::catalog::Catalog;
-use memberships::ByName;
 use memory::Heap;
-use row_objects::{Table, TableDef};
+use row_objects::{Table, give_table};
 use std::alloc::AllocError;
 use text::Text;
 use value::Refusal;
@@ -43,13 +43,6 @@ fn check_set_owner<A: Heap>(
     }
 }
 
-fn set_owner_in<A: Heap>(tables: &mut ByName<TableDef<A>, A>, place: usize, owner: Text<A>)
-    requires { place < length tables.old }
-    ensures { map (λ t. table_entry t) tables.new ≡ changed_at place (with_owner owner) (map (λ t. table_entry t) tables.old) }
-{
-    tables.at_mut(place).owner = owner;
-}
-
 impl<A: Heap> Catalog<A> {
     fn set_owner_at(&mut self, place: usize, owner: &str) -> Result<(), AllocError>
         requires { place < length self.old.tables }
@@ -57,7 +50,7 @@ impl<A: Heap> Catalog<A> {
         ensures unchanged { OnErr result (self.new ≡ self.old) }
     {
         let owner = Text::new(self.alloc, owner)?;
-        set_owner_in(&mut self.tables, place, owner);
+        give_table(&mut self.tables, place, owner);
         Ok(())
     }
 

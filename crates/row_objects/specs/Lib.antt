@@ -4,3 +4,4 @@ pub mod Policies
 pub mod Indexes
 pub mod TableDefs
 pub mod View
+pub mod TableChanges

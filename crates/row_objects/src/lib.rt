@@ -1,6 +1,7 @@
-//! The things of a catalogue: its roles and tables, the policies and the indexes of a table.
+//! The things of a catalogue: its roles and tables, the policies and the indexes of a table, and what is changed of a table.
 #![tactic(auto)]
 
+mod changes;
 mod copies;
 mod indexes;
 mod names;
@@ -8,6 +9,9 @@ mod objects;
 mod policies;
 mod table_defs;
 
+pub use changes::{
+    add_index, add_policy, drop_policy, give_table, grant_select, revoke_select, set_row_security,
+};
 pub use indexes::{any_index, is_indexed, new_index};
 pub use names::{are_columns, column_named, has_name_twice, is_qualified, place};
 pub use objects::{Index, Policy, Role, Table, TableDef};

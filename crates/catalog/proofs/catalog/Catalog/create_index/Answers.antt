@@ -1,5 +1,6 @@
+use Rattle.row_objects.specs.TableChanges.{with_index}
 use Rattle.catalog.specs.Checks.{first_refusal}
-use Rattle.catalog.specs.CreateIndex.{checks_create_index, with_index}
+use Rattle.catalog.specs.CreateIndex.{checks_create_index}
 use Rattle.catalog.proofs.Places.{due}
 use Rattle.catalog.proofs.catalog.Catalog.create_index.Goals as goal
 

@@ -1,5 +1,6 @@
+use Rattle.row_objects.specs.TableChanges.{without_policy_named}
 use Rattle.catalog.specs.Checks.{first_refusal}
-use Rattle.catalog.specs.DropPolicy.{checks_drop_policy, without_policy_named}
+use Rattle.catalog.specs.DropPolicy.{checks_drop_policy}
 use Rattle.catalog.proofs.Places.{due}
 use Rattle.catalog.proofs.catalog.Catalog.drop_policy.Goals as goal
 

@@ -1,16 +1,15 @@
 use Rattle.std.proofs.Common.{ap}
 use Rattle.row_objects.specs.View.{table_entry}
+use Rattle.row_objects.specs.TableChanges.{changed_at, without_policy_named}
 use Rattle.catalog.specs.Catalog.{Catalog}
-use Rattle.catalog.specs.Checks.{changed_at}
-use Rattle.catalog.specs.DropPolicy.{without_policy_named}
 use Rattle.catalog.proofs.TableChanges.{below, changed}
 use Rattle.catalog.proofs.catalog.Catalog.drop_policy_at.Goals as goal
 
-pub drop_policy_in-requires : goal.drop_policy_in-requires
-drop_policy_in-requires g c = below (λ t. table_entry t) c.self.inside.tables c.args.self.now c.args.place (ap (λ (k : Catalog). k.tables) c.self.view_is) c.requires
+pub drop_policy-requires : goal.drop_policy-requires
+drop_policy-requires g c = below (λ t. table_entry t) c.self.inside.tables c.args.self.now c.args.place (ap (λ (k : Catalog). k.tables) c.self.view_is) c.requires
 
 pub invariant_of-self : goal.invariant_of-self
 invariant_of-self g c = c.self.invariant
 
 pub returns : goal.returns
-returns g c = changed _ c.args.self.now c.self.view_is (changed_at c.args.place (without_policy_named c.args.name.now)) _ c.drop_policy_in.ensures
+returns g c = changed _ c.args.self.now c.self.view_is (changed_at c.args.place (without_policy_named c.args.name.now)) _ c.drop_policy.ensures

@@ -1,6 +1,7 @@
 use Rattle.row_ast.specs.View.{grant_of}
+use Rattle.row_objects.specs.TableChanges.{with_grants_to}
 use Rattle.catalog.specs.Checks.{first_refusal}
-use Rattle.catalog.specs.GrantSelect.{checks_select, with_grants_to}
+use Rattle.catalog.specs.GrantSelect.{checks_select}
 use Rattle.catalog.proofs.Places.{due}
 use Rattle.catalog.proofs.catalog.Catalog.grant_select.Goals as goal
 

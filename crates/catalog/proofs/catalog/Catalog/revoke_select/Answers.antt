@@ -1,7 +1,7 @@
 use Rattle.row_ast.specs.View.{grant_of}
+use Rattle.row_objects.specs.TableChanges.{without_grants_to}
 use Rattle.catalog.specs.Checks.{first_refusal}
 use Rattle.catalog.specs.GrantSelect.{checks_select}
-use Rattle.catalog.specs.RevokeSelect.{without_grants_to}
 use Rattle.catalog.proofs.Places.{due}
 use Rattle.catalog.proofs.catalog.Catalog.revoke_select.Goals as goal
 

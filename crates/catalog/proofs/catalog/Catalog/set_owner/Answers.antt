@@ -1,5 +1,6 @@
+use Rattle.row_objects.specs.TableChanges.{with_owner}
 use Rattle.catalog.specs.Checks.{first_refusal}
-use Rattle.catalog.specs.SetOwner.{checks_set_owner, with_owner}
+use Rattle.catalog.specs.SetOwner.{checks_set_owner}
 use Rattle.catalog.proofs.Places.{due}
 use Rattle.catalog.proofs.catalog.Catalog.set_owner.Goals as goal
 

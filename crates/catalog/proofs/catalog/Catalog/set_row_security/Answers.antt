@@ -1,5 +1,6 @@
+use Rattle.row_objects.specs.TableChanges.{with_row_security}
 use Rattle.catalog.specs.Checks.{first_refusal}
-use Rattle.catalog.specs.RowSecurity.{checks_row_security, with_row_security}
+use Rattle.catalog.specs.RowSecurity.{checks_row_security}
 use Rattle.catalog.proofs.Places.{due}
 use Rattle.catalog.proofs.catalog.Catalog.set_row_security.Goals as goal
 

@@ -1,16 +1,15 @@
 use Rattle.std.proofs.Common.{ap}
 use Rattle.row_objects.specs.View.{table_entry}
+use Rattle.row_objects.specs.TableChanges.{changed_at, with_row_security}
 use Rattle.catalog.specs.Catalog.{Catalog}
-use Rattle.catalog.specs.Checks.{changed_at}
-use Rattle.catalog.specs.RowSecurity.{with_row_security}
 use Rattle.catalog.proofs.TableChanges.{below, changed}
 use Rattle.catalog.proofs.catalog.Catalog.set_row_security_at.Goals as goal
 
-pub set_in-requires : goal.set_in-requires
-set_in-requires g c = below (λ t. table_entry t) c.self.inside.tables c.args.self.now c.args.place (ap (λ (k : Catalog). k.tables) c.self.view_is) c.requires
+pub set_row_security-requires : goal.set_row_security-requires
+set_row_security-requires g c = below (λ t. table_entry t) c.self.inside.tables c.args.self.now c.args.place (ap (λ (k : Catalog). k.tables) c.self.view_is) c.requires
 
 pub invariant_of-self : goal.invariant_of-self
 invariant_of-self g c = c.self.invariant
 
 pub returns : goal.returns
-returns g c = changed _ c.args.self.now c.self.view_is (changed_at c.args.place (with_row_security c.args.setting)) _ c.set_in.ensures
+returns g c = changed _ c.args.self.now c.self.view_is (changed_at c.args.place (with_row_security c.args.setting)) _ c.set_row_security.ensures

@@ -3,9 +3,9 @@ use Rattle.row_ast.specs.View.{grant_of}
 use Rattle.grants.specs.Grants.{Grant}
 use Rattle.row_objects.specs.Objects.{Table}
 use Rattle.row_objects.specs.View.{table_entry}
-use Rattle.catalog.specs.RevokeSelect.{without_grants_to}
-use Rattle.catalog.proofs.Places.{written_at}
-use Rattle.catalog.proofs.revoke_select.revoke_in.Goals as goal
+use Rattle.row_objects.specs.TableChanges.{without_grants_to}
+use Rattle.row_objects.proofs.Places.{written_at}
+use Rattle.row_objects.proofs.changes.revoke_select.Goals as goal
 
 pub returns : goal.returns
 returns g c =

@@ -5,9 +5,9 @@ use Rattle.grants.specs.Grants.{Grant}
 use Rattle.row_objects.specs.Objects.{Table}
 use Rattle.grants.specs.View.{grant_of}
 use Rattle.row_objects.specs.View.{table_entry}
-use Rattle.catalog.specs.GrantSelect.{with_grants_to}
-use Rattle.catalog.proofs.Places.{written_at, unchanged_at}
-use Rattle.catalog.proofs.grant_select.grant_in.Goals as goal
+use Rattle.row_objects.specs.TableChanges.{with_grants_to}
+use Rattle.row_objects.proofs.Places.{written_at, unchanged_at}
+use Rattle.row_objects.proofs.changes.grant_select.Goals as goal
 
 pub returns-clause-done : goal.returns-clause-done
 returns-clause-done g c =

@@ -1,11 +1,9 @@
 use Rattle.std.proofs.Common.{List, refl, ap, map, Result, Ok, Err, OnErr}
 use Rattle.row_objects.specs.Objects.{Index, Table}
 use Rattle.row_objects.specs.View.{index_of, table_entry}
-use Rattle.catalog.specs.Checks.{with_last}
-use Rattle.catalog.specs.CreateIndex.{with_index}
-use Rattle.catalog.proofs.Named.{one_made}
-use Rattle.catalog.proofs.Places.{written_at, unchanged_at}
-use Rattle.catalog.proofs.create_index.add_index_in.Goals as goal
+use Rattle.row_objects.specs.TableChanges.{with_last, with_index}
+use Rattle.row_objects.proofs.Places.{one_made, written_at, unchanged_at}
+use Rattle.row_objects.proofs.changes.add_index.Goals as goal
 
 on_err : {T E P : Type 0} (r : Result T E) → P → OnErr r P
 on_err (Ok x) p = tt

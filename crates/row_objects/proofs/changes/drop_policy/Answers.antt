@@ -1,9 +1,9 @@
 use Rattle.std.proofs.Common.{List, ap}
 use Rattle.row_objects.specs.Objects.{Policy, Table}
 use Rattle.row_objects.specs.View.{table_entry}
-use Rattle.catalog.specs.DropPolicy.{without_policy_named}
-use Rattle.catalog.proofs.Places.{written_at}
-use Rattle.catalog.proofs.drop_policy.drop_policy_in.Goals as goal
+use Rattle.row_objects.specs.TableChanges.{without_policy_named}
+use Rattle.row_objects.proofs.Places.{written_at}
+use Rattle.row_objects.proofs.changes.drop_policy.Goals as goal
 
 pub returns : goal.returns
 returns g c =

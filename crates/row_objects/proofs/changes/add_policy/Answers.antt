@@ -2,10 +2,9 @@ use Rattle.std.proofs.Common.{List, refl, ap, map}
 use Rattle.std.proofs.lemmas.Result.{on_ok_weaker, on_err_weaker}
 use Rattle.row_objects.specs.Objects.{Policy, Table}
 use Rattle.row_objects.specs.View.{policy_of, table_entry}
-use Rattle.catalog.specs.CreatePolicy.{with_new_policy}
-use Rattle.catalog.proofs.Named.{one_more}
-use Rattle.catalog.proofs.Places.{written_at, unchanged_at}
-use Rattle.catalog.proofs.create_policy.add_policy_in.Goals as goal
+use Rattle.row_objects.specs.TableChanges.{with_new_policy}
+use Rattle.row_objects.proofs.Places.{one_more, written_at, unchanged_at}
+use Rattle.row_objects.proofs.changes.add_policy.Goals as goal
 
 pub returns-clause-done : goal.returns-clause-done
 returns-clause-done g c = on_ok_weaker c.push.result (λ d.
