@@ -1,3 +1,2 @@
 pub mod Queries
-pub mod Limits
 pub mod View

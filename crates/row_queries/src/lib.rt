@@ -1,8 +1,6 @@
-//! Queries, from tokens, and how large they may be.
+//! Queries, from tokens.
 #![tactic(auto)]
 
-mod limits;
 mod queries;
 
-pub use limits::is_small;
 pub use queries::query;

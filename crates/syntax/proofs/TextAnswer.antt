@@ -11,7 +11,7 @@ use Rattle.row_reader.specs.Language.{language, Rule}
 use Rattle.row_reader.specs.Expressions.{nested_first, grammar, run_limit, depth_limit}
 use Rattle.row_queries.specs.Queries.{query}
 use Rattle.row_statements.specs.Schemas.{schema, statement}
-use Rattle.row_queries.specs.Limits.{is_small}
+use Rattle.query_limits.specs.Limits.{is_small}
 use Rattle.syntax.specs.Parsing.{Spells, StopsAt, PassesLimit, query_bytes, schema_bytes, statement_bytes, RefusesQuery, Refuses, of_text, read_within, of_size, parsed_query, parsed_schema, parsed_statement, IsDetermined, IsSmall, Fits}
 use Rattle.memory.specs.Gives.{Gives}
 use Rattle.memory.specs.declared.failure.Failure.{Failure}

@@ -11,7 +11,7 @@ use Rattle.row_ast.specs.Statements.{Statement}
 use Rattle.row_reader.specs.Language.{Rule}
 use Rattle.row_reader.specs.Expressions.{grammar, run_limit, depth_limit}
 use Rattle.row_queries.specs.Queries.{query}
-use Rattle.row_queries.specs.Limits.{is_small}
+use Rattle.query_limits.specs.Limits.{is_small}
 use Rattle.row_statements.specs.Schemas.{schema, statement}
 use Rattle.syntax.specs.declared.fault.ParseError.{ParseError}
 use Rattle.syntax.specs.declared.fault.ParseError.TheVariants as errors

@@ -16,9 +16,10 @@ ghost use Rattle.syntax.specs.Parsing.{Spells, RefusesQuery, RefusesSchema, Refu
 
 use crate::fault::ParseError;
 use memory::{Failure, Heap};
+use query_limits::is_small;
 use row_ast::{Query, Statement};
 use row_grammar::ReadError;
-use row_queries::{is_small, query};
+use row_queries::query;
 use row_reader::reader::{Parsed, Parser, Reader};
 use row_statements::{schema, statement};
 use row_tokens::{Token, scan};

@@ -4,10 +4,10 @@ use Rattle.row_grammar.specs.Limits.{reads}
 use Rattle.row_tokens.specs.View.{word_of}
 use Rattle.row_reader.specs.Language.{language}
 use Rattle.row_reader.specs.Expressions.{grammar, nested_first}
-use Rattle.row_queries.specs.Queries.{join, join_list}
+use Rattle.row_from.specs.From.{join, join_list}
 use Rattle.row_ast.specs.View.{join_of}
 use Rattle.row_reader.proofs.Lists.{listed}
-use Rattle.row_queries.proofs.queries.join_list.Given as goal
+use Rattle.row_from.proofs.tables.join_list.Given as goal
 
 abbrev pub invariant-loop : goal.invariant-loop
 invariant-loop g l =

@@ -1,11 +1,11 @@
 use Rattle.std.proofs.Common.{◌+◌, length, arith, sym}
 use Rattle.std.proofs.lemmas.Bool.{lt-leb}
 use Rattle.std.proofs.lemmas.List.{length-map}
-use Rattle.row_queries.specs.Limits.{most_entries}
+use Rattle.query_limits.specs.Limits.{most_entries}
 use Rattle.row_ast.specs.Ast.{FromItem}
 use Rattle.row_ast.specs.View.{from_item_of, join_of}
-use Rattle.row_queries.proofs.Sums.{room_passed}
-use Rattle.row_queries.proofs.limits.within_entries.Goals as goal
+use Rattle.query_limits.proofs.Sums.{room_passed}
+use Rattle.query_limits.proofs.limits.within_entries.Goals as goal
 
 pub returns-then-joins-left : goal.returns-then-joins-left
 returns-then-joins-left g c =

@@ -5,10 +5,10 @@ use Rattle.row_grammar.specs.Decoder.{first}
 use Rattle.row_tokens.specs.View.{word_of}
 use Rattle.row_reader.specs.Language.{language}
 use Rattle.row_reader.specs.Expressions.{nested_first}
-use Rattle.row_queries.specs.Queries.{join, join_list}
+use Rattle.row_from.specs.From.{join, join_list}
 use Rattle.row_ast.specs.View.{join_of}
 use Rattle.row_reader.proofs.Lists.{listed_stop, listed_over, listed_fail, listed_go, listed_start}
-use Rattle.row_queries.proofs.queries.join_list.Goals as goal
+use Rattle.row_from.proofs.tables.join_list.Goals as goal
 
 pub loop-init : goal.loop-init
 unfolding join_list

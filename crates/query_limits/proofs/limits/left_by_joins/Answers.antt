@@ -1,8 +1,8 @@
 use Rattle.std.proofs.Common.{arith}
-use Rattle.row_queries.specs.Limits.{join_members}
+use Rattle.query_limits.specs.Limits.{join_members}
 use Rattle.row_ast.specs.View.{join_of}
-use Rattle.row_queries.proofs.Sums.{sum_next, room_left, room_passed}
-use Rattle.row_queries.proofs.limits.left_by_joins.Goals as goal
+use Rattle.query_limits.proofs.Sums.{sum_next, room_left, room_passed}
+use Rattle.query_limits.proofs.limits.left_by_joins.Goals as goal
 
 pub returns-in_err-left : goal.returns-in_err-left
 returns-in_err-left g c =

@@ -1,10 +1,10 @@
 use Rattle.std.proofs.Common.{map, arith}
 use Rattle.std.specs.List.{sum}
-use Rattle.row_queries.specs.Limits.{join_members}
+use Rattle.query_limits.specs.Limits.{join_members}
 use Rattle.row_ast.specs.Ast.{FromItem}
 use Rattle.row_ast.specs.View.{from_item_of}
-use Rattle.row_queries.proofs.Sums.{sum_next, room_passed}
-use Rattle.row_queries.proofs.limits.left_by_chains.Goals as goal
+use Rattle.query_limits.proofs.Sums.{sum_next, room_passed}
+use Rattle.query_limits.proofs.limits.left_by_chains.Goals as goal
 
 pub returns-in_err-left : goal.returns-in_err-left
 returns-in_err-left g c =

@@ -1,9 +1,9 @@
-//! How large a query may be.
+//! `is_small`, and what it counts.
 
 ghost use Rattle.std.specs.Prelude.{◌≡◌, ◌≤◌, ◌-◌, nat_le, length, map, option_map, SomeIff};
 ghost use Rattle.std.specs.List.{sum};
-ghost use Rattle.row_queries.specs.Limits as sizes;
-ghost use Rattle.row_queries.specs.Limits.{entries, join_members, filter_members, from_members, conjuncts, item_count, within_joined, within_lists, within_columns, most_entries, most_conjuncts, most_items};
+ghost use Rattle.query_limits.specs.Limits as sizes;
+ghost use Rattle.query_limits.specs.Limits.{entries, join_members, filter_members, from_members, conjuncts, item_count, within_joined, within_lists, within_columns, most_entries, most_conjuncts, most_items};
 ghost use Rattle.row_ast.specs.Ast as ast;
 ghost use Rattle.row_ast.specs.View.{expr_of, condition_of, select_list_of, join_of, from_item_of, query_of};
 

@@ -3,7 +3,7 @@ use Rattle.std.proofs.lemmas.List.{length-map}
 use Rattle.row_ast.specs.Ast as ast
 use Rattle.row_ast.specs.View.{expr_of}
 use Rattle.row_ast.proofs.Trees.{members_hidden}
-use Rattle.row_queries.proofs.limits.members.Goals as goal
+use Rattle.query_limits.proofs.limits.members.Goals as goal
 
 pub returns-in-And : goal.returns-in-And
 returns-in-And g c =

@@ -1,6 +1,6 @@
 use Rattle.std.proofs.Common.{◌∙◌, sym}
 use Rattle.std.proofs.lemmas.Bool.{and_left}
-use Rattle.row_queries.proofs.limits.within_joined.Goals as goal
+use Rattle.query_limits.proofs.limits.within_joined.Goals as goal
 
 pub returns-else-within_entries : goal.returns-else-within_entries
 returns-else-within_entries g c =

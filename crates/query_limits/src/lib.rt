@@ -1,0 +1,6 @@
+//! How large a query may be.
+#![tactic(auto)]
+
+mod limits;
+
+pub use limits::is_small;
