@@ -14,7 +14,8 @@ use Rattle.groups.proofs.SameGroups.{map-map}
 use Rattle.scope.specs.BoundQuery.{BoundQuery}
 use Rattle.query_parts.specs.Conjuncts.{conjuncts, fragile, fragile_conjuncts, movable_conjuncts}
 use Rattle.operators.specs.Combinations.{Combination, combinations, joined_cells, all_hold, passing}
-use Rattle.report.specs.Answer.{keeps, where_fate, where_stage, items_fate, arguments_fate, rows_of_members, rows_of, in_order, rows_of_kept, answer, answer_over}
+use Rattle.query_stages.specs.QueryStages.{keeps, where_fate, where_stage, items_fate, arguments_fate, rows_of_members}
+use Rattle.report.specs.Answer.{rows_of, in_order, rows_of_kept, answer, answer_over}
 use Rattle.report.specs.Restricted.{named_columns, SeesSame}
 use Rattle.report.proofs.NamedColumns.{agree_items, agree_conjuncts, agree_some, same_all_hold, same_keeps, same_values, same_member}
 use Rattle.report.proofs.Restricting.{each_row, each_table, combinations_of_each, to_named, named_kept}

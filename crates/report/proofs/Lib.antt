@@ -1,5 +1,3 @@
-pub mod FirstRows
-pub mod OutputOrder
 pub mod Restricting
 pub mod SameCombinations
 pub mod NamedColumns

@@ -16,7 +16,7 @@ use Rattle.stages.specs.Stages.{first_then}
 use Rattle.groups.specs.Members.{argument, arguments, key_on, with_key, member_on}
 use Rattle.scope.specs.BoundQuery.{BoundItem, BoundQuery}
 use Rattle.query_parts.specs.Conjuncts.{members, conjuncts_of, conjuncts_in, conjuncts}
-use Rattle.report.specs.Answer.{truth_in, unless_dropped, keeps, values_of, item_aggregates, query_aggregates}
+use Rattle.query_stages.specs.QueryStages.{truth_in, unless_dropped, keeps, values_of, item_aggregates, query_aggregates}
 use Rattle.report.specs.Restricted.{item_columns, condition_columns, named_columns}
 
 -- ---- the columns of conjuncts

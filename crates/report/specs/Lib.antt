@@ -1,3 +1,2 @@
-pub mod Ordered
 pub mod Answer
 pub mod Restricted

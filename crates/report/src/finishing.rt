@@ -9,13 +9,12 @@ ghost use Rattle.operators.specs.World.{seen_tables, stands_for};
 ghost use Rattle.report.specs.Answer as spec;
 ghost use Rattle.report.specs.Answer.{answer, answer_over};
 
-use crate::grouped::rows_of_groups;
-use crate::ordering::ordered;
-use crate::ungrouped::{items_stage, where_stage};
 use combo::Combo;
 use memory::{Failure, Heap};
 use operators::{World, run_nested};
+use output_order::ordered;
 use query_parts::fragile_conjuncts;
+use query_stages::{items_stage, rows_of_groups, where_stage};
 use text::Items;
 use value::{Fault, Value};
 

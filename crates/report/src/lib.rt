@@ -2,11 +2,7 @@
 #![tactic(auto)]
 
 mod finishing;
-mod grouped;
 mod laws;
-mod ordering;
-mod outcomes;
-mod ungrouped;
 
 pub use finishing::{answer_over, finish};
 pub use laws::{law_hidden_rows, law_order_of_combinations};
