@@ -11,21 +11,20 @@ ghost use Rattle.row_reader.specs.Language.{an_expression, after, is};
 ghost use Rattle.row_reader.specs.Reading.{Parses};
 ghost use Rattle.row_ast.specs.View.{arm_pair};
 ghost use Rattle.row_expressions.specs.Levels.{connected_rule, member_rule, next_member_rule, next_rule, operand_rule, run_rule, sign_class};
-ghost use Rattle.expression_parts.specs.View.{located, range_of, signed_of, suffix_of, otherwise_of};
+ghost use Rattle.expression_parts.specs.View.{located, range_of, signed_of, otherwise_of};
+ghost use Rattle.expression_steps.specs.Heads.{bounds_rest, case_rest};
 
 use expression_parts::{
-    CallSuffix, Connective, Located, Otherwise, Range, argument, arm_of, bounds, called_with,
-    case_ended, cast_to, combined, compared, connective_word, constant, counted_call, dotted,
-    extend, in_list, inverted, joined, members_of, negated, null_tested, other, plain_column,
-    with_range,
+    Connective, Located, Otherwise, Range, arm_of, bounds, case_ended, combined, compared,
+    connective_word, extend, inverted, joined, members_of, negated, null_tested, other, with_range,
 };
+use expression_steps::{Head, RangeHead, enclosed, low_bound, operand_head, range_head};
 use memory::{Failure, Heap};
 use row_ast::Arm;
 use row_grammar::ReadError;
-use row_reader::operators::{addition, aggregate_name, comparison_sign, multiplication};
+use row_reader::operators::{addition, comparison_sign, multiplication};
 use row_reader::reader::{
-    Class, Parsed, Reader, before, closed, expect, meant, next_offset, open, present, sees,
-    sees_any, unplaced, with_rest,
+    Class, Parsed, Reader, before, expect, next_offset, open, present, sees, sees_any, with_rest,
 };
 use row_tokens::{Token, TokenKind};
 use text::Items;
@@ -56,30 +55,6 @@ fn keyed<'t, A: Heap>(
 {
     let (_, rest) = expect(kind, tokens)?;
     inner_expression(reader, rest)
-}
-
-// `( expr )`.
-#[cycle(expression)]
-#[tactic(auto, unfolding(row_reader::specs::Expressions::parenthesized))]
-fn parenthesized<'t, A: Heap>(reader: Reader<A>, tokens: &'t [Token<'t>]) -> Parsed<'t, Located<A>>
-    ensures { Parses (λ t. located t) rules.parenthesized reader tokens.now result }
-{
-    let (sign, rest) = open(TokenKind::Open, reader.depth_limit, tokens)?;
-    before(
-        sign.offset,
-        closed(unplaced(inner_expression(reader, rest))),
-    )
-}
-
-// `CAST ( expr AS type )`.
-#[cycle(expression)]
-#[tactic(auto, unfolding(row_reader::specs::Expressions::cast))]
-fn cast<'t, A: Heap>(reader: Reader<A>, tokens: &'t [Token<'t>]) -> Parsed<'t, Located<A>>
-    ensures { Parses (λ t. located t) rules.cast reader tokens.now result }
-{
-    let (word, rest) = expect(TokenKind::Cast, tokens)?;
-    let (_, rest) = open(TokenKind::Open, reader.depth_limit, rest)?;
-    cast_to(reader, word.offset, inner_expression(reader, rest))
 }
 
 // `WHEN expr THEN expr`.
@@ -127,119 +102,32 @@ fn otherwise<'t, A: Heap>(reader: Reader<A>, tokens: &'t [Token<'t>]) -> Parsed<
     other(keyed(TokenKind::Else, reader, tokens))
 }
 
-// `CASE arms [ELSE expr] END`.
+// The arms of a CASE, `[ELSE expr]` and END, after the word; by its offset.
 #[cycle(expression)]
-#[tactic(auto, unfolding(row_reader::specs::Expressions::case))]
-fn case<'t, A: Heap>(reader: Reader<A>, tokens: &'t [Token<'t>]) -> Parsed<'t, Located<A>>
-    ensures { Parses (λ t. located t) rules.case reader tokens.now result }
-{
-    let (word, rest) = open(TokenKind::Case, reader.depth_limit, tokens)?;
-    let (arms, rest) = arms(reader, rest)?;
-    case_ended(reader.alloc, word.offset, arms, otherwise(reader, rest))
-}
-
-// `* | expr`.
-#[cycle(expression)]
-#[tactic(auto, unfolding(row_reader::specs::Expressions::counted_rows))]
-fn counted_rows<'t, A: Heap>(
+fn case<'t, A: Heap>(
     reader: Reader<A>,
+    offset: u32,
     tokens: &'t [Token<'t>],
-) -> Parsed<'t, CallSuffix<A>>
+) -> Parsed<'t, Located<A>>
     requires { 0 < reader.depth_limit }
-    ensures { Parses (λ t. suffix_of t) rules.counted_rows reader tokens.now result }
+    ensures { Gives (λ x. (located x.0, words_of x.1.now)) result (case_rest reader.run_limit reader.depth_limit offset (words_of tokens.now)) }
 {
-    if sees(TokenKind::Star, tokens) {
-        meant(TokenKind::Star, CallSuffix::Star, tokens)
-    } else {
-        argument(inner_expression(reader, tokens))
-    }
-}
-
-// What follows `count`.
-#[cycle(expression)]
-#[tactic(auto, unfolding(row_reader::specs::Expressions::count_tail))]
-fn count_tail<'t, A: Heap>(reader: Reader<A>, tokens: &'t [Token<'t>]) -> Parsed<'t, CallSuffix<A>>
-    ensures { Parses (λ t. suffix_of t) rules.count_tail reader tokens.now result }
-{
-    if sees(TokenKind::Open, tokens) {
-        let (_, rest) = open(TokenKind::Open, reader.depth_limit, tokens)?;
-        closed(counted_rows(reader, rest))
-    } else {
-        dotted(reader, tokens)
-    }
-}
-
-// `count` and what follows it.
-#[cycle(expression)]
-#[tactic(auto, unfolding(row_reader::specs::Expressions::count))]
-fn count<'t, A: Heap>(reader: Reader<A>, tokens: &'t [Token<'t>]) -> Parsed<'t, Located<A>>
-    ensures { Parses (λ t. located t) rules.count reader tokens.now result }
-{
-    let (word, rest) = expect(TokenKind::Count, tokens)?;
-    counted_call(reader.alloc, &word, count_tail(reader, rest))
-}
-
-// What follows another function's name.
-#[cycle(expression)]
-#[tactic(auto, unfolding(row_reader::specs::Expressions::aggregate_tail))]
-fn aggregate_tail<'t, A: Heap>(
-    reader: Reader<A>,
-    tokens: &'t [Token<'t>],
-) -> Parsed<'t, CallSuffix<A>>
-    ensures { Parses (λ t. suffix_of t) rules.aggregate_tail reader tokens.now result }
-{
-    if sees(TokenKind::Open, tokens) {
-        let (_, rest) = open(TokenKind::Open, reader.depth_limit, tokens)?;
-        argument(closed(inner_expression(reader, rest)))
-    } else {
-        dotted(reader, tokens)
-    }
-}
-
-// Another function's name and what follows it.
-#[cycle(expression)]
-#[tactic(auto, unfolding(row_reader::specs::Expressions::aggregate))]
-fn aggregate<'t, A: Heap>(reader: Reader<A>, tokens: &'t [Token<'t>]) -> Parsed<'t, Located<A>>
-    ensures { Parses (λ t. located t) rules.aggregate reader tokens.now result }
-{
-    let ((word, name), rest) = aggregate_name(reader, tokens)?;
-    called_with(reader.alloc, &word, name, aggregate_tail(reader, rest))
-}
-
-// An expression without an operator outside parentheses.
-#[cycle(expression)]
-#[tactic(auto, unfolding(row_reader::specs::Expressions::primary, row_reader::specs::Expressions::parenthesized, row_reader::specs::Expressions::cast, row_reader::specs::Expressions::case, row_reader::specs::Expressions::plain_column, row_reader::specs::Expressions::count, row_reader::specs::Expressions::aggregate, row_reader::specs::Expressions::aggregate_name, row_reader::specs::Language::of))]
-fn primary<'t, A: Heap>(reader: Reader<A>, tokens: &'t [Token<'t>]) -> Parsed<'t, Located<A>>
-    ensures { Parses (λ t. located t) rules.primary reader tokens.now result }
-{
-    if sees(TokenKind::Open, tokens) {
-        parenthesized(reader, tokens)
-    } else if sees(TokenKind::Cast, tokens) {
-        cast(reader, tokens)
-    } else if sees(TokenKind::Case, tokens) {
-        case(reader, tokens)
-    } else if sees_any(Class::PlainName, tokens) {
-        plain_column(reader, tokens)
-    } else if sees(TokenKind::Count, tokens) {
-        count(reader, tokens)
-    } else if sees_any(Class::Aggregate, tokens) {
-        aggregate(reader, tokens)
-    } else {
-        constant(reader, tokens)
-    }
+    let (arms, rest) = arms(reader, tokens)?;
+    case_ended(reader.alloc, offset, arms, otherwise(reader, rest))
 }
 
 // `- unary | primary`.
 #[cycle(expression)]
-#[tactic(auto, using(row_grammar::proofs::Steps::deep_is), unfolding(row_reader::specs::Expressions::unary))]
+#[tactic(auto, using(row_grammar::proofs::Steps::deep_is))]
 fn unary<'t, A: Heap>(reader: Reader<A>, tokens: &'t [Token<'t>]) -> Parsed<'t, Located<A>>
     ensures { Parses (λ t. located t) rules.unary reader tokens.now result }
 {
-    if sees(TokenKind::Minus, tokens) {
-        let (sign, rest) = open(TokenKind::Minus, reader.depth_limit, tokens)?;
-        negated(reader.alloc, sign.offset, unary(reader.deeper(), rest))
-    } else {
-        primary(reader, tokens)
+    let (head, rest) = operand_head(reader, tokens)?;
+    match head {
+        Head::Whole(operand) => Ok((operand, rest)),
+        Head::Minus(offset) => negated(reader.alloc, offset, unary(reader.deeper(), rest)),
+        Head::Case(offset) => case(reader, offset, rest),
+        Head::Opened(opened) => enclosed(reader, opened, inner_expression(reader, rest)),
     }
 }
 
@@ -323,53 +211,31 @@ fn operations<'t, A: Heap>(
     Ok((left, rest))
 }
 
-// `BETWEEN sum AND sum`.
+// The bounds of a BETWEEN, `sum AND sum`, after the word; by its offset.
 #[cycle(expression)]
-#[tactic(auto, unfolding(row_reader::specs::Expressions::between))]
-fn between<'t, A: Heap>(reader: Reader<A>, tokens: &'t [Token<'t>]) -> Parsed<'t, Range<A>>
-    ensures { Parses (λ t. range_of t) rules.between reader tokens.now result }
-{
-    let (word, rest) = expect(TokenKind::Between, tokens)?;
-    let (low, rest) = operations(Level::Sum, reader, rest)?;
-    let ((low, _), rest) = before(low, expect(TokenKind::And, rest))?;
-    bounds(word.offset, low, operations(Level::Sum, reader, rest))
-}
-
-// `NOT` and a range.
-#[cycle(expression)]
-#[tactic(auto, unfolding(row_reader::specs::Expressions::negated_range, row_reader::specs::Expressions::range, row_reader::specs::Expressions::between))]
-fn negated_range<'t, A: Heap>(
+fn between<'t, A: Heap>(
     reader: Reader<A>,
+    offset: u32,
     tokens: &'t [Token<'t>],
-) -> Parsed<'t, (u32, Range<A>)>
-    ensures { Parses (λ t. (t.0, range_of t.1)) rules.negated_range reader tokens.now result }
+) -> Parsed<'t, Range<A>>
+    ensures { Gives (λ x. (range_of x.0, words_of x.1.now)) result (bounds_rest reader.run_limit reader.depth_limit offset (words_of tokens.now)) }
 {
-    let (word, rest) = expect(TokenKind::Not, tokens)?;
-    if sees(TokenKind::Between, rest) {
-        before(word.offset, between(reader, rest))
-    } else {
-        before(word.offset, in_list(reader, rest))
-    }
+    let (low, rest) = low_bound(operations(Level::Sum, reader, tokens))?;
+    bounds(offset, low, operations(Level::Sum, reader, rest))
 }
 
 // A range after its operand, if there is one, and the offset of a NOT before it.
 #[cycle(expression)]
-#[tactic(auto, unfolding(row_reader::specs::Expressions::range_tail, row_reader::specs::Expressions::negated_range, row_reader::specs::Expressions::between, row_reader::specs::Expressions::in_list))]
 fn range_tail<'t, A: Heap>(
     reader: Reader<A>,
     tokens: &'t [Token<'t>],
 ) -> Parsed<'t, Option<(Option<u32>, Range<A>)>>
     ensures { Parses (λ t. option_map (λ r. signed_of r) t) rules.range_tail reader tokens.now result }
 {
-    if sees(TokenKind::Not, tokens) {
-        let ((not, range), rest) = negated_range(reader, tokens)?;
-        Ok((Some((Some(not), range)), rest))
-    } else if sees(TokenKind::Between, tokens) {
-        present(before(None, between(reader, tokens)))
-    } else if sees(TokenKind::In, tokens) {
-        present(before(None, in_list(reader, tokens)))
-    } else {
-        Ok((None, tokens))
+    let (head, rest) = range_head(reader, tokens)?;
+    match head {
+        RangeHead::Whole(range) => Ok((range, rest)),
+        RangeHead::Between(not, offset) => present(before(not, between(reader, offset, rest))),
     }
 }
 

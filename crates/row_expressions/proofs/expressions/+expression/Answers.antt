@@ -1,19 +1,19 @@
-use Rattle.std.proofs.Common.{◌≡◌, ◌++◌, ℕ, true, false, ◌∷◌, List, map, Ok, Err, refl, sym, ap, ◌∙◌, arith}
+use Rattle.std.proofs.Common.{◌≡◌, ◌++◌, ℕ, ◌-◌, true, false, ◌∷◌, List, map, Ok, Err, refl, sym, ap, ◌∙◌, arith}
 use Rattle.std.proofs.lemmas.Result.{err_from_is_err_and}
 use Rattle.std.proofs.lemmas.List.{length-map}
 use Rattle.std.specs.List.{flat_map}
 use Rattle.std.specs.Prelude.{Result, Box, IfOk}
 use denote.Ref.{Bor}
 use Rattle.memory.specs.Gives.{Gives}
-use Rattle.row_grammar.specs.Decoder.{◌>>=◌, first, head_in, word_at, opened_at, Outcome}
+use Rattle.row_grammar.specs.Decoder.{first, head_in, Outcome}
 use Rattle.row_grammar.specs.declared.error.ReadError.{ReadError}
-use Rattle.row_grammar.specs.Limits.{reads, can_open}
+use Rattle.row_grammar.specs.Limits.{reads}
 use Rattle.row_grammar.proofs.Steps.{fault_along, run_start, run_err}
 use Rattle.row_tokens.specs.declared.token.TokenKind.TheVariants as k
 use Rattle.row_tokens.specs.Words.{Word}
 use Rattle.row_tokens.specs.View.{word_of, words_of}
 use Rattle.row_tokens.specs.declared.token.Token.{Token}
-use Rattle.row_ast.specs.Ast.{Expr, Otherwise, Case, arms_of, And, Or, exprs_of, and_members, or_members}
+use Rattle.row_ast.specs.Ast.{Expr, And, Or, exprs_of, and_members, or_members}
 use Rattle.row_reader.specs.Language.{language, Located, is, of, next_at, kind_of}
 use Rattle.row_reader.specs.Expressions as rules
 use Rattle.row_reader.specs.Expressions.{grammar, nested_first, folded_left, and_of, or_of}
@@ -50,7 +50,7 @@ pub arms-returns-in_err-first : goal.arms-returns-in_err-first
 unfolding rules.arms
 arms-returns-in_err-first g t c =
     let p = err_from_is_err_and c.from_residual.result c.from_residual.ensures.1 in
-    rw (p.1, p.2) (listed_none c.args.reader.run_limit c.args.reader.depth_limit rules.arm rules.arm (map word_of c.args.tokens.now) _ c.in_err-first.ensures)
+    rw (p.1, p.2) (listed_none c.args.reader.run_limit c.args.reader.depth_limit rules.arm rules.arm (map word_of c.args.tokens.now) c.in_err-first.field-0.0 c.in_err-first.ensures)
 
 pub arms-loop-init : goal.arms-loop-init
 unfolding rules.arms
@@ -59,7 +59,7 @@ arms-loop-init g t c =
     c.in_ok-first.ensures c.new-all.ensures c.in_ok-push.ensures.ok (omega (arith, length-map c.in_ok-first.rest.now word_of))
 
 pub arms-returns-then-not-sees : goal.arms-returns-then-not-sees
-arms-returns-then-not-sees g t c = listed_stop c.args.reader.run_limit c.args.reader.depth_limit (λ a. arm_pair a) rules.arm (is k.When) (reads grammar c.args.reader.run_limit c.args.reader.depth_limit rules.arms (map word_of c.args.tokens.now)) c.loop.all _ (map word_of c.loop.rest.now) c.loop.invariant (cc)
+arms-returns-then-not-sees g t c = listed_stop c.args.reader.run_limit c.args.reader.depth_limit (λ a. arm_pair a) rules.arm (is k.When) (reads grammar c.args.reader.run_limit c.args.reader.depth_limit rules.arms (map word_of c.args.tokens.now)) c.loop.all _ (map word_of c.loop.rest.now) c.loop.invariant (cc (c.sees.ensures, c.if-not-sees.true))
 
 pub arms-returns : goal.arms-returns
 arms-returns g t c = listed_over c.args.reader.run_limit c.args.reader.depth_limit (λ a. arm_pair a) rules.arm (is k.When) (reads grammar c.args.reader.run_limit c.args.reader.depth_limit rules.arms (map word_of c.args.tokens.now)) c.loop.all _ (map word_of c.loop.rest.now) c.loop.invariant (omega arith)
@@ -67,11 +67,11 @@ arms-returns g t c = listed_over c.args.reader.run_limit c.args.reader.depth_lim
 pub arms-returns-in_err-next : goal.arms-returns-in_err-next
 arms-returns-in_err-next g t c =
     let p = err_from_is_err_and c.from_residual-in_err-next.result c.from_residual-in_err-next.ensures.1 in
-    rw (p.1, p.2) (listed_fail c.args.reader.run_limit c.args.reader.depth_limit (λ a. arm_pair a) rules.arm (is k.When) (reads grammar c.args.reader.run_limit c.args.reader.depth_limit rules.arms (map word_of c.args.tokens.now)) c.loop.all _ (map word_of c.loop.rest.now) c.loop.invariant _ (omega arith) (cc) c.in_err-next.ensures)
+    rw (p.1, p.2) (listed_fail c.args.reader.run_limit c.args.reader.depth_limit (λ a. arm_pair a) rules.arm (is k.When) (reads grammar c.args.reader.run_limit c.args.reader.depth_limit rules.arms (map word_of c.args.tokens.now)) c.loop.all _ (map word_of c.loop.rest.now) c.loop.invariant c.in_err-next.field-0.0 (omega arith) (cc (c.sees.ensures, c.if-not-sees.false)) c.in_err-next.ensures)
 
 pub arms-loop-preserved : goal.arms-loop-preserved
 arms-loop-preserved g t c =
-    listed_go c.args.reader.run_limit c.args.reader.depth_limit (λ a. arm_pair a) rules.arm (is k.When) (reads grammar c.args.reader.run_limit c.args.reader.depth_limit rules.arms (map word_of c.args.tokens.now)) c.loop.all _ (map word_of c.loop.rest.now) c.loop.invariant c.in_ok-next.next (map word_of c.in_ok-next.after.now) c.push-in-loop.new.self _ (omega arith) (cc)
+    listed_go c.args.reader.run_limit c.args.reader.depth_limit (λ a. arm_pair a) rules.arm (is k.When) (reads grammar c.args.reader.run_limit c.args.reader.depth_limit rules.arms (map word_of c.args.tokens.now)) c.loop.all _ (map word_of c.loop.rest.now) c.loop.invariant c.in_ok-next.next (map word_of c.in_ok-next.after.now) c.push-in-loop.new.self _ (omega arith) (cc (c.sees.ensures, c.if-not-sees.false))
     c.in_ok-next.ensures c.in_ok-push-2.ensures.ok (omega arith)
 
 -- ---- operations
@@ -94,30 +94,30 @@ no_run level.Sum w d ts stop r = run_err grammar w d (λ x ys. folded_left x ys)
 pub operations-returns-in_err-left : goal.operations-returns-in_err-left
 operations-returns-in_err-left g t c =
     let p = err_from_is_err_and c.from_residual.result c.from_residual.ensures.1 in
-    rw (p.1, p.2) (fault_along _ (reads grammar c.args.reader.run_limit c.args.reader.depth_limit (operand_rule c.args.level) (map word_of c.args.tokens.now)) (reads grammar c.args.reader.run_limit c.args.reader.depth_limit (run_rule c.args.level) (map word_of c.args.tokens.now))
+    rw (p.1, p.2) (fault_along c.in_err-left.field-0.0 (reads grammar c.args.reader.run_limit c.args.reader.depth_limit (operand_rule c.args.level) (map word_of c.args.tokens.now)) (reads grammar c.args.reader.run_limit c.args.reader.depth_limit (run_rule c.args.level) (map word_of c.args.tokens.now))
     (no_run c.args.level c.args.reader.run_limit c.args.reader.depth_limit (map word_of c.args.tokens.now)) c.in_err-left.ensures)
 
 pub operations-loop-init : goal.operations-loop-init
 operations-loop-init g t c = start_run c.args.level c.args.reader.run_limit c.args.reader.depth_limit _ (map word_of c.args.tokens.now) (located c.in_ok-left.left) (map word_of c.in_ok-left.rest.now) c.in_ok-left.ensures (omega arith)
 
 pub operations-returns-then-not-sees_any : goal.operations-returns-then-not-sees_any
-operations-returns-then-not-sees_any g t c = run_stop c.args.reader.run_limit c.args.reader.depth_limit (next_rule c.args.level) (of (sign_class c.args.level)) (folded_left (located c.loop.left)) (reads grammar c.args.reader.run_limit c.args.reader.depth_limit (run_rule c.args.level) (map word_of c.args.tokens.now)) _ (map word_of c.loop.rest.now) c.loop.invariant (cc)
+operations-returns-then-not-sees_any g t c = run_stop c.args.reader.run_limit c.args.reader.depth_limit (next_rule c.args.level) (of (sign_class c.args.level)) (folded_left (located c.loop.left)) (reads grammar c.args.reader.run_limit c.args.reader.depth_limit (run_rule c.args.level) (map word_of c.args.tokens.now)) (c.args.reader.run_limit - c.loop.counter) (map word_of c.loop.rest.now) c.loop.invariant (cc (c.sign_class-signs.ensures, c.sees_any.ensures, c.if-not-sees_any.true))
 
 pub operations-returns : goal.operations-returns
-operations-returns g t c = run_stop c.args.reader.run_limit c.args.reader.depth_limit (next_rule c.args.level) (of (sign_class c.args.level)) (folded_left (located c.loop.left)) (reads grammar c.args.reader.run_limit c.args.reader.depth_limit (run_rule c.args.level) (map word_of c.args.tokens.now)) _ (map word_of c.loop.rest.now) c.loop.invariant (cc)
+operations-returns g t c = run_stop c.args.reader.run_limit c.args.reader.depth_limit (next_rule c.args.level) (of (sign_class c.args.level)) (folded_left (located c.loop.left)) (reads grammar c.args.reader.run_limit c.args.reader.depth_limit (run_rule c.args.level) (map word_of c.args.tokens.now)) (c.args.reader.run_limit - c.loop.counter) (map word_of c.loop.rest.now) c.loop.invariant (cc (c.sign_class-signs.ensures, c.sees_any-2.ensures, c.if-sees_any.false))
 
 pub operations-returns-then-sees_any : goal.operations-returns-then-sees_any
-operations-returns-then-sees_any g t c = rw (← length-map c.loop.rest.now word_of) (run_full c.args.reader.run_limit c.args.reader.depth_limit (next_rule c.args.level) (of (sign_class c.args.level)) (folded_left (located c.loop.left)) (reads grammar c.args.reader.run_limit c.args.reader.depth_limit (run_rule c.args.level) (map word_of c.args.tokens.now)) _ (map word_of c.loop.rest.now) c.loop.invariant (omega arith) (cc))
+operations-returns-then-sees_any g t c = rw (← length-map c.loop.rest.now word_of) (run_full c.args.reader.run_limit c.args.reader.depth_limit (next_rule c.args.level) (of (sign_class c.args.level)) (folded_left (located c.loop.left)) (reads grammar c.args.reader.run_limit c.args.reader.depth_limit (run_rule c.args.level) (map word_of c.args.tokens.now)) (c.args.reader.run_limit - c.loop.counter) (map word_of c.loop.rest.now) c.loop.invariant (omega arith) (cc (c.sign_class-signs.ensures, c.sees_any-2.ensures, c.if-sees_any.true)))
 
 pub operations-returns-in_err-sign : goal.operations-returns-in_err-sign
 operations-returns-in_err-sign g t c =
     let p = err_from_is_err_and c.from_residual-in_err-sign.result c.from_residual-in_err-sign.ensures.1 in
-    rw (p.1, p.2) (run_fail c.args.reader.run_limit c.args.reader.depth_limit (next_rule c.args.level) (of (sign_class c.args.level)) (folded_left (located c.loop.left)) (reads grammar c.args.reader.run_limit c.args.reader.depth_limit (run_rule c.args.level) (map word_of c.args.tokens.now)) _ (map word_of c.loop.rest.now) c.loop.invariant _ (omega arith) (cc (c.sign_class-signs.ensures, c.sees_any.ensures, c.if-not-sees_any.false)) c.in_err-sign.ensures)
+    rw (p.1, p.2) (run_fail c.args.reader.run_limit c.args.reader.depth_limit (next_rule c.args.level) (of (sign_class c.args.level)) (folded_left (located c.loop.left)) (reads grammar c.args.reader.run_limit c.args.reader.depth_limit (run_rule c.args.level) (map word_of c.args.tokens.now)) (c.args.reader.run_limit - c.loop.counter) (map word_of c.loop.rest.now) c.loop.invariant c.in_err-sign.field-0.0 (omega arith) (cc (c.sign_class-signs.ensures, c.sees_any.ensures, c.if-not-sees_any.false)) c.in_err-sign.ensures)
 
 pub operations-loop-preserved : goal.operations-loop-preserved
 operations-loop-preserved g t c =
-    run_go c.args.reader.run_limit c.args.reader.depth_limit (next_rule c.args.level) (of (sign_class c.args.level)) (folded_left (located c.loop.left)) (reads grammar c.args.reader.run_limit c.args.reader.depth_limit (run_rule c.args.level) (map word_of c.args.tokens.now)) _ (map word_of c.loop.rest.now) c.loop.invariant
-    (c.in_ok-sign.sign, located c.in_ok-sign.right) (map word_of c.in_ok-sign.after.now) _ _ (omega arith) (cc) c.in_ok-sign.ensures
+    run_go c.args.reader.run_limit c.args.reader.depth_limit (next_rule c.args.level) (of (sign_class c.args.level)) (folded_left (located c.loop.left)) (reads grammar c.args.reader.run_limit c.args.reader.depth_limit (run_rule c.args.level) (map word_of c.args.tokens.now)) (c.args.reader.run_limit - c.loop.counter) (map word_of c.loop.rest.now) c.loop.invariant
+    (c.in_ok-sign.sign, located c.in_ok-sign.right) (map word_of c.in_ok-sign.after.now) _ _ (omega arith) (cc (c.sign_class-signs.ensures, c.sees_any.ensures, c.if-not-sees_any.false)) c.in_ok-sign.ensures
     (λ xs. ap (λ x. folded_left x xs) (sym c.in_ok-left-2.ensures)) (omega arith)
 
 -- ---- AND and OR
@@ -161,37 +161,37 @@ no_member word.Or w d ts stop r = run_err grammar w d (λ x ys. or_of x ys) rule
 pub connected-returns-in_err-start : goal.connected-returns-in_err-start
 connected-returns-in_err-start g t c =
     let p = err_from_is_err_and c.from_residual.result c.from_residual.ensures.1 in
-    rw (p.1, p.2) (fault_along _ (reads grammar c.args.reader.run_limit c.args.reader.depth_limit (member_rule c.args.connective) (map word_of c.args.tokens.now)) (reads grammar c.args.reader.run_limit c.args.reader.depth_limit (connected_rule c.args.connective) (map word_of c.args.tokens.now))
+    rw (p.1, p.2) (fault_along c.in_err-start.field-0.0 (reads grammar c.args.reader.run_limit c.args.reader.depth_limit (member_rule c.args.connective) (map word_of c.args.tokens.now)) (reads grammar c.args.reader.run_limit c.args.reader.depth_limit (connected_rule c.args.connective) (map word_of c.args.tokens.now))
     (no_member c.args.connective c.args.reader.run_limit c.args.reader.depth_limit (map word_of c.args.tokens.now)) c.in_err-start.ensures)
 
 pub connected-returns-then-not-sees : goal.connected-returns-then-not-sees
-connected-returns-then-not-sees g t c = alone c.args.connective c.args.reader.run_limit c.args.reader.depth_limit (map word_of c.args.tokens.now) (c.in_ok-start.start, expr_of c.in_ok-start.first.value) (map word_of c.in_ok-start.rest.now) c.in_ok-start.ensures (cc)
+connected-returns-then-not-sees g t c = alone c.args.connective c.args.reader.run_limit c.args.reader.depth_limit (map word_of c.args.tokens.now) (c.in_ok-start.start, expr_of c.in_ok-start.first.value) (map word_of c.in_ok-start.rest.now) c.in_ok-start.ensures (cc (c.connective_word-word.ensures, c.sees.ensures, c.if-not-sees.true))
 
 pub connected-loop-init : goal.connected-loop-init
 connected-loop-init g t c = start c.args.connective c.args.reader.run_limit c.args.reader.depth_limit _ (map word_of c.args.tokens.now) (c.in_ok-start.start, expr_of c.in_ok-start.first.value) (map word_of c.in_ok-start.rest.now) c.next_offset-offset.result (map (λ e. expr_of e) c.in_ok-members.members.items)
-    c.in_ok-start.ensures (cc) c.next_offset-offset.ensures c.in_ok-members.ensures (omega arith)
+    c.in_ok-start.ensures (cc (c.connective_word-word.ensures, c.sees.ensures, c.if-not-sees.false)) c.next_offset-offset.ensures c.in_ok-members.ensures (omega arith)
 
 pub connected-returns-then-not-sees-2 : goal.connected-returns-then-not-sees-2
 connected-returns-then-not-sees-2 g t c =
     rw c.with_rest.ensures (kept c.joined-whole.result c.loop.rest _ _ c.joined-whole.ensures
-    (run_stop c.args.reader.run_limit c.args.reader.depth_limit (next_member_rule c.args.connective) (is (connective_word c.args.connective)) (joined (λ ms. joined_expr c.args.connective c.next_offset-offset.result ms) (λ e. members_of c.args.connective e) c.in_ok-start.start (map (λ e. expr_of e) c.loop.members.items)) (reads grammar c.args.reader.run_limit c.args.reader.depth_limit (connected_rule c.args.connective) (map word_of c.args.tokens.now)) _ (map word_of c.loop.rest.now) c.loop.invariant (cc (c.connective_word-word.ensures, c.sees-in-loop.ensures, c.if-not-sees-2.true)) ∙ ap (λ (p : Located). let o : Outcome Word Located = Ok (p, map word_of c.loop.rest.now) in o) (joined_end (λ ms. joined_expr c.args.connective c.next_offset-offset.result ms) (λ e. members_of c.args.connective e) c.in_ok-start.start (map (λ e. expr_of e) c.loop.members.items))))
+    (run_stop c.args.reader.run_limit c.args.reader.depth_limit (next_member_rule c.args.connective) (is (connective_word c.args.connective)) (joined (λ ms. joined_expr c.args.connective c.next_offset-offset.result ms) (λ e. members_of c.args.connective e) c.in_ok-start.start (map (λ e. expr_of e) c.loop.members.items)) (reads grammar c.args.reader.run_limit c.args.reader.depth_limit (connected_rule c.args.connective) (map word_of c.args.tokens.now)) (c.args.reader.run_limit - c.loop.counter) (map word_of c.loop.rest.now) c.loop.invariant (cc (c.connective_word-word.ensures, c.sees-in-loop.ensures, c.if-not-sees-2.true)) ∙ ap (λ (p : Located). let o : Outcome Word Located = Ok (p, map word_of c.loop.rest.now) in o) (joined_end (λ ms. joined_expr c.args.connective c.next_offset-offset.result ms) (λ e. members_of c.args.connective e) c.in_ok-start.start (map (λ e. expr_of e) c.loop.members.items))))
 
 pub connected-returns : goal.connected-returns
 connected-returns g t c =
     rw c.with_rest-2.ensures (kept c.joined-whole-2.result c.loop.rest _ _ c.joined-whole-2.ensures
-    (run_stop c.args.reader.run_limit c.args.reader.depth_limit (next_member_rule c.args.connective) (is (connective_word c.args.connective)) (joined (λ ms. joined_expr c.args.connective c.next_offset-offset.result ms) (λ e. members_of c.args.connective e) c.in_ok-start.start (map (λ e. expr_of e) c.loop.members.items)) (reads grammar c.args.reader.run_limit c.args.reader.depth_limit (connected_rule c.args.connective) (map word_of c.args.tokens.now)) _ (map word_of c.loop.rest.now) c.loop.invariant (cc (c.connective_word-word.ensures, c.sees-2.ensures, c.if-sees.false)) ∙ ap (λ (p : Located). let o : Outcome Word Located = Ok (p, map word_of c.loop.rest.now) in o) (joined_end (λ ms. joined_expr c.args.connective c.next_offset-offset.result ms) (λ e. members_of c.args.connective e) c.in_ok-start.start (map (λ e. expr_of e) c.loop.members.items))))
+    (run_stop c.args.reader.run_limit c.args.reader.depth_limit (next_member_rule c.args.connective) (is (connective_word c.args.connective)) (joined (λ ms. joined_expr c.args.connective c.next_offset-offset.result ms) (λ e. members_of c.args.connective e) c.in_ok-start.start (map (λ e. expr_of e) c.loop.members.items)) (reads grammar c.args.reader.run_limit c.args.reader.depth_limit (connected_rule c.args.connective) (map word_of c.args.tokens.now)) (c.args.reader.run_limit - c.loop.counter) (map word_of c.loop.rest.now) c.loop.invariant (cc (c.connective_word-word.ensures, c.sees-2.ensures, c.if-sees.false)) ∙ ap (λ (p : Located). let o : Outcome Word Located = Ok (p, map word_of c.loop.rest.now) in o) (joined_end (λ ms. joined_expr c.args.connective c.next_offset-offset.result ms) (λ e. members_of c.args.connective e) c.in_ok-start.start (map (λ e. expr_of e) c.loop.members.items))))
 
 pub connected-returns-then-sees : goal.connected-returns-then-sees
-connected-returns-then-sees g t c = rw (← length-map c.loop.rest.now word_of) (run_full c.args.reader.run_limit c.args.reader.depth_limit (next_member_rule c.args.connective) (is (connective_word c.args.connective)) (joined (λ ms. joined_expr c.args.connective c.next_offset-offset.result ms) (λ e. members_of c.args.connective e) c.in_ok-start.start (map (λ e. expr_of e) c.loop.members.items)) (reads grammar c.args.reader.run_limit c.args.reader.depth_limit (connected_rule c.args.connective) (map word_of c.args.tokens.now)) _ (map word_of c.loop.rest.now) c.loop.invariant (omega arith) (cc (c.connective_word-word.ensures, c.sees-2.ensures, c.if-sees.true)))
+connected-returns-then-sees g t c = rw (← length-map c.loop.rest.now word_of) (run_full c.args.reader.run_limit c.args.reader.depth_limit (next_member_rule c.args.connective) (is (connective_word c.args.connective)) (joined (λ ms. joined_expr c.args.connective c.next_offset-offset.result ms) (λ e. members_of c.args.connective e) c.in_ok-start.start (map (λ e. expr_of e) c.loop.members.items)) (reads grammar c.args.reader.run_limit c.args.reader.depth_limit (connected_rule c.args.connective) (map word_of c.args.tokens.now)) (c.args.reader.run_limit - c.loop.counter) (map word_of c.loop.rest.now) c.loop.invariant (omega arith) (cc (c.connective_word-word.ensures, c.sees-2.ensures, c.if-sees.true)))
 
 pub connected-returns-in_err-next : goal.connected-returns-in_err-next
 connected-returns-in_err-next g t c =
     let p = err_from_is_err_and c.from_residual-in_err-next.result c.from_residual-in_err-next.ensures.1 in
-    rw (p.1, p.2) (run_fail c.args.reader.run_limit c.args.reader.depth_limit (next_member_rule c.args.connective) (is (connective_word c.args.connective)) (joined (λ ms. joined_expr c.args.connective c.next_offset-offset.result ms) (λ e. members_of c.args.connective e) c.in_ok-start.start (map (λ e. expr_of e) c.loop.members.items)) (reads grammar c.args.reader.run_limit c.args.reader.depth_limit (connected_rule c.args.connective) (map word_of c.args.tokens.now)) _ (map word_of c.loop.rest.now) c.loop.invariant _ (omega arith) (cc (c.connective_word-word.ensures, c.sees-in-loop.ensures, c.if-not-sees-2.false)) c.in_err-next.ensures)
+    rw (p.1, p.2) (run_fail c.args.reader.run_limit c.args.reader.depth_limit (next_member_rule c.args.connective) (is (connective_word c.args.connective)) (joined (λ ms. joined_expr c.args.connective c.next_offset-offset.result ms) (λ e. members_of c.args.connective e) c.in_ok-start.start (map (λ e. expr_of e) c.loop.members.items)) (reads grammar c.args.reader.run_limit c.args.reader.depth_limit (connected_rule c.args.connective) (map word_of c.args.tokens.now)) (c.args.reader.run_limit - c.loop.counter) (map word_of c.loop.rest.now) c.loop.invariant c.in_err-next.field-0.0 (omega arith) (cc (c.connective_word-word.ensures, c.sees-in-loop.ensures, c.if-not-sees-2.false)) c.in_err-next.ensures)
 
 pub connected-loop-preserved : goal.connected-loop-preserved
 connected-loop-preserved g t c =
-    run_go c.args.reader.run_limit c.args.reader.depth_limit (next_member_rule c.args.connective) (is (connective_word c.args.connective)) (joined (λ ms. joined_expr c.args.connective c.next_offset-offset.result ms) (λ e. members_of c.args.connective e) c.in_ok-start.start (map (λ e. expr_of e) c.loop.members.items)) (reads grammar c.args.reader.run_limit c.args.reader.depth_limit (connected_rule c.args.connective) (map word_of c.args.tokens.now)) _ (map word_of c.loop.rest.now) c.loop.invariant
+    run_go c.args.reader.run_limit c.args.reader.depth_limit (next_member_rule c.args.connective) (is (connective_word c.args.connective)) (joined (λ ms. joined_expr c.args.connective c.next_offset-offset.result ms) (λ e. members_of c.args.connective e) c.in_ok-start.start (map (λ e. expr_of e) c.loop.members.items)) (reads grammar c.args.reader.run_limit c.args.reader.depth_limit (connected_rule c.args.connective) (map word_of c.args.tokens.now)) (c.args.reader.run_limit - c.loop.counter) (map word_of c.loop.rest.now) c.loop.invariant
     (word_of c.in_ok-next.field-0-0-0, (c.in_ok-next.field-0-0-1-0, expr_of c.in_ok-next.next.value)) (map word_of c.in_ok-next.after.now) _ _ (omega arith) (cc (c.connective_word-word.ensures, c.sees-in-loop.ensures, c.if-not-sees-2.false)) c.in_ok-next.ensures
     (λ xs. joined_go (λ ms. joined_expr c.args.connective c.next_offset-offset.result ms) (λ e. members_of c.args.connective e) c.in_ok-start.start (map (λ e. expr_of e) c.loop.members.items) (word_of c.in_ok-next.field-0-0-0, (c.in_ok-next.field-0-0-1-0, expr_of c.in_ok-next.next.value)) xs
     ∙ ap (λ l. joined (λ ms. joined_expr c.args.connective c.next_offset-offset.result ms) (λ e. members_of c.args.connective e) c.in_ok-start.start l xs) (sym c.in_ok-extend.ensures))
@@ -199,31 +199,7 @@ connected-loop-preserved g t c =
 
 -- ---- CASE
 
-module _ (w d : _) (ts : List Word) (u : Word) (us : List Word) (opened : opened_at kind_of (can_open d) (is k.Case) ts ≡ Ok (u, us)) (as_ : List (Expr × Expr)) (vs : List Word) (arms : reads grammar w d rules.arms us ≡ Ok (as_, vs)) where
-  case_no_other : (stop : ReadError) → reads grammar w d rules.otherwise vs ≡ Err stop → reads grammar w d rules.case ts ≡ Err stop
-  unfolding rules.case
-  case_no_other stop r = rw opened (rw arms (rw r refl))
-
-  module _ (o : Otherwise) (xs : List Word) (otherwise : reads grammar w d rules.otherwise vs ≡ Ok (o, xs)) where
-    case_no_end : (stop : ReadError) → word_at kind_of (is k.End) xs ≡ Err stop → reads grammar w d rules.case ts ≡ Err stop
-    unfolding rules.case
-    case_no_end stop r = rw opened (rw arms (rw otherwise (rw r refl)))
-
-    case_read : (v : Word) (ys : List Word) → word_at kind_of (is k.End) xs ≡ Ok (v, ys) → reads grammar w d rules.case ts ≡ Ok ((u.at, Case u.at (arms_of as_) o), ys)
-    unfolding rules.case
-    case_read v ys r = rw opened (rw arms (rw otherwise (rw r refl)))
-
-  ended : (x : Otherwise × List Word) → reads grammar w d rules.otherwise vs ≡ Ok x → (e : Outcome Word Word) → word_at kind_of (is k.End) x.1 ≡ e → reads grammar w d rules.case ts ≡ case_step u.at as_ x.0 x.1
-  ended x r (Err stop) e = rw e (case_no_end x.0 x.1 r stop e)
-  ended x r (Ok z) e = rw e (case_read x.0 x.1 r z.0 z.1 e)
-
-  -- a CASE goes on from what follows its arms
-  case_goes_on : (o : Outcome Word Otherwise) → reads grammar w d rules.otherwise vs ≡ o → reads grammar w d rules.case ts ≡ (o >>= λ x. case_step u.at as_ x.0 x.1)
-  case_goes_on (Err stop) r = case_no_other stop r
-  case_goes_on (Ok x) r = ended x r (word_at kind_of (is k.End) x.1) refl
-
 pub case-returns : goal.case-returns
 case-returns g t c =
-    rw (case_goes_on c.args.reader.run_limit c.args.reader.depth_limit (map word_of c.args.tokens.now) (word_of c.in_ok-word.word) (map word_of c.in_ok-word.rest.now) c.in_ok-word.ensures.token _ (map word_of c.in_ok-arms.rest.now) c.in_ok-arms.ensures
-    (reads grammar c.args.reader.run_limit c.args.reader.depth_limit rules.otherwise (map word_of c.in_ok-arms.rest.now)) refl)
-    (goes_on (λ t. otherwise_of t) (case_step c.in_ok-word.word.offset (map (λ a. arm_pair a) c.in_ok-arms.arms)) (λ t. located t) c.otherwise.result c.case_ended.result _ c.case_ended.ensures c.otherwise.ensures)
+    rw c.in_ok-arms.ensures
+    (goes_on (λ t. otherwise_of t) (case_step c.args.offset (map (λ a. arm_pair a) c.in_ok-arms.arms)) (λ t. located t) c.otherwise.result c.case_ended.result _ c.case_ended.ensures c.otherwise.ensures)

@@ -23,41 +23,17 @@ decreases-inner_expression g l = 30 * l.reader.depth_limit + 0
 abbrev pub decreases-keyed : goal.decreases-keyed
 decreases-keyed g l = 30 * l.reader.depth_limit + 1
 
-abbrev pub decreases-parenthesized : goal.decreases-parenthesized
-decreases-parenthesized g l = 30 * l.reader.depth_limit + 2
-
-abbrev pub decreases-cast : goal.decreases-cast
-decreases-cast g l = 30 * l.reader.depth_limit + 2
-
 abbrev pub decreases-arm : goal.decreases-arm
 decreases-arm g l = 30 * l.reader.depth_limit + 2
 
 abbrev pub decreases-otherwise : goal.decreases-otherwise
 decreases-otherwise g l = 30 * l.reader.depth_limit + 2
 
-abbrev pub decreases-counted_rows : goal.decreases-counted_rows
-decreases-counted_rows g l = 30 * l.reader.depth_limit + 2
-
-abbrev pub decreases-aggregate_tail : goal.decreases-aggregate_tail
-decreases-aggregate_tail g l = 30 * l.reader.depth_limit + 2
-
 abbrev pub decreases-arms : goal.decreases-arms
 decreases-arms g l = 30 * l.reader.depth_limit + 3
 
 abbrev pub decreases-case : goal.decreases-case
 decreases-case g l = 30 * l.reader.depth_limit + 4
-
-abbrev pub decreases-count_tail : goal.decreases-count_tail
-decreases-count_tail g l = 30 * l.reader.depth_limit + 3
-
-abbrev pub decreases-count : goal.decreases-count
-decreases-count g l = 30 * l.reader.depth_limit + 4
-
-abbrev pub decreases-aggregate : goal.decreases-aggregate
-decreases-aggregate g l = 30 * l.reader.depth_limit + 3
-
-abbrev pub decreases-primary : goal.decreases-primary
-decreases-primary g l = 30 * l.reader.depth_limit + 5
 
 abbrev pub decreases-unary : goal.decreases-unary
 decreases-unary g l = 30 * l.reader.depth_limit + 6
@@ -78,9 +54,6 @@ decreases-operations g l = 30 * l.reader.depth_limit + (9 + rank l.level)
 
 abbrev pub decreases-between : goal.decreases-between
 decreases-between g l = 30 * l.reader.depth_limit + 15
-
-abbrev pub decreases-negated_range : goal.decreases-negated_range
-decreases-negated_range g l = 30 * l.reader.depth_limit + 16
 
 abbrev pub decreases-range_tail : goal.decreases-range_tail
 decreases-range_tail g l = 30 * l.reader.depth_limit + 17
