@@ -1,4 +1,3 @@
 pub mod Schema
 pub mod Loads
 pub mod Opening
-pub mod Explanation

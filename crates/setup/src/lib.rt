@@ -1,16 +1,13 @@
-//! A store from a schema text and the files of its tables, and the reply to a role's query. What stops it, and the line
-//! of that, are handed on from `startup`.
+//! A store from a schema text and the files of its tables. What stops it, and the line of that, are handed on from
+//! `startup`; the reply to a role's query, and what is said of a refused text, from `requests`.
 #![tactic(auto)]
 
-mod arguments;
-mod explanation;
 mod load;
 mod open;
 mod schema;
 
-pub use arguments::{Arguments, reply};
-pub use explanation::explain_refusal;
 pub use load::{Folder, load_table, load_tables};
 pub use open::open_store;
+pub use requests::{Arguments, explain_refusal, reply};
 pub use schema::apply_schema;
 pub use startup::{Fault, SchemaError, line_of, report, status_of};

@@ -1,7 +1,7 @@
 //! What is said of a text that is refused or denied.
 
 ghost use Rattle.std.specs.Prelude.{◌≡◌, IfOk};
-ghost use Rattle.setup.specs.Explanation.{IsExplained, explanation};
+ghost use Rattle.requests.specs.Explanation.{IsExplained, explanation};
 
 use crate::arguments::Arguments;
 use engine::refusal;

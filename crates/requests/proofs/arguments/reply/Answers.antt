@@ -1,4 +1,4 @@
-use Rattle.setup.proofs.arguments.reply.Goals as goal
+use Rattle.requests.proofs.arguments.reply.Goals as goal
 
 pub returns-clause-answered : goal.returns-clause-answered
 returns-clause-answered g c = c.serve.ensures.answered
