@@ -32,10 +32,16 @@ pub fn open_store<A: Heap, F: Folder<A>>(
     let mut store = Store::new(alloc)?;
     match apply_schema(alloc, &mut store, schema) {
         Ok(()) => {}
-        Err(error) => return Err(schema_fault(error)),
+        Err(error) => {
+            drop(store);
+            return Err(schema_fault(error));
+        }
     }
     match load_tables(alloc, &mut store, folder) {
         Ok(()) => Ok(store),
-        Err(fault) => Err(fault),
+        Err(fault) => {
+            drop(store);
+            Err(fault)
+        }
     }
 }
