@@ -1,14 +1,16 @@
-use Rattle.std.proofs.Common.{sym, ap, rules, arith}
-use Rattle.std.proofs.lemmas.Grind.{common_steps}
-use denote.Enum.Bare.{same_true, same_false}
+use Rattle.std.proofs.Common.{length, Some, None, refl, sym, ap, rules, arith}
+use denote.Enum.Bare.{same_false}
 use Rattle.value.specs.Datum.{datum_of}
+use Rattle.value.specs.declared.order.Truth.TheVariants.{False, True}
+use Rattle.value.specs.declared.types.Val.{Val}
+use Rattle.std.specs.declared.borrow.CowStr.{CowStr}
 use Rattle.value.specs.contracts.order.Truth.{the_type}
 use Rattle.expr.specs.View.{bound_expr_of, bound_exprs}
 use Rattle.eval.specs.Meaning.{meaning, conjunction, disjunction}
 use Rattle.expr.specs.Weights.{weight}
-use Rattle.expr.proofs.Walks.{and_is, or_is, case_lighter, exprs_lighter}
-use Rattle.eval.proofs.Conditions.{and_start, or_start, and_over, and_fails, and_ends, and_goes_on, or_over, or_fails, or_ends, or_goes_on, case_over, when_fails, case_gives, case_goes_on, case_fails, case_value, case_else, case_null, exits, exits_choice}
-use Rattle.eval.proofs.Movables.{member_movable, rest_movable, when_movable, result_movable, arms_left_movable, arms_all_movable, else_movable, exits_safe}
+use Rattle.expr.proofs.Walks.{and_is, or_is, case_lighter, exprs_lighter, exprs_still, arms_still}
+use Rattle.eval.proofs.Conditions.{and_start, or_start, and_over, and_fails, and_ends, and_goes_on, or_over, or_fails, or_ends, or_goes_on, case_over, when_fails, case_gives, case_goes_on, case_fails, case_value, case_else, case_null, exits, exits_choice, one_fewer, same}
+use Rattle.eval.proofs.Movables.{member_movable, rest_movable, when_movable, result_movable, arms_left_movable, arms_all_movable, else_movable, exits_safe, ok_safe}
 use Rattle.eval.proofs.evaluating.+eval.Goals as goal
 
 -- ---- AND
@@ -21,14 +23,14 @@ conjunction-returns-in_err-condition-clause-value g t c =
 pub conjunction-returns-then-eq-clause-value : goal.conjunction-returns-then-eq-clause-value
 conjunction-returns-then-eq-clause-value g t c =
     and_ends (g.R.Row.cells c.args.row.now) c.args.role.now c.args.members.now c.loop-member.member-index c.loop-member.known c.loop-member.invariant.rest c.member-item.result c.loop-member-test.true c.member-item.is
-    c.in_ok-condition.field-0 c.and3-known.result (c.in_ok-condition.ensures.value (meaning (g.R.Row.cells c.args.row.now) c.args.role.now (bound_expr_of c.member-item.result)) c.eval.ensures.value) c.and3-known.ensures c.loop-member.invariant.open_yet (same_true the_type (search rules) _ _ (sym c.if-eq.ensures))
+    c.in_ok-condition.field-0 c.and3-known.result (c.in_ok-condition.ensures.value (meaning (g.R.Row.cells c.args.row.now) c.args.role.now (bound_expr_of c.member-item.result)) c.eval.ensures.value) c.and3-known.ensures c.loop-member.invariant.open_yet (same c.and3-known.result False (sym c.if-eq.ensures))
 
 pub conjunction-loop-member-preserved : goal.conjunction-loop-member-preserved
-conjunction-loop-member-preserved g t c = let o = same_false the_type _ _ (sym c.if-eq.ensures) in record {
+conjunction-loop-member-preserved g t c = let o = same_false the_type c.and3-known.result False (sym c.if-eq.ensures) in record {
   open_yet = o;
   rest = and_goes_on (g.R.Row.cells c.args.row.now) c.args.role.now c.args.members.now c.loop-member.member-index c.loop-member.known c.loop-member.invariant.rest c.member-item.result c.loop-member-test.true c.member-item.is c.in_ok-condition.field-0 c.and3-known.result (c.in_ok-condition.ensures.value (meaning (g.R.Row.cells c.args.row.now) c.args.role.now (bound_expr_of c.member-item.result)) c.eval.ensures.value) c.and3-known.ensures o;
   memory = λ p. rest_movable c.args.members.now c.loop-member.member-index c.member-item.result c.loop-member-test.true c.member-item.is (c.loop-member.invariant.memory p);
-  lighter = grind (arith, common_steps);
+  lighter = exprs_still c.args.members.now c.loop-member.member-index c.member-item.result c.loop-member-test.true c.member-item.is c.loop-member.invariant.lighter;
 }
 
 pub conjunction-returns-clause-value : goal.conjunction-returns-clause-value
@@ -44,14 +46,14 @@ disjunction-returns-in_err-condition-clause-value g t c =
 pub disjunction-returns-then-eq-clause-value : goal.disjunction-returns-then-eq-clause-value
 disjunction-returns-then-eq-clause-value g t c =
     or_ends (g.R.Row.cells c.args.row.now) c.args.role.now c.args.members.now c.loop-member.member-index c.loop-member.known c.loop-member.invariant.rest c.member-item.result c.loop-member-test.true c.member-item.is
-    c.in_ok-condition.field-0 c.or3-known.result (c.in_ok-condition.ensures.value (meaning (g.R.Row.cells c.args.row.now) c.args.role.now (bound_expr_of c.member-item.result)) c.eval.ensures.value) c.or3-known.ensures c.loop-member.invariant.open_yet (same_true the_type (search rules) _ _ (sym c.if-eq.ensures))
+    c.in_ok-condition.field-0 c.or3-known.result (c.in_ok-condition.ensures.value (meaning (g.R.Row.cells c.args.row.now) c.args.role.now (bound_expr_of c.member-item.result)) c.eval.ensures.value) c.or3-known.ensures c.loop-member.invariant.open_yet (same c.or3-known.result True (sym c.if-eq.ensures))
 
 pub disjunction-loop-member-preserved : goal.disjunction-loop-member-preserved
-disjunction-loop-member-preserved g t c = let o = same_false the_type _ _ (sym c.if-eq.ensures) in record {
+disjunction-loop-member-preserved g t c = let o = same_false the_type c.or3-known.result True (sym c.if-eq.ensures) in record {
   open_yet = o;
   rest = or_goes_on (g.R.Row.cells c.args.row.now) c.args.role.now c.args.members.now c.loop-member.member-index c.loop-member.known c.loop-member.invariant.rest c.member-item.result c.loop-member-test.true c.member-item.is c.in_ok-condition.field-0 c.or3-known.result (c.in_ok-condition.ensures.value (meaning (g.R.Row.cells c.args.row.now) c.args.role.now (bound_expr_of c.member-item.result)) c.eval.ensures.value) c.or3-known.ensures o;
   memory = λ p. rest_movable c.args.members.now c.loop-member.member-index c.member-item.result c.loop-member-test.true c.member-item.is (c.loop-member.invariant.memory p);
-  lighter = grind (arith, common_steps);
+  lighter = exprs_still c.args.members.now c.loop-member.member-index c.member-item.result c.loop-member-test.true c.member-item.is c.loop-member.invariant.lighter;
 }
 
 pub disjunction-returns-clause-value : goal.disjunction-returns-clause-value
@@ -67,17 +69,17 @@ chosen-returns-in_err-condition-clause-value g t c = λ rest.
 pub chosen-returns-in_err-eval-clause-value : goal.chosen-returns-in_err-eval-clause-value
 chosen-returns-in_err-eval-clause-value g t c = λ rest.
     exits_choice c.from_residual-in_err-eval.result c.in_err-eval.field-0.0 rest _ c.from_residual-in_err-eval.ensures.1
-    (rw (case_gives (g.R.Row.cells c.args.row.now) c.args.role.now c.args.arms.now c.loop-arm.arm-index rest (c.loop-arm.invariant.rest rest) c.arm-item.result c.loop-arm-test.true c.arm-item.is c.in_ok-condition.field-0 (c.in_ok-condition.ensures.value (meaning (g.R.Row.cells c.args.row.now) c.args.role.now (bound_expr_of c.arm-item.result.when)) c.eval.ensures.value) (same_true the_type (search rules) _ _ (sym c.if-eq.ensures))) c.in_err-eval.ensures.value)
+    (rw (case_gives (g.R.Row.cells c.args.row.now) c.args.role.now c.args.arms.now c.loop-arm.arm-index rest (c.loop-arm.invariant.rest rest) c.arm-item.result c.loop-arm-test.true c.arm-item.is c.in_ok-condition.field-0 (c.in_ok-condition.ensures.value (meaning (g.R.Row.cells c.args.row.now) c.args.role.now (bound_expr_of c.arm-item.result.when)) c.eval.ensures.value) (same c.in_ok-condition.field-0 True (sym c.if-eq.ensures))) c.in_err-eval.ensures.value)
 
 pub chosen-returns-then-eq-clause-value : goal.chosen-returns-then-eq-clause-value
 chosen-returns-then-eq-clause-value g t c = λ rest.
-    rw (case_gives (g.R.Row.cells c.args.row.now) c.args.role.now c.args.arms.now c.loop-arm.arm-index rest (c.loop-arm.invariant.rest rest) c.arm-item.result c.loop-arm-test.true c.arm-item.is c.in_ok-condition.field-0 (c.in_ok-condition.ensures.value (meaning (g.R.Row.cells c.args.row.now) c.args.role.now (bound_expr_of c.arm-item.result.when)) c.eval.ensures.value) (same_true the_type (search rules) _ _ (sym c.if-eq.ensures))) c.in_ok-eval.ensures.value
+    rw (case_gives (g.R.Row.cells c.args.row.now) c.args.role.now c.args.arms.now c.loop-arm.arm-index rest (c.loop-arm.invariant.rest rest) c.arm-item.result c.loop-arm-test.true c.arm-item.is c.in_ok-condition.field-0 (c.in_ok-condition.ensures.value (meaning (g.R.Row.cells c.args.row.now) c.args.role.now (bound_expr_of c.arm-item.result.when)) c.eval.ensures.value) (same c.in_ok-condition.field-0 True (sym c.if-eq.ensures))) c.in_ok-eval.ensures.value
 
 pub chosen-loop-arm-preserved : goal.chosen-loop-arm-preserved
 chosen-loop-arm-preserved g t c = record {
-  rest = λ rest. case_goes_on (g.R.Row.cells c.args.row.now) c.args.role.now c.args.arms.now c.loop-arm.arm-index rest (c.loop-arm.invariant.rest rest) c.arm-item.result c.loop-arm-test.true c.arm-item.is c.in_ok-condition.field-0 (c.in_ok-condition.ensures.value (meaning (g.R.Row.cells c.args.row.now) c.args.role.now (bound_expr_of c.arm-item.result.when)) c.eval.ensures.value) (same_false the_type _ _ (sym c.if-eq.ensures));
+  rest = λ rest. case_goes_on (g.R.Row.cells c.args.row.now) c.args.role.now c.args.arms.now c.loop-arm.arm-index rest (c.loop-arm.invariant.rest rest) c.arm-item.result c.loop-arm-test.true c.arm-item.is c.in_ok-condition.field-0 (c.in_ok-condition.ensures.value (meaning (g.R.Row.cells c.args.row.now) c.args.role.now (bound_expr_of c.arm-item.result.when)) c.eval.ensures.value) (same_false the_type c.in_ok-condition.field-0 True (sym c.if-eq.ensures));
   memory = λ p. arms_left_movable c.args.arms.now c.loop-arm.arm-index c.arm-item.result c.loop-arm-test.true c.arm-item.is (c.loop-arm.invariant.memory p);
-  lighter = grind (arith, common_steps);
+  lighter = arms_still c.args.arms.now c.loop-arm.arm-index c.arm-item.result c.loop-arm-test.true c.arm-item.is c.loop-arm.invariant.lighter;
 }
 
 pub chosen-returns-clause-value : goal.chosen-returns-clause-value
@@ -215,3 +217,139 @@ eval-eval-requires-in-Not g t c κs within = let w = ap weight (ap bound_expr_of
 
 pub eval-eval-requires-in-Cast : goal.eval-eval-requires-in-Cast
 eval-eval-requires-in-Cast g t c κs within = let w = ap weight (ap bound_expr_of c.in-Cast.is) in search rules
+
+-- ---- the loops
+
+pub conjunction-offset_bounds-members-member-index : goal.conjunction-offset_bounds-members-member-index
+conjunction-offset_bounds-members-member-index g t c = c.loop-member.auto.member-index-end
+
+pub conjunction-bounds-members-member-index : goal.conjunction-bounds-members-member-index
+conjunction-bounds-members-member-index g t c = c.loop-member-test.true
+
+pub conjunction-loop-member-smaller : goal.conjunction-loop-member-smaller
+conjunction-loop-member-smaller g t c = one_fewer (length c.args.members.now) c.loop-member.member-index c.loop-member-test.true
+
+pub disjunction-offset_bounds-members-member-index : goal.disjunction-offset_bounds-members-member-index
+disjunction-offset_bounds-members-member-index g t c = c.loop-member.auto.member-index-end
+
+pub disjunction-bounds-members-member-index : goal.disjunction-bounds-members-member-index
+disjunction-bounds-members-member-index g t c = c.loop-member-test.true
+
+pub disjunction-loop-member-smaller : goal.disjunction-loop-member-smaller
+disjunction-loop-member-smaller g t c = one_fewer (length c.args.members.now) c.loop-member.member-index c.loop-member-test.true
+
+pub chosen-offset_bounds-arms-arm-index : goal.chosen-offset_bounds-arms-arm-index
+chosen-offset_bounds-arms-arm-index g t c = c.loop-arm.auto.arm-index-end
+
+pub chosen-bounds-arms-arm-index : goal.chosen-bounds-arms-arm-index
+chosen-bounds-arms-arm-index g t c = c.loop-arm-test.true
+
+pub chosen-loop-arm-smaller : goal.chosen-loop-arm-smaller
+chosen-loop-arm-smaller g t c = one_fewer (length c.args.arms.now) c.loop-arm.arm-index c.loop-arm-test.true
+
+pub chosen-loop-arm-init : goal.chosen-loop-arm-init
+chosen-loop-arm-init g t c = record {
+  rest = λ rest. refl;
+  memory = λ p. p;
+  lighter = omega arith;
+}
+
+-- ---- a result that is no failure
+
+pub conjunction-returns-then-eq-clause-memory : goal.conjunction-returns-then-eq-clause-memory
+conjunction-returns-then-eq-clause-memory g t c = λ p. ok_safe False
+
+pub conjunction-returns-clause-memory : goal.conjunction-returns-clause-memory
+conjunction-returns-clause-memory g t c = λ p. ok_safe c.loop-member.known
+
+pub disjunction-returns-then-eq-clause-memory : goal.disjunction-returns-then-eq-clause-memory
+disjunction-returns-then-eq-clause-memory g t c = λ p. ok_safe True
+
+pub disjunction-returns-clause-memory : goal.disjunction-returns-clause-memory
+disjunction-returns-clause-memory g t c = λ p. ok_safe c.loop-member.known
+
+pub chosen-returns-then-eq-clause-memory : goal.chosen-returns-then-eq-clause-memory
+chosen-returns-then-eq-clause-memory g t c = λ p. ok_safe (Some c.in_ok-eval.field-0)
+
+pub chosen-returns-clause-memory : goal.chosen-returns-clause-memory
+chosen-returns-clause-memory g t c = λ p. ok_safe None
+
+pub eval-returns-in-Column-clause-memory : goal.eval-returns-in-Column-clause-memory
+eval-returns-in-Column-clause-memory g t c = λ p. ok_safe c.cell.result
+
+pub eval-returns-in-Literal-clause-memory : goal.eval-returns-in-Literal-clause-memory
+eval-returns-in-Literal-clause-memory g t c = λ p. ok_safe c.as_val.result
+
+pub eval-returns-in-CurrentUser-clause-memory : goal.eval-returns-in-CurrentUser-clause-memory
+eval-returns-in-CurrentUser-clause-memory g t c = λ p. ok_safe (Val.Text (CowStr.Borrowed c.args.role))
+
+pub eval-returns-in-Some-clause-memory : goal.eval-returns-in-Some-clause-memory
+eval-returns-in-Some-clause-memory g t c = λ p. ok_safe c.in-Some.value
+
+pub eval-returns-in-None-otherwise-clause-memory : goal.eval-returns-in-None-otherwise-clause-memory
+eval-returns-in-None-otherwise-clause-memory g t c = λ p. ok_safe Val.Null
+
+pub eval-returns-in-CountStar-clause-memory : goal.eval-returns-in-CountStar-clause-memory
+eval-returns-in-CountStar-clause-memory g t c = λ p. ok_safe c.aggregate.result
+
+-- ---- the name of the role is text
+
+pub chosen-eval-requires-text-role : goal.chosen-eval-requires-text-role
+chosen-eval-requires-text-role g t c κs within = c.requires.0.1.1.1.0
+
+pub chosen-eval-requires-then-eq-text-role : goal.chosen-eval-requires-then-eq-text-role
+chosen-eval-requires-then-eq-text-role g t c κs within = c.requires.0.1.1.1.0
+
+pub conjunction-eval-requires-text-role : goal.conjunction-eval-requires-text-role
+conjunction-eval-requires-text-role g t c κs within = c.requires.0.1.1.1.0
+
+pub disjunction-eval-requires-text-role : goal.disjunction-eval-requires-text-role
+disjunction-eval-requires-text-role g t c κs within = c.requires.0.1.1.1.0
+
+pub eval-eval-requires-text-role : goal.eval-eval-requires-text-role
+eval-eval-requires-text-role g t c κs within = c.requires.0.1.1.1.0
+
+pub eval-eval-requires-in-Arithmetic-text-role : goal.eval-eval-requires-in-Arithmetic-text-role
+eval-eval-requires-in-Arithmetic-text-role g t c κs within = c.requires.0.1.1.1.0
+
+pub eval-eval-requires-in-Arithmetic-2-text-role : goal.eval-eval-requires-in-Arithmetic-2-text-role
+eval-eval-requires-in-Arithmetic-2-text-role g t c κs within = c.requires.0.1.1.1.0
+
+pub eval-eval-requires-in-Comparison-text-role : goal.eval-eval-requires-in-Comparison-text-role
+eval-eval-requires-in-Comparison-text-role g t c κs within = c.requires.0.1.1.1.0
+
+pub eval-eval-requires-in-Comparison-2-text-role : goal.eval-eval-requires-in-Comparison-2-text-role
+eval-eval-requires-in-Comparison-2-text-role g t c κs within = c.requires.0.1.1.1.0
+
+pub eval-eval-requires-in-Between-text-role : goal.eval-eval-requires-in-Between-text-role
+eval-eval-requires-in-Between-text-role g t c κs within = c.requires.0.1.1.1.0
+
+pub eval-eval-requires-in-Between-2-text-role : goal.eval-eval-requires-in-Between-2-text-role
+eval-eval-requires-in-Between-2-text-role g t c κs within = c.requires.0.1.1.1.0
+
+pub eval-eval-requires-in-Between-3-text-role : goal.eval-eval-requires-in-Between-3-text-role
+eval-eval-requires-in-Between-3-text-role g t c κs within = c.requires.0.1.1.1.0
+
+pub eval-eval-requires-in-In-text-role : goal.eval-eval-requires-in-In-text-role
+eval-eval-requires-in-In-text-role g t c κs within = c.requires.0.1.1.1.0
+
+pub eval-eval-requires-in-IsNull-text-role : goal.eval-eval-requires-in-IsNull-text-role
+eval-eval-requires-in-IsNull-text-role g t c κs within = c.requires.0.1.1.1.0
+
+pub eval-eval-requires-in-Not-text-role : goal.eval-eval-requires-in-Not-text-role
+eval-eval-requires-in-Not-text-role g t c κs within = c.requires.0.1.1.1.0
+
+pub eval-conjunction-requires-text-role : goal.eval-conjunction-requires-text-role
+eval-conjunction-requires-text-role g t c κs within = c.requires.0.1.1.1.0
+
+pub eval-disjunction-requires-text-role : goal.eval-disjunction-requires-text-role
+eval-disjunction-requires-text-role g t c κs within = c.requires.0.1.1.1.0
+
+pub eval-eval-requires-in-Cast-text-role : goal.eval-eval-requires-in-Cast-text-role
+eval-eval-requires-in-Cast-text-role g t c κs within = c.requires.0.1.1.1.0
+
+pub eval-chosen-requires-text-role : goal.eval-chosen-requires-text-role
+eval-chosen-requires-text-role g t c κs within = c.requires.0.1.1.1.0
+
+pub eval-eval-requires-in-Some-otherwise-text-role : goal.eval-eval-requires-in-Some-otherwise-text-role
+eval-eval-requires-in-Some-otherwise-text-role g t c κs within = c.requires.0.1.1.1.0
