@@ -27,6 +27,15 @@ same a b h = same_true the_type (search rules) a b h
 
 -- ---- AND and OR
 
+pub and_open : True ≢ False
+and_open q = cc (q)
+
+pub or_open : False ≢ True
+or_open q = cc (q)
+
+pub as_heavy : (n : ℕ) → n ≤ n
+as_heavy n = omega arith
+
 pub and_start : (r : Result Truth Fault) → with_least True r ≡ r
 and_start (Ok False) = refl
 and_start (Ok Unknown) = refl
