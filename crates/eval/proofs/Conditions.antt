@@ -1,11 +1,13 @@
 -- How conditions that are known continue to all of them.
-use Rattle.std.proofs.Common.{◌≡◌, ◌≢◌, ℕ, ◌<◌, ◌≤◌, ◌+◌, List, length, get_or, drop, Option, Some, None, Result, Ok, Err, IsOk, IsErrAnd, Vec, Box, refl, sym, ap, ◌∙◌, arith}
+use Rattle.std.proofs.Common.{◌≡◌, ◌≢◌, ℕ, ◌<◌, ◌≤◌, ◌+◌, ◌-◌, List, length, get_or, drop, Option, Some, None, Result, Ok, Err, IsOk, IsErrAnd, Vec, Box, true, refl, sym, ap, ◌∙◌, rules, arith}
 use Rattle.std.proofs.lemmas.Grind.{common_steps}
+use denote.Enum.Bare.{sameb, same_true}
 use Rattle.memory.specs.declared.failure.Failure.{Failure}
 use Rattle.memory.specs.declared.failure.Failure.TheVariants as failure
 use Rattle.memory.specs.Gives.{IsFailure, Gives}
 use Rattle.value.specs.declared.order.Truth.{Truth}
 use Rattle.value.specs.declared.order.Truth.TheVariants.{False, Unknown, True}
+use Rattle.value.specs.contracts.order.Truth.{the_type}
 use Rattle.value.specs.declared.faults.Fault.{Fault}
 use Rattle.value.specs.Truths.{least, greatest}
 use Rattle.value.specs.Datum.{Datum, null}
@@ -18,7 +20,21 @@ use Rattle.eval.specs.Choice.{GivesChoice}
 use Rattle.eval.specs.Meaning.{Cells, Outcome, meaning, condition, conjunction, disjunction, chosen, otherwise, with_least, with_greatest, unless_false, unless_true, when_true}
 use Rattle.eval.proofs.Nodes.{otherwise_of, case_is}
 
+-- ---- two truths that compare as equal
+
+pub same : (a b : Truth) → sameb the_type a b ≡ true → a ≡ b
+same a b h = same_true the_type (search rules) a b h
+
 -- ---- AND and OR
+
+pub and_open : True ≢ False
+and_open q = cc (q)
+
+pub or_open : False ≢ True
+or_open q = cc (q)
+
+pub as_heavy : (n : ℕ) → n ≤ n
+as_heavy n = omega arith
 
 pub and_start : (r : Result Truth Fault) → with_least True r ≡ r
 and_start (Ok False) = refl
@@ -115,3 +131,8 @@ exits_choice (Err e) f rest m is h = rw is h
 pub never_fails : (f : Failure Fault) (m : Outcome) → IsFailure f m → IsOk m → f ≢ failure.OutOfMemory → ⊥
 never_fails (failure.Fault x) m h ok n = absurd (cc)
 never_fails failure.OutOfMemory m h ok n = n refl
+
+-- ---- one fewer is left
+
+pub one_fewer : (n k : ℕ) → k < n → n - (k + 1) < n - k
+one_fewer n k more = omega (arith, more)

@@ -4,3 +4,4 @@ pub mod Movables
 pub mod Faultless
 pub mod Members
 pub mod Agreement
+pub mod Operands

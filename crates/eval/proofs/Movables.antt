@@ -54,3 +54,6 @@ module _ {A : Type 0} (e : BoundExpr A) (offset : ℕ) (v : Vec (BoundArm A) A) 
 pub exits_safe : {X Y : Type 0} (r : Result Y (Failure Fault)) (f : Failure Fault) → IsErrAnd r (λ e. e ≡ f) → ◌≢◌ {A = Result X (Failure Fault)} (Err f) (Err OutOfMemory) → r ≢ Err OutOfMemory
 exits_safe (Ok x) f is n = absurd is
 exits_safe {X} (Err e) f is n = λ q. n (cc)
+
+pub ok_safe : {X : Type 0} (x : X) → ◌≢◌ {A = Result X (Failure Fault)} (Ok x) (Err OutOfMemory)
+ok_safe x = λ q. cc (q)
