@@ -22,7 +22,7 @@ pub counted_change : (o : Option Refusal) (before due made : Catalog) → unless
 counted_change None before due made e = ok_of (counted before due) (counted before made) (ap (counted before) (ok_is due made e))
 counted_change (Some why) before due made e = absurd (err_is_not why made e)
 
-refused_same : (o : Option Refusal) (due other : Catalog) (why : Refusal) → unless o due ≡ Err why → unless o other ≡ Err why
+pub refused_same : (o : Option Refusal) (due other : Catalog) (why : Refusal) → unless o due ≡ Err why → unless o other ≡ Err why
 refused_same None due other why e = absurd (ok_is_not why due e)
 refused_same (Some code) due other why e = e
 

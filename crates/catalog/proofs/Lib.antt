@@ -9,3 +9,4 @@ pub mod TableChanges
 pub mod Known
 pub mod MoreRoles
 pub mod NoLoop
+pub mod Made

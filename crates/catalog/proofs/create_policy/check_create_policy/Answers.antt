@@ -1,65 +1,85 @@
-use Rattle.std.proofs.Common.{Some, inr, refl, sym, ap}
+use Rattle.std.proofs.Common.{◌≡◌, ◌⊎◌, inr, ℕ, true, false, List, Some, None, Ok, refl, sym, ap}
+use Rattle.std.specs.List.{list_all}
+use Rattle.value.specs.declared.refusal.Refusal.{Refusal}
+use Rattle.value.specs.declared.refusal.Refusal.TheVariants as r
+use Rattle.row_ast.specs.Ast.{CreatePolicy, Expr, Name}
+use Rattle.row_ast.specs.View.{create_policy_of, expr_of}
+use Rattle.expr.specs.Bound.{BoundExpr}
+use Rattle.row_objects.specs.Objects.{Policy, Table}
+use Rattle.row_objects.specs.Policies.{has_policy}
+use Rattle.row_objects.specs.View.{table_of}
+use Rattle.catalog.specs.Catalog.{Catalog, is_known, owns, table_named, table_place}
+use Rattle.catalog.specs.Checks.{first_refusal}
+use Rattle.catalog.specs.CreatePolicy.{bound_predicate, checks_create_policy, checks_predicate, CheckedPolicy}
 use Rattle.catalog.proofs.create_policy.check_create_policy.Goals as goal
 
-pub returns-in_default-clause-checked : goal.returns-in_default-clause-checked
-returns-in_default-clause-checked g c =
-    let none = rw (c.in_default.is, c.as_str.ensures) at c.find_table.ensures.table in
-    inr (rw (← none) refl)
+module _ (cat : Catalog) (actor : Name) (p : CreatePolicy) (name : Name) (is : name ≡ p.table) where
+  no_table : None ≡ table_named name cat → first_refusal (checks_create_policy cat actor p) ≡ Some r.UndefinedTable
+  no_table none = rw (← is, ← none) refl
 
-pub returns-in_default-clause-within : goal.returns-in_default-clause-within
-returns-in_default-clause-within g c = tt
+  module _ (t : Table) (found : Some t ≡ table_named name cat) where
+    no_owner : false ≡ owns cat actor t → first_refusal (checks_create_policy cat actor p) ≡ Some r.InsufficientPrivilege
+    no_owner other = rw (← is, ← found, ← other) refl
 
-pub returns-then-not-owns-clause-checked : goal.returns-then-not-owns-clause-checked
-returns-then-not-owns-clause-checked g c =
-    let found = rw (c.in-Some.is, c.as_str.ensures) at c.find_table.ensures.table in
-    let other = rw (c.if-not-owns.true) at c.owns.ensures in
-    inr (rw (← found, ← other) refl)
+    module _ (owner : true ≡ owns cat actor t) (roles : List Name) (same : roles ≡ p.roles) where
+      no_roles : false ≡ list_all (is_known cat) roles → first_refusal (checks_create_policy cat actor p) ≡ Some r.UndefinedObject
+      no_roles unknown = rw (← is, ← found, ← owner, ← same, ← unknown) refl
 
-pub returns-then-not-owns-clause-within : goal.returns-then-not-owns-clause-within
-returns-then-not-owns-clause-within g c = tt
+      module _ (known : true ≡ list_all (is_known cat) roles) (policies : List Policy) (its : policies ≡ t.policies) (new : Name) (named : new ≡ p.name) where
+        named_twice : true ≡ has_policy policies new → first_refusal (checks_create_policy cat actor p) ≡ Some r.DuplicateObject
+        named_twice taken = rw (← is, ← found, ← owner, ← same, ← known, ← its, ← named, ← taken) refl
 
-pub returns-then-not-are_known-clause-checked : goal.returns-then-not-are_known-clause-checked
-returns-then-not-are_known-clause-checked g c =
-    let found = rw (c.in-Some.is, c.as_str.ensures) at c.find_table.ensures.table in
-    let owner = rw (c.if-not-owns.false) at c.owns.ensures in
-    let unknown = rw (c.if-not-are_known.true, c.as_slice.ensures) at c.are_known.ensures in
-    inr (rw (← found, ← owner, ← unknown) refl)
+        module _ (free : false ≡ has_policy policies new) (e : Expr) (condition : e ≡ p.predicate) where
+          as_predicate : first_refusal (checks_create_policy cat actor p) ≡ first_refusal (checks_predicate cat t e)
+          as_predicate = rw (← is, ← found, ← owner, ← same, ← known, ← its, ← named, ← free, ← condition) refl
 
-pub returns-then-not-are_known-clause-within : goal.returns-then-not-are_known-clause-within
-returns-then-not-are_known-clause-within g c = tt
+          refused : (why : Refusal) → (why ≡ r.OutOfMemory) ⊎ (first_refusal (checks_predicate cat t e) ≡ Some why) → (why ≡ r.OutOfMemory) ⊎ (first_refusal (checks_create_policy cat actor p) ≡ Some why)
+          refused why h = rw as_predicate h
 
-pub returns-then-has_policy-clause-within : goal.returns-then-has_policy-clause-within
-returns-then-has_policy-clause-within g c = tt
+          passed : (place : ℕ) (bound : BoundExpr) → Some place ≡ table_place name cat → (first_refusal (checks_predicate cat t e) ≡ None) × (bound_predicate t e ≡ Ok bound)
+              → CheckedPolicy (Ok (place, bound)) (first_refusal (checks_create_policy cat actor p)) cat p
+          passed place bound at h = (rw as_predicate h.0, rw (← is) (sym at), rw (← is, ← found, ← condition) (ap (λ b. Some b) h.1))
 
-pub returns-in-Err-clause-within : goal.returns-in-Err-clause-within
-returns-in-Err-clause-within g c = tt
+pub returns-in_default : goal.returns-in_default
+returns-in_default g c = record {
+  checked = inr (no_table c.args.catalog.now c.args.actor.now (create_policy_of c.args.policy.now) c.as_str.result.now c.as_str.ensures (rw (c.in_default.is) at c.find_table.ensures.table));
+  within = tt;
+}
 
-pub returns-then-has_policy-clause-checked : goal.returns-then-has_policy-clause-checked
-returns-then-has_policy-clause-checked g c =
-    let found = rw (c.in-Some.is, c.as_str.ensures) at c.find_table.ensures.table in
-    let owner = rw (c.if-not-owns.false) at c.owns.ensures in
-    let known = rw (c.if-not-are_known.false, c.as_slice.ensures) at c.are_known.ensures in
-    let taken = rw (c.if-has_policy.true, c.policies.ensures, c.as_str-else-not-are_known.ensures) at c.has_policy.ensures in
-    inr (rw (← found, ← owner, ← known, ← taken) refl)
+pub returns-then-not-owns : goal.returns-then-not-owns
+returns-then-not-owns g c = record {
+  checked = inr (no_owner c.args.catalog.now c.args.actor.now (create_policy_of c.args.policy.now) c.as_str.result.now c.as_str.ensures (table_of c.in-Some.table) c.in-Some.ensures.table
+      c.if-not-owns.ensures);
+  within = tt;
+}
 
-pub returns-in-Err-clause-checked : goal.returns-in-Err-clause-checked
-returns-in-Err-clause-checked g c =
-    let found = rw (c.in-Some.is, c.as_str.ensures) at c.find_table.ensures.table in
-    let owner = rw (c.if-not-owns.false) at c.owns.ensures in
-    let known = rw (c.if-not-are_known.false, c.as_slice.ensures) at c.are_known.ensures in
-    let other = rw (c.if-has_policy.false, c.policies.ensures, c.as_str-else-not-are_known.ensures) at c.has_policy.ensures in
-    let why = rw (c.deref.ensures) at c.in-Err.ensures in
-    rw (← found, ← owner, ← known, ← other) why
+pub returns-then-not-are_known : goal.returns-then-not-are_known
+returns-then-not-are_known g c = record {
+  checked = inr (no_roles c.args.catalog.now c.args.actor.now (create_policy_of c.args.policy.now) c.as_str.result.now c.as_str.ensures (table_of c.in-Some.table) c.in-Some.ensures.table
+      c.if-not-owns.ensures c.as_slice.result.now c.as_slice.ensures c.if-not-are_known.ensures);
+  within = tt;
+}
 
-pub returns-in-Ok-clause-checked : goal.returns-in-Ok-clause-checked
-returns-in-Ok-clause-checked g c =
-    let found = rw (c.in-Some.is, c.as_str.ensures) at c.find_table.ensures.table in
-    let place = rw (c.in-Some.is, c.as_str.ensures) at c.find_table.ensures.place in
-    let owner = rw (c.if-not-owns.false) at c.owns.ensures in
-    let known = rw (c.if-not-are_known.false, c.as_slice.ensures) at c.are_known.ensures in
-    let other = rw (c.if-has_policy.false, c.policies.ensures, c.as_str-else-not-are_known.ensures) at c.has_policy.ensures in
-    let bound = rw (c.deref.ensures) at c.in-Ok.ensures in
-    (rw (← found, ← owner, ← known, ← other) bound.0, sym place, rw (← found) (ap (λ b. Some b) bound.1))
+pub returns-then-has_policy : goal.returns-then-has_policy
+returns-then-has_policy g c = record {
+  checked = inr (named_twice c.args.catalog.now c.args.actor.now (create_policy_of c.args.policy.now) c.as_str.result.now c.as_str.ensures (table_of c.in-Some.table) c.in-Some.ensures.table
+      c.if-not-owns.ensures c.as_slice.result.now c.as_slice.ensures c.if-not-are_known.ensures _ c.policies.ensures c.as_str-else-not-are_known.result.now c.as_str-else-not-are_known.ensures
+      c.if-has_policy.ensures);
+  within = tt;
+}
 
-pub returns-in-Ok-clause-within : goal.returns-in-Ok-clause-within
-returns-in-Ok-clause-within g c = rw (c.in-Some.is) at c.find_table.ensures.within
+pub returns-in-Err : goal.returns-in-Err
+returns-in-Err g c = record {
+  checked = refused c.args.catalog.now c.args.actor.now (create_policy_of c.args.policy.now) c.as_str.result.now c.as_str.ensures (table_of c.in-Some.table) c.in-Some.ensures.table
+      c.if-not-owns.ensures c.as_slice.result.now c.as_slice.ensures c.if-not-are_known.ensures _ c.policies.ensures c.as_str-else-not-are_known.result.now c.as_str-else-not-are_known.ensures
+      c.if-has_policy.ensures _ (ap (λ e. expr_of e) c.deref.ensures) c.in-Err.why c.in-Err.ensures;
+  within = tt;
+}
+
+pub returns-in-Ok : goal.returns-in-Ok
+returns-in-Ok g c = record {
+  checked = passed c.args.catalog.now c.args.actor.now (create_policy_of c.args.policy.now) c.as_str.result.now c.as_str.ensures (table_of c.in-Some.table) c.in-Some.ensures.table
+      c.if-not-owns.ensures c.as_slice.result.now c.as_slice.ensures c.if-not-are_known.ensures _ c.policies.ensures c.as_str-else-not-are_known.result.now c.as_str-else-not-are_known.ensures
+      c.if-has_policy.ensures _ (ap (λ e. expr_of e) c.deref.ensures) c.in-Some.place _ c.in-Some.ensures.place c.in-Ok.ensures;
+  within = c.in-Some.ensures.within;
+}
