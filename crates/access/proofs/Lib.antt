@@ -1,4 +1,5 @@
 pub mod Passed
+pub mod Walks
 pub mod Decided
 pub mod Chosen
 pub mod Frames

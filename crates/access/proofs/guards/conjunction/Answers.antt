@@ -1,4 +1,4 @@
-use Rattle.std.proofs.Common.{◌≡◌, ◌∙◌, ap, true, false}
+use Rattle.std.proofs.Common.{◌≡◌, ◌∙◌, ap, sym, true, false, true≢false}
 use Rattle.expr.specs.View.{bound_expr_of}
 use Rattle.access.specs.Guards as spec
 use Rattle.access.proofs.Chosen.{and_made, some_movable, never_none}
@@ -10,4 +10,4 @@ returns-in-Some g c = ap spec.Expr (some_movable (bound_expr_of c.in-Ok.whole.va
 pub returns-in-None : goal.returns-in-None
 returns-in-None g c =
     let q : false ≡ true = never_none (bound_expr_of c.in-Ok.whole.value) c.new.result (rw (and_made c.args.members c.in-Ok.whole.value c.in-Ok.ensures) c.requires) c.new.ensures c.in-None.is in
-    cc
+    absurd (true≢false (sym q))

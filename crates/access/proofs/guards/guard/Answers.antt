@@ -1,4 +1,4 @@
-use Rattle.std.proofs.Common.{map}
+use Rattle.std.proofs.Common.{map, refl}
 use Rattle.row_objects.specs.View.{policy_of, table_of}
 use Rattle.access.proofs.Chosen.{by_policies, shown_of}
 use Rattle.access.proofs.guards.guard.Goals as goal
@@ -11,3 +11,9 @@ pub returns-else-is_above-clause-shows : goal.returns-else-is_above-clause-shows
 returns-else-is_above-clause-shows g c =
     shown_of c.args.catalog.now c.args.role.now (table_of c.args.table) c.guard_by.result (map (λ p. policy_of p) c.policies.result.now) c.policies.ensures c.guard_by.ensures.movable
     (by_policies c.args.catalog.now c.args.role.now (table_of c.args.table) c.guard_by.result (map (λ p. policy_of p) c.policies.result.now) c.policies.ensures c.if-is_above.ensures c.guard_by.ensures.value)
+
+pub returns-then-is_above-clause-value : goal.returns-then-is_above-clause-value
+returns-then-is_above-clause-value g c = rw (← c.if-is_above.ensures) refl
+
+pub returns-then-is_above-clause-shows : goal.returns-then-is_above-clause-shows
+returns-then-is_above-clause-shows g c = λ row. rw (← c.if-is_above.ensures) refl

@@ -26,3 +26,6 @@ pub returns-clause-value : goal.returns-clause-value
 returns-clause-value g c =
     rw c.into_vec.ensures
     (chosen_over (permits c.args.catalog.now c.args.role.now) (λ p. policy_of p) c.args.policies.now c.loop-policy.policy-index (map bound_expr_of c.loop-policy.all) _ c.loop-policy.invariant.rest (omega (arith, c.loop-policy-test.false)))
+
+pub returns-clause-movable : goal.returns-clause-movable
+returns-clause-movable g c = rw c.into_vec.ensures c.loop-policy.invariant.movable
