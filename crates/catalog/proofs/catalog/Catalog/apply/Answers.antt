@@ -48,19 +48,25 @@ returns-then-before-ge18446744073709551615 g c =
 pub returns-then-not-is_role : goal.returns-then-not-is_role
 returns-then-not-is_role g c =
     let e = no_role c.args.self.now c.args.actor.now (statement_of c.args.statement.now) c.change_number-before.result c.change_number-before.ensures c.if-before-ge18446744073709551615.false
-        c.if-not-is_role.ensures in
+    c.if-not-is_role.ensures in
     record { change = (refl, inr e); exact = λ none. (refl, e) }
 
 pub returns-in-Ok : goal.returns-in-Ok
 returns-in-Ok g c =
     let e = accepted c.args.self.now c.args.actor.now (statement_of c.args.statement.now) c.change_number-before.result c.change_number-before.ensures c.if-before-ge18446744073709551615.false
-        c.if-not-is_role.ensures c.apply_statement.new.self c.set_change_number.new.self c.in-Ok.ensures.change c.set_change_number.ensures in
+    c.if-not-is_role.ensures c.apply_statement.new.self c.set_change_number.new.self c.in-Ok.ensures.change c.set_change_number.ensures in
     record { change = e; exact = λ none. e }
 
 pub returns-in-Err : goal.returns-in-Err
 returns-in-Err g c = record {
-  change = (c.in-Err.ensures.change.0, refused c.args.self.now c.args.actor.now (statement_of c.args.statement.now) c.change_number-before.result c.change_number-before.ensures
-      c.if-before-ge18446744073709551615.false c.if-not-is_role.ensures c.in-Err.why c.in-Err.ensures.change.1);
-  exact = λ none. (c.in-Err.ensures.change.0, refused_exactly c.args.self.now c.args.actor.now (statement_of c.args.statement.now) c.change_number-before.result c.change_number-before.ensures
-      c.if-before-ge18446744073709551615.false c.if-not-is_role.ensures c.in-Err.why (c.in-Err.ensures.exact none).1);
+  change = (
+    c.in-Err.ensures.change.0,
+    refused c.args.self.now c.args.actor.now (statement_of c.args.statement.now) c.change_number-before.result c.change_number-before.ensures
+        c.if-before-ge18446744073709551615.false c.if-not-is_role.ensures c.in-Err.why c.in-Err.ensures.change.1,
+  );
+  exact = λ none. (
+    c.in-Err.ensures.change.0,
+    refused_exactly c.args.self.now c.args.actor.now (statement_of c.args.statement.now) c.change_number-before.result c.change_number-before.ensures
+        c.if-before-ge18446744073709551615.false c.if-not-is_role.ensures c.in-Err.why (c.in-Err.ensures.exact none).1,
+  );
 }
