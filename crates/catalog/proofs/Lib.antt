@@ -10,3 +10,4 @@ pub mod Known
 pub mod MoreRoles
 pub mod NoLoop
 pub mod Made
+pub mod Both

@@ -1,17 +1,15 @@
 -- The condition of a policy that the checks found is the one that is due.
-use Rattle.std.proofs.Common.{◌≡◌, ℕ, Bool, true, false, not, cond, if◌then◌else◌, List, [], ◌∷◌, find, Option, Some, None, option_map, Result, Ok, Err, bytes_eq, refl, sym, ap, ◌∙◌}
+use Rattle.std.proofs.Common.{◌≡◌, ℕ, Bool, true, false, cond, List, [], ◌∷◌, find, Option, Some, option_map, Ok, bytes_eq, refl, sym, ap, ◌∙◌}
 use Rattle.value.specs.declared.refusal.Refusal.{Refusal}
-use Rattle.value.specs.declared.refusal.Refusal.TheVariants as r
 use Rattle.row_ast.specs.Ast.{CreatePolicy}
 use Rattle.expr.specs.Bound.{BoundExpr}
-use Rattle.expr.specs.Movable.{movable, if_movable}
 use Rattle.row_objects.specs.Objects.{Table}
-use Rattle.row_objects.specs.Policies.{has_policy_room, new_policy}
-use Rattle.scope.specs.declared.fault.NameFault.{NameFault}
+use Rattle.row_objects.specs.Policies.{new_policy}
 use Rattle.row_objects.specs.TableChanges.{changed_at, with_new_policy}
+use Rattle.policy_predicates.specs.PolicyPredicate.{bound_predicate}
 use Rattle.catalog.specs.Catalog.{Catalog, table_named}
-use Rattle.catalog.specs.Checks.{first_changed, first_refusal, unless, with_table}
-use Rattle.catalog.specs.CreatePolicy.{after_create_policy, bound_predicate, checks_bound, with_bound, with_policy, CheckedPolicy, CheckedPredicate}
+use Rattle.catalog.specs.Checks.{first_changed, unless, with_table}
+use Rattle.catalog.specs.CreatePolicy.{after_create_policy, with_bound, with_policy, CheckedPolicy}
 use Rattle.catalog.proofs.Places.{due}
 
 -- ---- changes that agree on the first
@@ -40,41 +38,3 @@ pub due_policy : (cat new : Catalog) (p : CreatePolicy) (refusal : Option Refusa
     → new ≡ record cat { tables = changed_at found.0 (with_new_policy (new_policy p found.1)) cat.tables } → unless refusal (after_create_policy cat p) ≡ Ok new
 due_policy cat new p refusal found checked e =
     ap (unless refusal) (sym (policy_same cat p found.1 checked.2)) ∙ due cat p.table (with_new_policy (new_policy p found.1)) found.0 refusal new checked.0 checked.1 e
-
--- ---- the checks of a condition
-
-module _ (cat : Catalog) where
-  pub name_refused : (bound : Result BoundExpr NameFault) (mistake : Option NameFault) (fault : NameFault) → bound ≡ Err fault → first_refusal (checks_bound cat bound mistake) ≡ Some fault.code
-  name_refused bound mistake fault e = ap (λ b. first_refusal (checks_bound cat b mistake)) e
-
-  pub mistake_refused : (bound : Result BoundExpr NameFault) (mistake : Option NameFault) (b : BoundExpr) (fault : NameFault) → bound ≡ Ok b → Some fault ≡ mistake → first_refusal (checks_bound cat bound mistake) ≡ Some fault.code
-  mistake_refused bound mistake b fault e m = ap (λ x. first_refusal (checks_bound cat x mistake)) e ∙ ap (λ x. first_refusal (checks_bound cat (Ok b) x)) (sym m)
-
-  pub checked_further : (result : Result BoundExpr Refusal) (bound : Result BoundExpr NameFault) (mistake : Option NameFault) (b : BoundExpr) → bound ≡ Ok b → None ≡ mistake
-      → CheckedPredicate result (first_refusal (checks_bound cat (Ok b) None)) (Ok b) → CheckedPredicate result (first_refusal (checks_bound cat bound mistake)) bound
-  checked_further result bound mistake b e m h = rw (e, ← m) h
-
-  module _ (e : BoundExpr) where
-    pub not_movable : None ≡ if_movable e → first_refusal (checks_bound cat (Ok e) None) ≡ Some r.InvalidObjectDefinition
-    not_movable h = go (movable e) h
-      where
-        go : (b : Bool) → None ≡ (if b then Some e else None) → first_refusal ((not b, r.InvalidObjectDefinition) ∷ (not (has_policy_room cat.tables), r.ProgramLimitExceeded) ∷ []) ≡ Some r.InvalidObjectDefinition
-        go true h = cc
-        go false h = refl
-
-    pub no_policy_room : (x : BoundExpr) → Some x ≡ if_movable e → has_policy_room cat.tables ≡ false → first_refusal (checks_bound cat (Ok e) None) ≡ Some r.ProgramLimitExceeded
-    no_policy_room x h room = go (movable e) h (has_policy_room cat.tables) room
-      where
-        go : (b : Bool) → Some x ≡ (if b then Some e else None) → (room : Bool) → room ≡ false → first_refusal ((not b, r.InvalidObjectDefinition) ∷ (not room, r.ProgramLimitExceeded) ∷ []) ≡ Some r.ProgramLimitExceeded
-        go true h true q = cc
-        go true h false q = refl
-        go false h room q = cc
-
-    pub is_accepted : (x : BoundExpr) → Some x ≡ if_movable e → has_policy_room cat.tables ≡ true → (first_refusal (checks_bound cat (Ok e) None) ≡ None) × (◌≡◌ {A = Result BoundExpr NameFault} (Ok e) (Ok x))
-    is_accepted x h room = go (movable e) h (has_policy_room cat.tables) room
-      where
-        go : (b : Bool) → Some x ≡ (if b then Some e else None) → (room : Bool) → room ≡ true
-            → (first_refusal ((not b, r.InvalidObjectDefinition) ∷ (not room, r.ProgramLimitExceeded) ∷ []) ≡ None) × (◌≡◌ {A = Result BoundExpr NameFault} (Ok e) (Ok x))
-        go true h true q = (refl, cc)
-        go true h false q = cc
-        go false h room q = cc

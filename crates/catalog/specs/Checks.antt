@@ -5,16 +5,9 @@ use Rattle.value.specs.declared.refusal.Refusal.{Refusal}
 use Rattle.row_ast.specs.Ast.{Name}
 use Rattle.row_objects.specs.Objects.{Table}
 use Rattle.catalog.specs.Catalog.{Catalog}
+pub use Rattle.policy_predicates.specs.Checks.{Check, first_refusal}
 
 -- ---- checks
-
--- a test, and the refusal where it holds
-abbrev pub Check : Type 0
-Check = Bool × Refusal
-
-abbrev pub first_refusal : List Check → Option Refusal
-first_refusal [] = None
-first_refusal (c ∷ cs) = if c.0 then Some c.1 else first_refusal cs
 
 -- of what was found; else the other
 abbrev pub if_found : {X Y : Type 0} → Y → (X → Y) → Option X → Y

@@ -4,7 +4,7 @@ ghost use Rattle.std.specs.Prelude.{◌≡◌, Ok, true};
 ghost use Rattle.value.specs.Datum.{datum_of};
 ghost use Rattle.expr.specs.View.{bound_expr_of};
 ghost use Rattle.expr.specs.Movable.{movable};
-ghost use Rattle.eval.specs.Meaning.{meaning, holds};
+ghost use Rattle.eval.specs.Meaning.{holds, is_true_outcome, meaning};
 
 use crate::evaluating::eval;
 use crate::row::Row;
@@ -28,6 +28,13 @@ pub fn eval_movable<'a, A: Heap, R: Row<A>>(
     }
 }
 
+// Whether a value is true: neither false nor null.
+fn is_true<A: Heap>(value: &Val<'_, A>) -> bool
+    ensures { result ≡ is_true_outcome (Ok (datum_of value.now)) }
+{
+    as_condition(value) == Truth::True
+}
+
 /// Whether a movable expression is true on a row, for a role: neither false nor null.
 pub fn is_true_on<A: Heap, R: Row<A>>(
     alloc: A,
@@ -38,5 +45,5 @@ pub fn is_true_on<A: Heap, R: Row<A>>(
     requires { movable (bound_expr_of expression.now) ≡ true }
     ensures { result ≡ holds (R.cells row.now) role.now (bound_expr_of expression.now) }
 {
-    as_condition(&eval_movable(alloc, expression, row, role)) == Truth::True
+    is_true(&eval_movable(alloc, expression, row, role))
 }

@@ -1,4 +1,4 @@
-use Rattle.std.proofs.Common.{◌≡◌, ◌⊎◌, inr, ℕ, true, false, List, Some, None, Ok, refl, sym, ap}
+use Rattle.std.proofs.Common.{◌≡◌, ◌⊎◌, inr, ℕ, Bool, true, false, List, Some, None, Ok, refl, sym, ap}
 use Rattle.std.specs.List.{list_all}
 use Rattle.value.specs.declared.refusal.Refusal.{Refusal}
 use Rattle.value.specs.declared.refusal.Refusal.TheVariants as r
@@ -6,11 +6,12 @@ use Rattle.row_ast.specs.Ast.{CreatePolicy, Expr, Name}
 use Rattle.row_ast.specs.View.{create_policy_of, expr_of}
 use Rattle.expr.specs.Bound.{BoundExpr}
 use Rattle.row_objects.specs.Objects.{Policy, Table}
-use Rattle.row_objects.specs.Policies.{has_policy}
+use Rattle.row_objects.specs.Policies.{has_policy, has_policy_room}
 use Rattle.row_objects.specs.View.{table_of}
+use Rattle.policy_predicates.specs.PolicyPredicate.{bound_predicate, checks_predicate}
 use Rattle.catalog.specs.Catalog.{Catalog, is_known, owns, table_named, table_place}
 use Rattle.catalog.specs.Checks.{first_refusal}
-use Rattle.catalog.specs.CreatePolicy.{bound_predicate, checks_create_policy, checks_predicate, CheckedPolicy}
+use Rattle.catalog.specs.CreatePolicy.{checks_create_policy, CheckedPolicy}
 use Rattle.catalog.proofs.create_policy.check_create_policy.Goals as goal
 
 module _ (cat : Catalog) (actor : Name) (p : CreatePolicy) (name : Name) (is : name ≡ p.table) where
@@ -29,14 +30,14 @@ module _ (cat : Catalog) (actor : Name) (p : CreatePolicy) (name : Name) (is : n
         named_twice : true ≡ has_policy policies new → first_refusal (checks_create_policy cat actor p) ≡ Some r.DuplicateObject
         named_twice taken = rw (← is, ← found, ← owner, ← same, ← known, ← its, ← named, ← taken) refl
 
-        module _ (free : false ≡ has_policy policies new) (e : Expr) (condition : e ≡ p.predicate) where
-          as_predicate : first_refusal (checks_create_policy cat actor p) ≡ first_refusal (checks_predicate cat t e)
-          as_predicate = rw (← is, ← found, ← owner, ← same, ← known, ← its, ← named, ← free, ← condition) refl
+        module _ (free : false ≡ has_policy policies new) (e : Expr) (condition : e ≡ p.predicate) (room : Bool) (has_room : room ≡ has_policy_room cat.tables) where
+          as_predicate : first_refusal (checks_create_policy cat actor p) ≡ first_refusal (checks_predicate room t e)
+          as_predicate = rw (← is, ← found, ← owner, ← same, ← known, ← its, ← named, ← free, ← condition, has_room) refl
 
-          refused : (why : Refusal) → (why ≡ r.OutOfMemory) ⊎ (first_refusal (checks_predicate cat t e) ≡ Some why) → (why ≡ r.OutOfMemory) ⊎ (first_refusal (checks_create_policy cat actor p) ≡ Some why)
+          refused : (why : Refusal) → (why ≡ r.OutOfMemory) ⊎ (first_refusal (checks_predicate room t e) ≡ Some why) → (why ≡ r.OutOfMemory) ⊎ (first_refusal (checks_create_policy cat actor p) ≡ Some why)
           refused why h = rw as_predicate h
 
-          passed : (place : ℕ) (bound : BoundExpr) → Some place ≡ table_place name cat → (first_refusal (checks_predicate cat t e) ≡ None) × (bound_predicate t e ≡ Ok bound)
+          passed : (place : ℕ) (bound : BoundExpr) → Some place ≡ table_place name cat → (first_refusal (checks_predicate room t e) ≡ None) × (bound_predicate t e ≡ Ok bound)
               → CheckedPolicy (Ok (place, bound)) (first_refusal (checks_create_policy cat actor p)) cat p
           passed place bound at h = (rw as_predicate h.0, rw (← is) (sym at), rw (← is, ← found, ← condition) (ap (λ b. Some b) h.1))
 
@@ -72,7 +73,7 @@ pub returns-in-Err : goal.returns-in-Err
 returns-in-Err g c = record {
   checked = refused c.args.catalog.now c.args.actor.now (create_policy_of c.args.policy.now) c.as_str.result.now c.as_str.ensures (table_of c.in-Some.table) c.in-Some.ensures.table
       c.if-not-owns.ensures c.as_slice.result.now c.as_slice.ensures c.if-not-are_known.ensures _ c.policies.ensures c.as_str-else-not-are_known.result.now c.as_str-else-not-are_known.ensures
-      c.if-has_policy.ensures _ (ap (λ e. expr_of e) c.deref.ensures) c.in-Err.why c.in-Err.ensures;
+      c.if-has_policy.ensures _ (ap (λ e. expr_of e) c.deref.ensures) c.has_policy_room-has_room.result c.has_policy_room-has_room.ensures c.in-Err.why c.in-Err.ensures;
   within = tt;
 }
 
@@ -80,6 +81,6 @@ pub returns-in-Ok : goal.returns-in-Ok
 returns-in-Ok g c = record {
   checked = passed c.args.catalog.now c.args.actor.now (create_policy_of c.args.policy.now) c.as_str.result.now c.as_str.ensures (table_of c.in-Some.table) c.in-Some.ensures.table
       c.if-not-owns.ensures c.as_slice.result.now c.as_slice.ensures c.if-not-are_known.ensures _ c.policies.ensures c.as_str-else-not-are_known.result.now c.as_str-else-not-are_known.ensures
-      c.if-has_policy.ensures _ (ap (λ e. expr_of e) c.deref.ensures) c.in-Some.place _ c.in-Some.ensures.place c.in-Ok.ensures;
+      c.if-has_policy.ensures _ (ap (λ e. expr_of e) c.deref.ensures) c.has_policy_room-has_room.result c.has_policy_room-has_room.ensures c.in-Some.place _ c.in-Some.ensures.place c.in-Ok.ensures;
   within = c.in-Some.ensures.within;
 }

@@ -1,0 +1,35 @@
+use Rattle.std.proofs.Common.{◌≡◌, ◌&&◌, ◌∙◌, true, false, Some, None, refl, sym, true≢false}
+use Rattle.value.specs.declared.refusal.Refusal.TheVariants as r
+use Rattle.row_ast.specs.Ast.{Name}
+use Rattle.catalog.specs.Catalog.{Catalog, is_role, is_superuser}
+use Rattle.catalog.specs.Checks.{first_refusal}
+use Rattle.catalog.specs.RevokeRole.{checks_revoke_role}
+use Rattle.catalog.proofs.Both.{first_not, second_not, both}
+use Rattle.catalog.proofs.revoke_role.check_revoke_role.Goals.{then-is_role, else-is_role}
+use Rattle.catalog.proofs.revoke_role.check_revoke_role.Goals as goal
+
+module _ (cat : Catalog) (actor group member : Name) where
+  no_superuser : false ≡ is_superuser cat actor → Some r.InsufficientPrivilege ≡ first_refusal (checks_revoke_role cat actor group member)
+  no_superuser other = rw (← other) refl
+
+  module _ (superuser : true ≡ is_superuser cat actor) where
+    no_role : false ≡ (is_role cat group && is_role cat member) → Some r.UndefinedObject ≡ first_refusal (checks_revoke_role cat actor group member)
+    no_role other = rw (← superuser, ← other) refl
+
+    none_refuses : true ≡ (is_role cat group && is_role cat member) → None ≡ first_refusal (checks_revoke_role cat actor group member)
+    none_refuses roles = rw (← superuser, ← roles) refl
+
+pub returns-then-not-is_superuser : goal.returns-then-not-is_superuser
+returns-then-not-is_superuser g c = no_superuser c.args.catalog.now c.args.actor.now c.args.group.now c.args.member.now c.if-not-is_superuser.ensures
+
+pub returns-then-not-is_role : goal.returns-then-not-is_role
+returns-then-not-is_role g c = no_role c.args.catalog.now c.args.actor.now c.args.group.now c.args.member.now c.if-not-is_superuser.ensures (elim c.if-is_role.branch [
+  | then-is_role w ↦ second_not (is_role c.args.catalog.now c.args.group.now) (is_role c.args.catalog.now c.args.member.now) (sym w.is_role-then-is_role.ensures ∙ sym w.value-is ∙ c.if-not-is_role.true) (sym c.is_role.ensures ∙ w.if-is_role.true)
+  | else-is_role w ↦ first_not (is_role c.args.catalog.now c.args.group.now) (is_role c.args.catalog.now c.args.member.now) (sym c.is_role.ensures ∙ w.if-is_role.false)
+])
+
+pub returns-else-not-is_role : goal.returns-else-not-is_role
+returns-else-not-is_role g c = none_refuses c.args.catalog.now c.args.actor.now c.args.group.now c.args.member.now c.if-not-is_superuser.ensures (elim c.if-is_role.branch [
+  | then-is_role w ↦ both (is_role c.args.catalog.now c.args.group.now) (is_role c.args.catalog.now c.args.member.now) (sym c.is_role.ensures ∙ w.if-is_role.true) (sym w.is_role-then-is_role.ensures ∙ sym w.value-is ∙ c.if-not-is_role.false)
+  | else-is_role w ↦ absurd (true≢false (sym c.if-not-is_role.false ∙ w.value-is ∙ w.if-is_role.false))
+])
