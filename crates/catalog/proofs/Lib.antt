@@ -10,4 +10,3 @@ pub mod Known
 pub mod MoreRoles
 pub mod NoLoop
 pub mod Made
-pub mod Both

@@ -52,19 +52,22 @@ fn option<'a>(alloc: Global, name: &'a str, value: &'a str, help: &'a str) -> Ar
         .action(ArgAction::Set)
 }
 
+fn file_word<'a>(alloc: Global) -> Result<Arg<'a>, AllocError> {
+    let help = "A file with the query in place of TEXT, or - for standard input";
+    option(alloc, "file", "FILE", help).conflicts_with("TEXT")
+}
+
+fn text_word<'a>(alloc: Global) -> Result<Arg<'a>, AllocError> {
+    Arg::new(alloc, "TEXT")
+        .help("The query; after -- where it starts with a minus")
+        .action(ArgAction::Set)
+        .required_unless_present("file")
+}
+
 // The arguments that the query's options and its text are read from.
 fn query_words<'a>(alloc: Global) -> Result<Vec<Arg<'a>>, AllocError> {
-    let file = option(
-        alloc,
-        "file",
-        "FILE",
-        "A file with the query in place of TEXT, or - for standard input",
-    );
-    let file = file.conflicts_with("TEXT")?;
-    let text = Arg::new(alloc, "TEXT")
-        .help("The query; after -- where it starts with a minus")
-        .action(ArgAction::Set);
-    let text = text.required_unless_present("file")?;
+    let file = file_word(alloc)?;
+    let text = text_word(alloc)?;
     let schema = "The schema text, or - for standard input";
     let dir = "The folder with a file T.csv for each table T";
     let words = [

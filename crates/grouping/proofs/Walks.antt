@@ -1,14 +1,29 @@
 -- How the check of aggregates continues over members and arms.
-use Rattle.std.proofs.Common.{◌≡◌, ℕ, ◌+◌, ◌<◌, ◌≤◌, Bool, List, length, get_or, drop, Option, sym, ap, ◌∙◌}
+use Rattle.std.proofs.Common.{◌≡◌, ℕ, ◌+◌, ◌<◌, ◌≤◌, Bool, List, length, get_or, drop, Option, Result, sym, ap, ◌∙◌}
+use Rattle.row_ast.specs.Ast as ast
 use Rattle.row_ast.specs.View.{expr_of, exprs, arms}
 use Rattle.row_ast.specs.declared.expr.Expr.{Expr}
 use Rattle.row_ast.specs.declared.expr.Arm.{Arm}
 use Rattle.expr.specs.declared.bound.ColumnId.{ColumnId}
 use Rattle.scope.specs.declared.lookup.Reach.{Reach}
+use Rattle.scope.specs.declared.fault.NameFault.{NameFault}
 use Rattle.scope.specs.Entry.{Entry}
+use Rattle.scope.specs.Lookup.{find_column}
 use Rattle.scope.proofs.Walks.{exprs_step, exprs_over, arms_step, arms_over}
 use Rattle.grouping.specs.Offsets.{least_of}
-use Rattle.grouping.specs.Grouping.{misplaced, misplaced_members, misplaced_arms}
+use Rattle.grouping.specs.Grouping.{misplaced_column, misplaced, misplaced_members, misplaced_arms}
+
+-- the least of two offsets that are known
+pub least_is : (a b a' b' r : Option ℕ) → r ≡ least_of a b → a ≡ a' → b ≡ b' → r ≡ least_of a' b'
+least_is a b a' b' r e p q = e ∙ ap (λ x. least_of x b) p ∙ ap (least_of a') q
+
+module _ (entries : List Entry) (reach : Reach) (group_by : List ColumnId) (of_groups : Bool) where
+  -- what is misplaced in an expression, of what the expression is
+  pub misplaced_as : (e f : ast.Expr) (r : Option ℕ) → e ≡ f → r ≡ misplaced entries reach group_by of_groups f → r ≡ misplaced entries reach group_by of_groups e
+  misplaced_as e f r is h = h ∙ sym (ap (misplaced entries reach group_by of_groups) is)
+
+  pub column_is : (c : ast.ColumnRef) (found : Result ColumnId NameFault) (r : Option ℕ) → found ≡ find_column entries reach c → r ≡ misplaced_column group_by of_groups c.offset found → r ≡ misplaced_column group_by of_groups c.offset (find_column entries reach c)
+  column_is c found r e h = h ∙ ap (misplaced_column group_by of_groups c.offset) e
 
 module _ (entries : List Entry) (reach : Reach) (group_by : List ColumnId) (of_groups : Bool) {A : Type 0} where
   pub misplaced_step : (es : List (Expr A)) (k : ℕ) (e : Expr A) (more : k < length es) (is : e ≡ get_or es k e) (known new t whole : Option ℕ)

@@ -1,5 +1,5 @@
 -- A query of its parts.
-use Rattle.std.proofs.Common.{◌≡◌, ℕ, Bool, List, [], Option, Result, Ok, Err, refl, ap}
+use Rattle.std.proofs.Common.{◌≡◌, ℕ, Bool, List, [], Option, Result, Ok, Err, IsErrAnd, refl, ap}
 use Rattle.memory.specs.Gives.{Gives}
 use Rattle.memory.specs.declared.failure.Failure.{Failure}
 use Rattle.memory.specs.declared.failure.Failure.TheVariants as failure
@@ -17,6 +17,26 @@ use Rattle.resolve.specs.BoundQueries.{bound_parts, bound_within, bound_query}
 -- the reach is that of every entry
 pub query_is : (entries : List Entry) (q : ast.Query) (reach : Reach) → reach ≡ everywhere entries → bound_within reach entries q ≡ bound_query entries q
 query_is entries q reach r = ap (λ x. bound_within x entries q) r
+
+-- a failure that a call hands on
+pub exits : {X Y E : Type 0} (view : X → Y) (r : Result X (Failure E)) (f : Failure E) (stated : Result Y E) → IsErrAnd r (λ e. e ≡ f) → Gives view (Err f) stated → Gives view r stated
+exits view (Ok x) f stated is h = absurd is
+exits view (Err e) f stated is h = rw is h
+
+module _ (grouped : Bool) (limit : Option ℕ) (items : Result (List BoundItem) NameFault) (ons : Result (List (Option BoundExpr)) NameFault) (filter : Result (Option BoundExpr) NameFault) (group_by : Result (List ColumnId) NameFault) (having : Result (Option BoundExpr) NameFault) where
+  pub items_failed : {X Z : Type 0} (v : X → List BoundItem) (w : Z → BoundQuery) (e : Failure NameFault) → Gives v (Err e) items → Gives w (Err e) (bound_parts grouped limit items ons filter group_by having)
+  items_failed v w (failure.Fault fault) h = rw h refl
+  items_failed v w failure.OutOfMemory h = tt
+
+  module _ (i : List BoundItem) (items_are : items ≡ Ok i) where
+    pub ons_failed : {X Z : Type 0} (v : X → List (Option BoundExpr)) (w : Z → BoundQuery) (e : Failure NameFault) → Gives v (Err e) ons → Gives w (Err e) (bound_parts grouped limit items ons filter group_by having)
+    ons_failed v w (failure.Fault fault) h = rw (items_are, h) refl
+    ons_failed v w failure.OutOfMemory h = tt
+
+    module _ (o : List (Option BoundExpr)) (ons_are : ons ≡ Ok o) where
+      pub filter_failed : {X Z : Type 0} (v : X → Option BoundExpr) (w : Z → BoundQuery) (e : Failure NameFault) → Gives v (Err e) filter → Gives w (Err e) (bound_parts grouped limit items ons filter group_by having)
+      filter_failed v w (failure.Fault fault) h = rw (items_are, ons_are, h) refl
+      filter_failed v w failure.OutOfMemory h = tt
 
 module _ (grouped : Bool) (limit : Option ℕ) (items : Result (List BoundItem) NameFault) (ons : Result (List (Option BoundExpr)) NameFault) (filter : Result (Option BoundExpr) NameFault) (group_by : Result (List ColumnId) NameFault) (having : Result (Option BoundExpr) NameFault)
     (i : List BoundItem) (o : List (Option BoundExpr)) (f : Option BoundExpr) (items_are : items ≡ Ok i) (ons_are : ons ≡ Ok o) (filter_is : filter ≡ Ok f) where

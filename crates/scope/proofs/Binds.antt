@@ -1,8 +1,11 @@
 -- How binding continues, and how it ends.
 use Rattle.std.proofs.Common.{◌≡◌, ℕ, ◌+◌, ◌<◌, ◌≤◌, List, [], ◌∷◌, ◌++◌, length, map, get_or, drop, Some, None, Result, Ok, Err, Vec, Box, refl, sym, ap, ◌∙◌}
+use Rattle.std.specs.Result.{MatchResult}
+use Rattle.std.proofs.lemmas.List.{map-append}
 use Rattle.memory.specs.Gives.{Gives}
 use Rattle.memory.specs.declared.failure.Failure.{Failure}
 use Rattle.memory.specs.declared.failure.Failure.TheVariants as failure
+use Rattle.row_ast.specs.Ast.{Expr as Ast}
 use Rattle.row_ast.specs.View.{expr_of, exprs, arms}
 use Rattle.row_ast.specs.declared.expr.Expr.{Expr}
 use Rattle.row_ast.specs.declared.expr.Arm.{Arm}
@@ -20,29 +23,50 @@ use Rattle.scope.specs.Entry.{and_then, Entry}
 use Rattle.scope.specs.BoundExprs as spec
 use Rattle.scope.specs.BoundExprs.{bound_expr, bound_members, bound_arms, pair}
 
+-- what is given for an expression, of what the expression is
+module _ (entries : List Entry) (reach : Reach) {A : Type 0} (r : Result (Box (code.BoundExpr A) A) (Failure NameFault)) where
+  pub bound_as : (e f : Ast) → e ≡ f → Gives (λ b. bound_expr_of b.value) r (bound_expr entries reach f) → Gives (λ b. bound_expr_of b.value) r (bound_expr entries reach e)
+  bound_as e f is h = rw is h
+
+-- what follows what is known and one more
+grown_then : {X Y E : Type 0} (s : Result X E) (known : List X) (g : List X → Result Y E) → and_then (and_then s (λ x. Ok (known ++ x ∷ []))) g ≡ and_then s (λ x. g (known ++ x ∷ []))
+grown_then (Ok x) known g = refl
+grown_then (Err e) known g = refl
+
 module _ (entries : List Entry) (reach : Reach) {A : Type 0} where
   module _ (es : List (Expr A)) (k : ℕ) where
     pub members_over : (known : List BoundExpr) (whole : Result (List BoundExpr) NameFault) → bound_members entries reach known (exprs (drop k es)) ≡ whole → length es ≤ k → whole ≡ Ok known
     members_over known whole so_far l = sym so_far ∙ ap (bound_members entries reach known) (exprs_over es k l)
 
     module _ (e : Expr A) (more : k < length es) (is : e ≡ get_or es k e) (known : List BoundExpr) (whole : Result (List BoundExpr) NameFault) (so_far : bound_members entries reach known (exprs (drop k es)) ≡ whole) where
-      pub members_opened : and_then (bound_expr entries reach (expr_of e)) (λ x. bound_members entries reach (known ++ x ∷ []) (exprs (drop (k + 1) es))) ≡ whole
-      members_opened = ap (bound_members entries reach known) (sym (exprs_step es k e more is)) ∙ so_far
+      pub members_opened : and_then (and_then (bound_expr entries reach (expr_of e)) (λ x. Ok (known ++ x ∷ []))) (λ new. bound_members entries reach new (exprs (drop (k + 1) es))) ≡ whole
+      members_opened =
+          grown_then (bound_expr entries reach (expr_of e)) known (λ new. bound_members entries reach new (exprs (drop (k + 1) es))) ∙ ap (bound_members entries reach known) (sym (exprs_step es k e more is)) ∙ so_far
 
-      pub members_next : (x : BoundExpr) (new : List BoundExpr) → bound_expr entries reach (expr_of e) ≡ Ok x → new ≡ known ++ x ∷ [] → bound_members entries reach new (exprs (drop (k + 1) es)) ≡ whole
-      members_next x new h n = rw n (ap (λ r. and_then r (λ x. bound_members entries reach (known ++ x ∷ []) (exprs (drop (k + 1) es)))) (sym h) ∙ members_opened)
+      pub members_next : (new : List BoundExpr) → and_then (bound_expr entries reach (expr_of e)) (λ x. Ok (known ++ x ∷ [])) ≡ Ok new → bound_members entries reach new (exprs (drop (k + 1) es)) ≡ whole
+      members_next new h = ap (λ r. and_then r (λ new. bound_members entries reach new (exprs (drop (k + 1) es)))) (sym h) ∙ members_opened
 
   module _ (as_ : List (Arm A)) (k : ℕ) where
     pub arms_bound_over : (known : List (BoundExpr × BoundExpr)) (whole : Result (List (BoundExpr × BoundExpr)) NameFault) → bound_arms entries reach known (arms (drop k as_)) ≡ whole → length as_ ≤ k → whole ≡ Ok known
     arms_bound_over known whole so_far l = sym so_far ∙ ap (bound_arms entries reach known) (arms_over as_ k l)
 
     module _ (a : Arm A) (more : k < length as_) (is : a ≡ get_or as_ k a) (known : List (BoundExpr × BoundExpr)) (whole : Result (List (BoundExpr × BoundExpr)) NameFault) (so_far : bound_arms entries reach known (arms (drop k as_)) ≡ whole) where
-      pub arms_opened : and_then (pair (bound_expr entries reach (expr_of a.when)) (bound_expr entries reach (expr_of a.result))) (λ p. bound_arms entries reach (known ++ p ∷ []) (arms (drop (k + 1) as_))) ≡ whole
-      arms_opened = ap (bound_arms entries reach known) (sym (arms_step as_ k a more is)) ∙ so_far
+      pub arms_opened : and_then (and_then (pair (bound_expr entries reach (expr_of a.when)) (bound_expr entries reach (expr_of a.result))) (λ p. Ok (known ++ p ∷ []))) (λ new. bound_arms entries reach new (arms (drop (k + 1) as_))) ≡ whole
+      arms_opened =
+          grown_then (pair (bound_expr entries reach (expr_of a.when)) (bound_expr entries reach (expr_of a.result))) known (λ new. bound_arms entries reach new (arms (drop (k + 1) as_)))
+          ∙ ap (bound_arms entries reach known) (sym (arms_step as_ k a more is)) ∙ so_far
 
-      pub arms_next : (p : BoundExpr × BoundExpr) (new : List (BoundExpr × BoundExpr)) → pair (bound_expr entries reach (expr_of a.when)) (bound_expr entries reach (expr_of a.result)) ≡ Ok p → new ≡ known ++ p ∷ []
-          → bound_arms entries reach new (arms (drop (k + 1) as_)) ≡ whole
-      arms_next p new h n = rw n (ap (λ r. and_then r (λ p. bound_arms entries reach (known ++ p ∷ []) (arms (drop (k + 1) as_)))) (sym h) ∙ arms_opened)
+      pub arms_next : (new : List (BoundExpr × BoundExpr)) → and_then (pair (bound_expr entries reach (expr_of a.when)) (bound_expr entries reach (expr_of a.result))) (λ p. Ok (known ++ p ∷ [])) ≡ Ok new → bound_arms entries reach new (arms (drop (k + 1) as_)) ≡ whole
+      arms_next new h = ap (λ r. and_then r (λ new. bound_arms entries reach new (arms (drop (k + 1) as_)))) (sym h) ∙ arms_opened
+
+-- ---- one more, as it is viewed, unless it failed or memory ran out
+
+pub extended_given : {T Z E : Type 0} (v : T → Z) (all : List T) (next : Result T (Failure E)) (s : Result Z E) (r : Result (List T) (Failure E))
+    → MatchResult next (λ x. MatchResult r (λ l. l ≡ all ++ x ∷ []) (λ e. e ≡ failure.OutOfMemory)) (λ e. r ≡ Err e) → Gives v next s → Gives (λ l. map v l) r (and_then s (λ z. Ok (map v all ++ z ∷ [])))
+extended_given v all (Ok x) s (Ok l) n h = rw (h, n, map-append) refl
+extended_given v all (Ok x) s (Err e) n h = rw n tt
+extended_given v all (Err (failure.Fault fault)) s r n h = rw (n, h) refl
+extended_given v all (Err failure.OutOfMemory) s r n h = rw n tt
 
 -- ---- nodes with members that are made of their parts
 

@@ -1,4 +1,5 @@
 pub mod Lists
 pub mod Found
 pub mod Walks
+pub mod Operands
 pub mod Binds

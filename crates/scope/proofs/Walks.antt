@@ -25,6 +25,14 @@ module _ {A : Type 0} (e : Expr A) (offset : ℕ) where
     pub case_some : (b : Box (Expr A) A) → o ≡ Some b → expr_of e ≡ ast.Case offset (arms as_) (ast.Value (expr_of b.value))
     case_some b n = ap expr_of is ∙ ap (λ p. expr_of (Case offset v p)) n ∙ ap (λ x. ast.Case offset x (ast.Value (expr_of b.value))) (arms_hidden v) ∙ ap (λ xs. ast.Case offset (arms xs) (ast.Value (expr_of b.value))) (sym d)
 
+    -- ELSE, in its box
+    module _ (b : Box (Expr A) A) (n : o ≡ Some b) (x : Expr A) (q : x ≡ b.value) where
+      pub case_other : expr_of e ≡ ast.Case offset (arms as_) (ast.Value (expr_of x))
+      case_other = case_some b n ∙ ap (λ y. ast.Case offset (arms as_) (ast.Value (expr_of y))) (sym q)
+
+      pub otherwise_lighter : weight (expr_of x) < weight (expr_of e)
+      otherwise_lighter = let w = ap weight case_other in omega arith
+
     pub case_lighter : arms_weight (arms as_) < weight (expr_of e)
     case_lighter = go o refl
       where

@@ -5,10 +5,12 @@ mod entry;
 mod expressions;
 mod fault;
 mod lookup;
+mod nodes;
 mod query;
 
 pub use entry::Entry;
-pub use expressions::{BindResult, bind_expr};
+pub use expressions::bind_expr;
 pub use fault::NameFault;
 pub use lookup::{Reach, everywhere, find_column, on_reach};
+pub use nodes::BindResult;
 pub use query::{BoundCondition, BoundItem, BoundQuery, OutputKey};

@@ -109,6 +109,31 @@ result_type offset holds known otherwise = if holds then common_or_fault offset 
 
 -- ---- operations
 
+abbrev pub negation_type : ℕ → Typed → Typed
+negation_type offset a = and_then a (λ t. type_if offset (fits Bigint t) (Some Bigint))
+
+abbrev pub arithmetic_type : ℕ → Typed → Typed → Typed
+arithmetic_type offset a b = and_then (both a b) (λ p. type_if offset (fits Bigint p.0 && fits Bigint p.1) (Some Bigint))
+
+abbrev pub comparison_type : ℕ → Typed → Typed → Typed
+comparison_type offset a b = and_then (both a b) (λ p. truth_if_common offset (common p.0 p.1))
+
+-- one of several values
+abbrev pub membership_type : ℕ → Typed → List Datum → Typed
+membership_type offset a values = and_then a (λ t. truth_if_common offset (common_of_all (Some t) values))
+
+abbrev pub null_check_type : Typed → Typed
+null_check_type a = and_then a (λ t. Ok (Some Boolean))
+
+abbrev pub not_type : ℕ → Typed → Typed
+not_type offset a = and_then a (λ t. type_if offset (fits Boolean t) (Some Boolean))
+
+abbrev pub cast_type : ℕ → ColType → Typed → Typed
+cast_type offset to a = and_then a (λ t. type_if offset (can_cast to t) (Some to))
+
+abbrev pub call_type : ℕ → Aggregate → Typed → Typed
+call_type offset aggregate a = and_then a (aggregate_type offset aggregate)
+
 abbrev pub common_type : Typed → Typed → Result (Option TypeOf) ℕ
 common_type a b = and_then (both a b) (λ p. Ok (common p.0 p.1))
 
@@ -137,19 +162,19 @@ module _ (entries : List Entry) (reach : Reach) where
     typed (ast.Column c) = Ok (found_type entries (find_column entries reach c))
     typed (ast.Literal d) = Ok (type_of d)
     typed ast.CurrentUser = Ok (Some Text)
-    typed (ast.Negate offset e) = and_then (typed e) (λ t. type_if offset (fits Bigint t) (Some Bigint))
-    typed (ast.Arithmetic op offset e f) = and_then (both (typed e) (typed f)) (λ p. type_if offset (fits Bigint p.0 && fits Bigint p.1) (Some Bigint))
-    typed (ast.Comparison op offset e f) = and_then (both (typed e) (typed f)) (λ p. truth_if_common offset (common p.0 p.1))
+    typed (ast.Negate offset e) = negation_type offset (typed e)
+    typed (ast.Arithmetic op offset e f) = arithmetic_type offset (typed e) (typed f)
+    typed (ast.Comparison op offset e f) = comparison_type offset (typed e) (typed f)
     typed (ast.Between negated offset e low high) = between_type offset (typed e) (typed low) (typed high)
-    typed (ast.In negated offset values e) = and_then (typed e) (λ t. truth_if_common offset (common_of_all (Some t) values))
-    typed (ast.IsNull negated offset e) = and_then (typed e) (λ t. Ok (Some Boolean))
-    typed (ast.Not offset e) = and_then (typed e) (λ t. type_if offset (fits Boolean t) (Some Boolean))
+    typed (ast.In negated offset values e) = membership_type offset (typed e) values
+    typed (ast.IsNull negated offset e) = null_check_type (typed e)
+    typed (ast.Not offset e) = not_type offset (typed e)
     typed (ast.And offset es) = conditions_type offset (typed_members (Ok true) es)
     typed (ast.Or offset es) = conditions_type offset (typed_members (Ok true) es)
-    typed (ast.Cast offset to e) = and_then (typed e) (λ t. type_if offset (can_cast to t) (Some to))
+    typed (ast.Cast offset to e) = cast_type offset to (typed e)
     typed (ast.Case offset as_ o) = case_type offset (typed_arms (Ok (true, Some None)) as_) (typed_otherwise o)
     typed (ast.CountStar offset) = Ok (Some Bigint)
-    typed (ast.Call aggregate offset e) = and_then (typed e) (aggregate_type offset aggregate)
+    typed (ast.Call aggregate offset e) = call_type offset aggregate (typed e)
 
     -- whether each member is a condition, after those before
     pub typed_members : Result Bool ℕ → ast.Exprs → Result Bool ℕ

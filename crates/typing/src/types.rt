@@ -167,6 +167,63 @@ fn aggregate_type(offset: u32, aggregate: Aggregate, argument: TypeOf) -> Typed
     }
 }
 
+fn negation_type(offset: u32, operand: Typed) -> Typed
+    ensures { result ≡ spec.negation_type offset operand }
+{
+    let of = operand?;
+    type_if(offset, fits(ColType::Bigint, of), Some(ColType::Bigint))
+}
+
+fn arithmetic_type(offset: u32, a: Typed, b: Typed) -> Typed
+    ensures { result ≡ spec.arithmetic_type offset a b }
+{
+    let (a, b) = both(a, b)?;
+    let holds = fits(ColType::Bigint, a) && fits(ColType::Bigint, b);
+    type_if(offset, holds, Some(ColType::Bigint))
+}
+
+fn comparison_type(offset: u32, a: Typed, b: Typed) -> Typed
+    ensures { result ≡ spec.comparison_type offset a b }
+{
+    let (a, b) = both(a, b)?;
+    truth_if_common(offset, common(a, b))
+}
+
+fn membership_type<A: Heap>(offset: u32, operand: Typed, values: &[Value<A>]) -> Typed
+    ensures { result ≡ spec.membership_type offset operand (map datum values.now) }
+{
+    let of = operand?;
+    truth_if_common(offset, common_of_all(of, values))
+}
+
+fn null_check_type(operand: Typed) -> Typed
+    ensures { result ≡ spec.null_check_type operand }
+{
+    let _of = operand?;
+    Ok(Some(ColType::Boolean))
+}
+
+fn not_type(offset: u32, operand: Typed) -> Typed
+    ensures { result ≡ spec.not_type offset operand }
+{
+    let of = operand?;
+    type_if(offset, fits(ColType::Boolean, of), Some(ColType::Boolean))
+}
+
+fn cast_type(offset: u32, to: ColType, operand: Typed) -> Typed
+    ensures { result ≡ spec.cast_type offset to operand }
+{
+    let of = operand?;
+    type_if(offset, can_cast(to, of), Some(to))
+}
+
+fn call_type(offset: u32, aggregate: Aggregate, argument: Typed) -> Typed
+    ensures { result ≡ spec.call_type offset aggregate argument }
+{
+    let of = argument?;
+    aggregate_type(offset, aggregate, of)
+}
+
 fn common_type(a: Typed, b: Typed) -> Result<Option<TypeOf>, u32>
     ensures { result ≡ spec.common_type a b }
 {
@@ -231,8 +288,7 @@ pub fn typed<A: Heap>(entries: &[Entry<'_, A>], reach: Reach, expression: &Expr<
         Expr::Literal(value) => Ok(type_of(value)),
         Expr::CurrentUser => Ok(Some(ColType::Text)),
         Expr::Negate { offset, operand } => {
-            let of = typed(entries, reach, operand)?;
-            type_if(*offset, fits(ColType::Bigint, of), Some(ColType::Bigint))
+            negation_type(*offset, typed(entries, reach, operand))
         }
         Expr::Arithmetic {
             offset,
@@ -240,9 +296,8 @@ pub fn typed<A: Heap>(entries: &[Entry<'_, A>], reach: Reach, expression: &Expr<
             right,
             ..
         } => {
-            let (a, b) = both(typed(entries, reach, left), typed(entries, reach, right))?;
-            let holds = fits(ColType::Bigint, a) && fits(ColType::Bigint, b);
-            type_if(*offset, holds, Some(ColType::Bigint))
+            let a = typed(entries, reach, left);
+            arithmetic_type(*offset, a, typed(entries, reach, right))
         }
         Expr::Comparison {
             offset,
@@ -250,8 +305,8 @@ pub fn typed<A: Heap>(entries: &[Entry<'_, A>], reach: Reach, expression: &Expr<
             right,
             ..
         } => {
-            let (a, b) = both(typed(entries, reach, left), typed(entries, reach, right))?;
-            truth_if_common(*offset, common(a, b))
+            let a = typed(entries, reach, left);
+            comparison_type(*offset, a, typed(entries, reach, right))
         }
         Expr::Between {
             offset,
@@ -271,17 +326,11 @@ pub fn typed<A: Heap>(entries: &[Entry<'_, A>], reach: Reach, expression: &Expr<
             operand,
             ..
         } => {
-            let of = typed(entries, reach, operand)?;
-            truth_if_common(*offset, common_of_all(of, values.as_slice()))
+            let of = typed(entries, reach, operand);
+            membership_type(*offset, of, values.as_slice())
         }
-        Expr::IsNull { operand, .. } => {
-            let _of = typed(entries, reach, operand)?;
-            Ok(Some(ColType::Boolean))
-        }
-        Expr::Not { offset, operand } => {
-            let of = typed(entries, reach, operand)?;
-            type_if(*offset, fits(ColType::Boolean, of), Some(ColType::Boolean))
-        }
+        Expr::IsNull { operand, .. } => null_check_type(typed(entries, reach, operand)),
+        Expr::Not { offset, operand } => not_type(*offset, typed(entries, reach, operand)),
         Expr::And { offset, members } => {
             conditions_type(*offset, typed_members(entries, reach, members))
         }
@@ -292,10 +341,7 @@ pub fn typed<A: Heap>(entries: &[Entry<'_, A>], reach: Reach, expression: &Expr<
             offset,
             to,
             operand,
-        } => {
-            let of = typed(entries, reach, operand)?;
-            type_if(*offset, can_cast(*to, of), Some(*to))
-        }
+        } => { cast_type(*offset, *to, typed(entries, reach, operand)) }
         Expr::Case {
             offset,
             arms,
@@ -312,10 +358,7 @@ pub fn typed<A: Heap>(entries: &[Entry<'_, A>], reach: Reach, expression: &Expr<
             aggregate,
             offset,
             argument,
-        } => {
-            let of = typed(entries, reach, argument)?;
-            aggregate_type(*offset, *aggregate, of)
-        }
+        } => { call_type(*offset, *aggregate, typed(entries, reach, argument)) }
     }
 }
 

@@ -1,4 +1,5 @@
 use Rattle.std.proofs.Common.{◌≡◌, ◌&&◌, ◌∙◌, true, false, List, Some, None, map, refl, sym, ap, true≢false}
+use Rattle.std.proofs.lemmas.Bool.{and_from, and_left, and_right}
 use Rattle.value.specs.declared.refusal.Refusal.TheVariants as r
 use Rattle.row_ast.specs.Ast.{Name}
 use Rattle.memberships.specs.Memberships.{Membership, closes_loop}
@@ -6,7 +7,6 @@ use Rattle.memberships.specs.View.{membership_of}
 use Rattle.catalog.specs.Catalog.{Catalog, is_role, is_superuser}
 use Rattle.catalog.specs.Checks.{first_refusal}
 use Rattle.catalog.specs.GrantRole.{checks_grant_role}
-use Rattle.catalog.proofs.Both.{first_not, second_not, both}
 use Rattle.catalog.proofs.grant_role.check_grant_role.Goals.{then-is_role, else-is_role}
 use Rattle.catalog.proofs.grant_role.check_grant_role.Goals as goal
 
@@ -30,20 +30,20 @@ returns-then-not-is_superuser g c = no_superuser c.args.catalog.now c.args.actor
 
 pub returns-then-not-is_role : goal.returns-then-not-is_role
 returns-then-not-is_role g c = no_role c.args.catalog.now c.args.actor.now c.args.group.now c.args.member.now c.if-not-is_superuser.ensures (elim c.if-is_role.branch [
-  | then-is_role w ↦ second_not (is_role c.args.catalog.now c.args.group.now) (is_role c.args.catalog.now c.args.member.now) (sym w.is_role-then-is_role.ensures ∙ sym w.value-is ∙ c.if-not-is_role.true) (sym c.is_role.ensures ∙ w.if-is_role.true)
-  | else-is_role w ↦ first_not (is_role c.args.catalog.now c.args.group.now) (is_role c.args.catalog.now c.args.member.now) (sym c.is_role.ensures ∙ w.if-is_role.false)
+  | then-is_role w ↦ sym (and_right (is_role c.args.catalog.now c.args.group.now) (is_role c.args.catalog.now c.args.member.now) (sym w.is_role-then-is_role.ensures ∙ sym w.value-is ∙ c.if-not-is_role.true))
+  | else-is_role w ↦ sym (and_left (is_role c.args.catalog.now c.args.group.now) (is_role c.args.catalog.now c.args.member.now) (sym c.is_role.ensures ∙ w.if-is_role.false))
 ])
 
 pub returns-then-closes_loop : goal.returns-then-closes_loop
 returns-then-closes_loop g c = loop c.args.catalog.now c.args.actor.now c.args.group.now c.args.member.now c.if-not-is_superuser.ensures (elim c.if-is_role.branch [
-  | then-is_role w ↦ both (is_role c.args.catalog.now c.args.group.now) (is_role c.args.catalog.now c.args.member.now) (sym c.is_role.ensures ∙ w.if-is_role.true) (sym w.is_role-then-is_role.ensures ∙ sym w.value-is ∙ c.if-not-is_role.false)
+  | then-is_role w ↦ sym (and_from (is_role c.args.catalog.now c.args.group.now) (is_role c.args.catalog.now c.args.member.now) (sym c.is_role.ensures ∙ w.if-is_role.true) (sym w.is_role-then-is_role.ensures ∙ sym w.value-is ∙ c.if-not-is_role.false))
   | else-is_role w ↦ absurd (true≢false (sym c.if-not-is_role.false ∙ w.value-is ∙ w.if-is_role.false))
 ]) (map (λ m. membership_of m) c.as_slice.result.now)
     (ap (λ ms. map (λ m. membership_of m) ms) c.as_slice.ensures.value ∙ ap (λ (k : Catalog). k.memberships) c.catalog.view_is) c.if-closes_loop.ensures
 
 pub returns-else-closes_loop : goal.returns-else-closes_loop
 returns-else-closes_loop g c = none_refuses c.args.catalog.now c.args.actor.now c.args.group.now c.args.member.now c.if-not-is_superuser.ensures (elim c.if-is_role.branch [
-  | then-is_role w ↦ both (is_role c.args.catalog.now c.args.group.now) (is_role c.args.catalog.now c.args.member.now) (sym c.is_role.ensures ∙ w.if-is_role.true) (sym w.is_role-then-is_role.ensures ∙ sym w.value-is ∙ c.if-not-is_role.false)
+  | then-is_role w ↦ sym (and_from (is_role c.args.catalog.now c.args.group.now) (is_role c.args.catalog.now c.args.member.now) (sym c.is_role.ensures ∙ w.if-is_role.true) (sym w.is_role-then-is_role.ensures ∙ sym w.value-is ∙ c.if-not-is_role.false))
   | else-is_role w ↦ absurd (true≢false (sym c.if-not-is_role.false ∙ w.value-is ∙ w.if-is_role.false))
 ]) (map (λ m. membership_of m) c.as_slice.result.now)
     (ap (λ ms. map (λ m. membership_of m) ms) c.as_slice.ensures.value ∙ ap (λ (k : Catalog). k.memberships) c.catalog.view_is) c.if-closes_loop.ensures

@@ -1,30 +1,140 @@
-use Rattle.std.proofs.Common.{ap, refl, rules, arith, map, Box, Vec}
-use Rattle.row_ast.specs.View.{expr_of}
+use borrow.Author.Count.{falls}
+use Rattle.std.proofs.Common.{◌<◌, List, length, Vec, map, ap, refl, subst, arith}
+use Rattle.std.proofs.Math.Nat.{le_refl}
+use Rattle.row_ast.specs.View.{expr_of, exprs}
+use Rattle.row_ast.specs.View.{arms as arms_of}
 use Rattle.expr.specs.View.{bound_expr_of, bound_arm_pair}
-use Rattle.scope.specs.Weights.{weight}
 use Rattle.expr.specs.declared.bound.BoundExpr.{BoundExpr}
 use Rattle.expr.specs.declared.bound.BoundArm.{BoundArm}
-use Rattle.scope.proofs.Walks.{and_is, or_is, case_none, case_some, case_lighter, exprs_still, arms_still, exprs_lighter, when_lighter, result_lighter}
+use Rattle.scope.specs.Weights.{weight, all_weight, arms_weight}
 use Rattle.scope.specs.View.{entry_of}
-use Rattle.scope.specs.BoundExprs.{bound_expr, pair}
-use Rattle.scope.proofs.Lists.{pushed}
+use Rattle.scope.specs.BoundExprs.{bound_members, bound_arms}
 use Rattle.scope.proofs.Found.{failed}
-use Rattle.scope.proofs.Binds.{members_over, members_opened, members_next, arms_bound_over, arms_opened, arms_next}
+use Rattle.scope.proofs.Walks.{and_is, or_is, case_none, case_other, case_lighter, otherwise_lighter, exprs_still, arms_still, exprs_lighter, when_lighter, result_lighter}
+use Rattle.scope.proofs.Operands.{negate_is, in_is, is_null_is, not_is, cast_is, call_is, arithmetic_is, comparison_is, between_is, lighter, first_lighter, second_lighter, third_lighter, last_lighter}
+use Rattle.scope.proofs.Binds.{bound_as, members_over, members_opened, members_next, arms_bound_over, arms_opened, arms_next}
 use Rattle.scope.proofs.expressions.+bind.Goals as goal
 
+-- ---- each call is on less
+
+pub bind_expr-bind_expr-requires : goal.bind_expr-bind_expr-requires
+bind_expr-bind_expr-requires g t c κs within = (subst (λ n. weight (expr_of c.deref.result.now) < n) c.decreases (lighter (expr_of c.args.expression.now) _ (ap weight (negate_is c.args.expression.now c.in-Negate.offset c.in-Negate.operand c.deref.result.now c.deref.ensures c.in-Negate.is))), within)
+
+pub bind_expr-bind_expr-left-requires : goal.bind_expr-bind_expr-left-requires
+bind_expr-bind_expr-left-requires g t c κs within = (subst (λ n. weight (expr_of c.deref-in-Arithmetic.result.now) < n) c.decreases (first_lighter (expr_of c.args.expression.now) _ _ (ap weight (arithmetic_is c.args.expression.now c.in-Arithmetic.offset c.in-Arithmetic.left c.in-Arithmetic.right c.deref-in-Arithmetic.result.now c.deref-in-Arithmetic.ensures _ refl c.in-Arithmetic.operator c.in-Arithmetic.is))), within)
+
+pub bind_expr-bind_expr-right-requires : goal.bind_expr-bind_expr-right-requires
+bind_expr-bind_expr-right-requires g t c κs within = (subst (λ n. weight (expr_of c.deref-in-Arithmetic-2.result.now) < n) c.decreases (second_lighter (expr_of c.args.expression.now) _ _ (ap weight (arithmetic_is c.args.expression.now c.in-Arithmetic.offset c.in-Arithmetic.left c.in-Arithmetic.right c.deref-in-Arithmetic.result.now c.deref-in-Arithmetic.ensures c.deref-in-Arithmetic-2.result.now c.deref-in-Arithmetic-2.ensures c.in-Arithmetic.operator c.in-Arithmetic.is))), within)
+
+pub bind_expr-bind_expr-left-requires-in-Comparison : goal.bind_expr-bind_expr-left-requires-in-Comparison
+bind_expr-bind_expr-left-requires-in-Comparison g t c κs within = (subst (λ n. weight (expr_of c.deref-in-Comparison.result.now) < n) c.decreases (first_lighter (expr_of c.args.expression.now) _ _ (ap weight (comparison_is c.args.expression.now c.in-Comparison.offset c.in-Comparison.left c.in-Comparison.right c.deref-in-Comparison.result.now c.deref-in-Comparison.ensures _ refl c.in-Comparison.operator c.in-Comparison.is))), within)
+
+pub bind_expr-bind_expr-right-requires-in-Comparison : goal.bind_expr-bind_expr-right-requires-in-Comparison
+bind_expr-bind_expr-right-requires-in-Comparison g t c κs within = (subst (λ n. weight (expr_of c.deref-in-Comparison-2.result.now) < n) c.decreases (second_lighter (expr_of c.args.expression.now) _ _ (ap weight (comparison_is c.args.expression.now c.in-Comparison.offset c.in-Comparison.left c.in-Comparison.right c.deref-in-Comparison.result.now c.deref-in-Comparison.ensures c.deref-in-Comparison-2.result.now c.deref-in-Comparison-2.ensures c.in-Comparison.operator c.in-Comparison.is))), within)
+
+pub bind_expr-bind_expr-operand-requires : goal.bind_expr-bind_expr-operand-requires
+bind_expr-bind_expr-operand-requires g t c κs within = (subst (λ n. weight (expr_of c.deref-in-Between.result.now) < n) c.decreases (first_lighter (expr_of c.args.expression.now) _ _ (ap weight (between_is c.args.expression.now c.in-Between.offset c.in-Between.operand c.in-Between.low c.deref-in-Between.result.now c.deref-in-Between.ensures _ refl c.in-Between.high _ refl c.in-Between.negated c.in-Between.is))), within)
+
+pub bind_expr-bind_expr-low-requires : goal.bind_expr-bind_expr-low-requires
+bind_expr-bind_expr-low-requires g t c κs within = (subst (λ n. weight (expr_of c.deref-in-Between-2.result.now) < n) c.decreases (third_lighter (expr_of c.args.expression.now) _ _ _ (ap weight (between_is c.args.expression.now c.in-Between.offset c.in-Between.operand c.in-Between.low c.deref-in-Between.result.now c.deref-in-Between.ensures c.deref-in-Between-2.result.now c.deref-in-Between-2.ensures c.in-Between.high _ refl c.in-Between.negated c.in-Between.is))), within)
+
+pub bind_expr-bind_expr-high-requires : goal.bind_expr-bind_expr-high-requires
+bind_expr-bind_expr-high-requires g t c κs within = (subst (λ n. weight (expr_of c.deref-in-Between-3.result.now) < n) c.decreases (last_lighter (expr_of c.args.expression.now) _ _ _ (ap weight (between_is c.args.expression.now c.in-Between.offset c.in-Between.operand c.in-Between.low c.deref-in-Between.result.now c.deref-in-Between.ensures c.deref-in-Between-2.result.now c.deref-in-Between-2.ensures c.in-Between.high c.deref-in-Between-3.result.now c.deref-in-Between-3.ensures c.in-Between.negated c.in-Between.is))), within)
+
+pub bind_expr-bind_expr-operand-requires-in-In : goal.bind_expr-bind_expr-operand-requires-in-In
+bind_expr-bind_expr-operand-requires-in-In g t c κs within = (subst (λ n. weight (expr_of c.deref-in-In.result.now) < n) c.decreases (lighter (expr_of c.args.expression.now) _ (ap weight (in_is c.args.expression.now c.in-In.offset c.in-In.operand c.deref-in-In.result.now c.deref-in-In.ensures c.in-In.negated c.in-In.values c.in-In.is))), within)
+
+pub bind_expr-bind_expr-operand-requires-in-IsNull : goal.bind_expr-bind_expr-operand-requires-in-IsNull
+bind_expr-bind_expr-operand-requires-in-IsNull g t c κs within = (subst (λ n. weight (expr_of c.deref-in-IsNull.result.now) < n) c.decreases (lighter (expr_of c.args.expression.now) _ (ap weight (is_null_is c.args.expression.now c.in-IsNull.offset c.in-IsNull.operand c.deref-in-IsNull.result.now c.deref-in-IsNull.ensures c.in-IsNull.negated c.in-IsNull.is))), within)
+
+pub bind_expr-bind_expr-requires-in-Not : goal.bind_expr-bind_expr-requires-in-Not
+bind_expr-bind_expr-requires-in-Not g t c κs within = (subst (λ n. weight (expr_of c.deref-in-Not.result.now) < n) c.decreases (lighter (expr_of c.args.expression.now) _ (ap weight (not_is c.args.expression.now c.in-Not.offset c.in-Not.operand c.deref-in-Not.result.now c.deref-in-Not.ensures c.in-Not.is))), within)
+
+pub bind_expr-bind_expr-operand-requires-in-Cast : goal.bind_expr-bind_expr-operand-requires-in-Cast
+bind_expr-bind_expr-operand-requires-in-Cast g t c κs within = (subst (λ n. weight (expr_of c.deref-in-Cast.result.now) < n) c.decreases (lighter (expr_of c.args.expression.now) _ (ap weight (cast_is c.args.expression.now c.in-Cast.offset c.in-Cast.operand c.deref-in-Cast.result.now c.deref-in-Cast.ensures c.in-Cast.to c.in-Cast.is))), within)
+
+pub bind_expr-bind_expr-argument-requires : goal.bind_expr-bind_expr-argument-requires
+bind_expr-bind_expr-argument-requires g t c κs within = (subst (λ n. weight (expr_of c.deref-in-Call.result.now) < n) c.decreases (lighter (expr_of c.args.expression.now) _ (ap weight (call_is c.args.expression.now c.in-Call.offset c.in-Call.argument c.deref-in-Call.result.now c.deref-in-Call.ensures c.in-Call.aggregate c.in-Call.is))), within)
+
+pub bind_expr-bind_members-requires : goal.bind_expr-bind_members-requires
+bind_expr-bind_members-requires g t c κs within = (subst (λ n. all_weight (exprs c.deref-in-And.result.now) < n) c.decreases (lighter (expr_of c.args.expression.now) _ (ap weight (and_is c.args.expression.now c.in-And.offset c.in-And.members c.deref-in-And.result.now c.deref-in-And.ensures.value c.in-And.is))), within)
+
+pub bind_expr-bind_members-requires-in-Or : goal.bind_expr-bind_members-requires-in-Or
+bind_expr-bind_members-requires-in-Or g t c κs within = (subst (λ n. all_weight (exprs c.deref-in-Or.result.now) < n) c.decreases (lighter (expr_of c.args.expression.now) _ (ap weight (or_is c.args.expression.now c.in-Or.offset c.in-Or.members c.deref-in-Or.result.now c.deref-in-Or.ensures.value c.in-Or.is))), within)
+
+pub bind_expr-bind_arms-arms-requires : goal.bind_expr-bind_arms-arms-requires
+bind_expr-bind_arms-arms-requires g t c κs within = (subst (λ n. arms_weight (arms_of c.deref-in-Case.result.now) < n) c.decreases (case_lighter c.args.expression.now c.in-Case.offset c.in-Case.arms c.deref-in-Case.result.now c.deref-in-Case.ensures.value c.in-Case.otherwise c.in-Case.is), within)
+
+pub bind_expr-bind_expr-value-requires : goal.bind_expr-bind_expr-value-requires
+bind_expr-bind_expr-value-requires g t c κs within = (subst (λ n. weight (expr_of c.deref-in-Some.result.now) < n) c.decreases (otherwise_lighter c.args.expression.now c.in-Case.offset c.in-Case.arms c.deref-in-Case.result.now c.deref-in-Case.ensures.value c.in-Case.otherwise c.in-Case.is c.in-Some.value c.in-Some.is c.deref-in-Some.result.now c.deref-in-Some.ensures), within)
+
+-- ---- what each node gives
+
+pub bind_expr-returns-in-Column : goal.bind_expr-returns-in-Column
+bind_expr-returns-in-Column g t c = bound_as (map (λ e. entry_of e) c.args.entries.now) c.args.reach c.column.result _ _ (ap expr_of c.in-Column.is) (rw c.find_column.ensures at c.column.ensures)
+
+pub bind_expr-returns-in-Literal : goal.bind_expr-returns-in-Literal
+bind_expr-returns-in-Literal g t c = bound_as (map (λ e. entry_of e) c.args.entries.now) c.args.reach c.literal.result _ _ (ap expr_of c.in-Literal.is) c.literal.ensures
+
+pub bind_expr-returns-in-CurrentUser : goal.bind_expr-returns-in-CurrentUser
+bind_expr-returns-in-CurrentUser g t c = bound_as (map (λ e. entry_of e) c.args.entries.now) c.args.reach c.made.result _ _ (ap expr_of c.in-CurrentUser.is) (c.made.ensures _ refl)
+
+pub bind_expr-returns-in-CountStar : goal.bind_expr-returns-in-CountStar
+bind_expr-returns-in-CountStar g t c = bound_as (map (λ e. entry_of e) c.args.entries.now) c.args.reach c.made-in-CountStar.result _ _ (ap expr_of c.in-CountStar.is) (c.made-in-CountStar.ensures _ refl)
+
+pub bind_expr-returns-in-Negate : goal.bind_expr-returns-in-Negate
+bind_expr-returns-in-Negate g t c = bound_as (map (λ e. entry_of e) c.args.entries.now) c.args.reach c.negation.result _ _ (negate_is c.args.expression.now c.in-Negate.offset c.in-Negate.operand c.deref.result.now c.deref.ensures c.in-Negate.is) (c.negation.ensures _ c.bind_expr.ensures)
+
+pub bind_expr-returns-in-Arithmetic : goal.bind_expr-returns-in-Arithmetic
+bind_expr-returns-in-Arithmetic g t c = bound_as (map (λ e. entry_of e) c.args.entries.now) c.args.reach c.arithmetic.result _ _ (arithmetic_is c.args.expression.now c.in-Arithmetic.offset c.in-Arithmetic.left c.in-Arithmetic.right c.deref-in-Arithmetic.result.now c.deref-in-Arithmetic.ensures c.deref-in-Arithmetic-2.result.now c.deref-in-Arithmetic-2.ensures c.in-Arithmetic.operator c.in-Arithmetic.is) (c.arithmetic.ensures _ _ c.bind_expr-left.ensures c.bind_expr-right.ensures)
+
+pub bind_expr-returns-in-Comparison : goal.bind_expr-returns-in-Comparison
+bind_expr-returns-in-Comparison g t c = bound_as (map (λ e. entry_of e) c.args.entries.now) c.args.reach c.comparison.result _ _ (comparison_is c.args.expression.now c.in-Comparison.offset c.in-Comparison.left c.in-Comparison.right c.deref-in-Comparison.result.now c.deref-in-Comparison.ensures c.deref-in-Comparison-2.result.now c.deref-in-Comparison-2.ensures c.in-Comparison.operator c.in-Comparison.is) (c.comparison.ensures _ _ c.bind_expr-left-in-Comparison.ensures c.bind_expr-right-in-Comparison.ensures)
+
+pub bind_expr-returns-in-Between : goal.bind_expr-returns-in-Between
+bind_expr-returns-in-Between g t c = bound_as (map (λ e. entry_of e) c.args.entries.now) c.args.reach c.between.result _ _ (between_is c.args.expression.now c.in-Between.offset c.in-Between.operand c.in-Between.low c.deref-in-Between.result.now c.deref-in-Between.ensures c.deref-in-Between-2.result.now c.deref-in-Between-2.ensures c.in-Between.high c.deref-in-Between-3.result.now c.deref-in-Between-3.ensures c.in-Between.negated c.in-Between.is) (c.between.ensures _ _ _ c.bind_expr-operand.ensures c.bind_expr-low.ensures c.bind_expr-high.ensures)
+
+pub bind_expr-returns-in-In : goal.bind_expr-returns-in-In
+bind_expr-returns-in-In g t c = bound_as (map (λ e. entry_of e) c.args.entries.now) c.args.reach c.membership.result _ _ (in_is c.args.expression.now c.in-In.offset c.in-In.operand c.deref-in-In.result.now c.deref-in-In.ensures c.in-In.negated c.in-In.values c.in-In.is) (rw c.as_slice.ensures at (c.membership.ensures _ c.bind_expr-operand-in-In.ensures))
+
+pub bind_expr-returns-in-IsNull : goal.bind_expr-returns-in-IsNull
+bind_expr-returns-in-IsNull g t c = bound_as (map (λ e. entry_of e) c.args.entries.now) c.args.reach c.null_check.result _ _ (is_null_is c.args.expression.now c.in-IsNull.offset c.in-IsNull.operand c.deref-in-IsNull.result.now c.deref-in-IsNull.ensures c.in-IsNull.negated c.in-IsNull.is) (c.null_check.ensures _ c.bind_expr-operand-in-IsNull.ensures)
+
+pub bind_expr-returns-in-Not : goal.bind_expr-returns-in-Not
+bind_expr-returns-in-Not g t c = bound_as (map (λ e. entry_of e) c.args.entries.now) c.args.reach c.logical_not.result _ _ (not_is c.args.expression.now c.in-Not.offset c.in-Not.operand c.deref-in-Not.result.now c.deref-in-Not.ensures c.in-Not.is) (c.logical_not.ensures _ c.bind_expr-in-Not.ensures)
+
+pub bind_expr-returns-in-And : goal.bind_expr-returns-in-And
+bind_expr-returns-in-And g t c = bound_as (map (λ e. entry_of e) c.args.entries.now) c.args.reach c.conjunction.result _ _ (and_is c.args.expression.now c.in-And.offset c.in-And.members c.deref-in-And.result.now c.deref-in-And.ensures.value c.in-And.is) (c.conjunction.ensures _ c.bind_members.ensures)
+
+pub bind_expr-returns-in-Or : goal.bind_expr-returns-in-Or
+bind_expr-returns-in-Or g t c = bound_as (map (λ e. entry_of e) c.args.entries.now) c.args.reach c.disjunction.result _ _ (or_is c.args.expression.now c.in-Or.offset c.in-Or.members c.deref-in-Or.result.now c.deref-in-Or.ensures.value c.in-Or.is) (c.disjunction.ensures _ c.bind_members-in-Or.ensures)
+
+pub bind_expr-returns-in-Cast : goal.bind_expr-returns-in-Cast
+bind_expr-returns-in-Cast g t c = bound_as (map (λ e. entry_of e) c.args.entries.now) c.args.reach c.cast.result _ _ (cast_is c.args.expression.now c.in-Cast.offset c.in-Cast.operand c.deref-in-Cast.result.now c.deref-in-Cast.ensures c.in-Cast.to c.in-Cast.is) (c.cast.ensures _ c.bind_expr-operand-in-Cast.ensures)
+
+pub bind_expr-returns-in-Some : goal.bind_expr-returns-in-Some
+bind_expr-returns-in-Some g t c = bound_as (map (λ e. entry_of e) c.args.entries.now) c.args.reach c.with_otherwise.result _ _ (case_other c.args.expression.now c.in-Case.offset c.in-Case.arms c.deref-in-Case.result.now c.deref-in-Case.ensures.value c.in-Case.otherwise c.in-Case.is c.in-Some.value c.in-Some.is c.deref-in-Some.result.now c.deref-in-Some.ensures) (c.with_otherwise.ensures _ _ c.bind_arms-arms.ensures c.bind_expr-value.ensures)
+
+pub bind_expr-returns-in-None : goal.bind_expr-returns-in-None
+bind_expr-returns-in-None g t c = bound_as (map (λ e. entry_of e) c.args.entries.now) c.args.reach c.without_otherwise.result _ _ (case_none c.args.expression.now c.in-Case.offset c.in-Case.arms c.deref-in-Case.result.now c.deref-in-Case.ensures.value c.in-Case.otherwise c.in-Case.is c.in-None.is) (c.without_otherwise.ensures _ c.bind_arms-arms.ensures)
+
+pub bind_expr-returns-in-Call : goal.bind_expr-returns-in-Call
+bind_expr-returns-in-Call g t c = bound_as (map (λ e. entry_of e) c.args.entries.now) c.args.reach c.call.result _ _ (call_is c.args.expression.now c.in-Call.offset c.in-Call.argument c.deref-in-Call.result.now c.deref-in-Call.ensures c.in-Call.aggregate c.in-Call.is) (c.call.ensures _ c.bind_expr-argument.ensures)
+
+-- ---- the walks over members and arms
+
 pub bind_members-bind_expr-requires : goal.bind_members-bind_expr-requires
-bind_members-bind_expr-requires g t c κs within = let h = exprs_lighter c.args.members.now c.loop-member.member-index c.member-item.result c.loop-member-test.true c.member-item.is c.loop-member.invariant.lighter in search rules
+bind_members-bind_expr-requires g t c κs within = (subst (λ n. weight (expr_of c.member-item.result) < n) c.decreases (exprs_lighter c.args.members.now c.loop-member.member-index c.member-item.result c.loop-member-test.true c.member-item.is c.loop-member.invariant.lighter), within)
 
 pub bind_members-returns-in-Err : goal.bind_members-returns-in-Err
 bind_members-returns-in-Err g t c =
-    failed (λ (b : Box (BoundExpr g.row.A.Denot) g.row.A.Denot). bound_expr_of b.value) (λ (v : Vec (BoundExpr g.row.A.Denot) g.row.A.Denot). map bound_expr_of v.items) c.in-Err.failure (bound_expr (map (λ e. entry_of e) c.args.entries.now) c.args.reach (expr_of c.member-item.result)) _ _
+    failed (λ (v : List (BoundExpr g.row.A.Denot)). map bound_expr_of v) (λ (v : Vec (BoundExpr g.row.A.Denot) g.row.A.Denot). map bound_expr_of v.items) c.in-Err.failure _ _ _
     (members_opened (map (λ e. entry_of e) c.args.entries.now) c.args.reach c.args.members.now c.loop-member.member-index c.member-item.result c.loop-member-test.true c.member-item.is (map bound_expr_of c.loop-member.all) _ c.loop-member.invariant.rest)
-    c.in-Err.ensures
+    (c.in-Err.ensures _ c.bind_expr.ensures)
 
 pub bind_members-loop-member-preserved : goal.bind_members-loop-member-preserved
 bind_members-loop-member-preserved g t c = record {
-  rest = members_next (map (λ e. entry_of e) c.args.entries.now) c.args.reach c.args.members.now c.loop-member.member-index c.member-item.result c.loop-member-test.true c.member-item.is (map bound_expr_of c.loop-member.all) _ c.loop-member.invariant.rest (bound_expr_of c.in-Ok.member.value) _ c.in-Ok.ensures
-      (pushed bound_expr_of _ _ _ _ c.in_ok-push-in-Ok.ensures.ok (ap bound_expr_of c.into_inner.ensures));
+  rest = members_next (map (λ e. entry_of e) c.args.entries.now) c.args.reach c.args.members.now c.loop-member.member-index c.member-item.result c.loop-member-test.true c.member-item.is (map bound_expr_of c.loop-member.all) _ c.loop-member.invariant.rest (map bound_expr_of c.in-Ok.more) (c.in-Ok.ensures _ c.bind_expr.ensures);
   lighter = exprs_still c.args.members.now c.loop-member.member-index c.member-item.result c.loop-member-test.true c.member-item.is c.loop-member.invariant.lighter;
 }
 
@@ -32,115 +142,52 @@ pub bind_members-returns : goal.bind_members-returns
 bind_members-returns g t c = rw c.into_vec.ensures (members_over (map (λ e. entry_of e) c.args.entries.now) c.args.reach c.args.members.now c.loop-member.member-index (map bound_expr_of c.loop-member.all) _ c.loop-member.invariant.rest (omega (arith, c.loop-member-test.false)))
 
 pub bind_arms-bind_expr-when-requires : goal.bind_arms-bind_expr-when-requires
-bind_arms-bind_expr-when-requires g t c κs within = let h = when_lighter c.args.arms.now c.loop-next.next-index c.next-item.result c.loop-next-test.true c.next-item.is c.loop-next.invariant.lighter in search rules
+bind_arms-bind_expr-when-requires g t c κs within = (subst (λ n. weight (expr_of c.next-item.result.when) < n) c.decreases (when_lighter c.args.arms.now c.loop-next.next-index c.next-item.result c.loop-next-test.true c.next-item.is c.loop-next.invariant.lighter), within)
 
 pub bind_arms-bind_expr-result-requires : goal.bind_arms-bind_expr-result-requires
-bind_arms-bind_expr-result-requires g t c κs within = let h = result_lighter c.args.arms.now c.loop-next.next-index c.next-item.result c.loop-next-test.true c.next-item.is c.loop-next.invariant.lighter in search rules
+bind_arms-bind_expr-result-requires g t c κs within = (subst (λ n. weight (expr_of c.next-item.result.result) < n) c.decreases (result_lighter c.args.arms.now c.loop-next.next-index c.next-item.result c.loop-next-test.true c.next-item.is c.loop-next.invariant.lighter), within)
 
 pub bind_arms-returns-in-Err : goal.bind_arms-returns-in-Err
 bind_arms-returns-in-Err g t c =
-    failed (λ (a : BoundArm g.row.A.Denot). bound_arm_pair a) (λ (v : Vec (BoundArm g.row.A.Denot) g.row.A.Denot). map bound_arm_pair v.items) c.in-Err.failure
-    (pair (bound_expr (map (λ e. entry_of e) c.args.entries.now) c.args.reach (expr_of c.next-item.result.when)) (bound_expr (map (λ e. entry_of e) c.args.entries.now) c.args.reach (expr_of c.next-item.result.result))) _ _
+    failed (λ (v : List (BoundArm g.row.A.Denot)). map bound_arm_pair v) (λ (v : Vec (BoundArm g.row.A.Denot) g.row.A.Denot). map bound_arm_pair v.items) c.in-Err.failure _ _ _
     (arms_opened (map (λ e. entry_of e) c.args.entries.now) c.args.reach c.args.arms.now c.loop-next.next-index c.next-item.result c.loop-next-test.true c.next-item.is (map bound_arm_pair c.loop-next.all) _ c.loop-next.invariant.rest)
     (c.in-Err.ensures _ _ c.bind_expr-when.ensures c.bind_expr-result.ensures)
 
 pub bind_arms-loop-next-preserved : goal.bind_arms-loop-next-preserved
 bind_arms-loop-next-preserved g t c = record {
-  rest = arms_next (map (λ e. entry_of e) c.args.entries.now) c.args.reach c.args.arms.now c.loop-next.next-index c.next-item.result c.loop-next-test.true c.next-item.is (map bound_arm_pair c.loop-next.all) _ c.loop-next.invariant.rest (bound_arm_pair c.in-Ok.arm) _
-      (c.in-Ok.ensures _ _ c.bind_expr-when.ensures c.bind_expr-result.ensures)
-      (pushed bound_arm_pair _ _ c.in-Ok.arm _ c.in_ok-push-in-Ok.ensures.ok refl);
+  rest = arms_next (map (λ e. entry_of e) c.args.entries.now) c.args.reach c.args.arms.now c.loop-next.next-index c.next-item.result c.loop-next-test.true c.next-item.is (map bound_arm_pair c.loop-next.all) _ c.loop-next.invariant.rest (map bound_arm_pair c.in-Ok.more) (c.in-Ok.ensures _ _ c.bind_expr-when.ensures c.bind_expr-result.ensures);
   lighter = arms_still c.args.arms.now c.loop-next.next-index c.next-item.result c.loop-next-test.true c.next-item.is c.loop-next.invariant.lighter;
 }
 
 pub bind_arms-returns : goal.bind_arms-returns
 bind_arms-returns g t c = rw c.into_vec.ensures (arms_bound_over (map (λ e. entry_of e) c.args.entries.now) c.args.reach c.args.arms.now c.loop-next.next-index (map bound_arm_pair c.loop-next.all) _ c.loop-next.invariant.rest (omega (arith, c.loop-next-test.false)))
 
-pub bind_expr-bind_members-requires : goal.bind_expr-bind_members-requires
-bind_expr-bind_members-requires g t c κs within = let w = ap weight (and_is c.args.expression.now c.in-And.offset c.in-And.members c.deref-in-And.result.now c.deref-in-And.ensures.value c.in-And.is) in search rules
+pub bind_members-offset_bounds-members-member-index : goal.bind_members-offset_bounds-members-member-index
+bind_members-offset_bounds-members-member-index g t c = c.loop-member.auto.member-index-end
 
-pub bind_expr-bind_members-requires-in-Or : goal.bind_expr-bind_members-requires-in-Or
-bind_expr-bind_members-requires-in-Or g t c κs within = let w = ap weight (or_is c.args.expression.now c.in-Or.offset c.in-Or.members c.deref-in-Or.result.now c.deref-in-Or.ensures.value c.in-Or.is) in search rules
+pub bind_members-bounds-members-member-index : goal.bind_members-bounds-members-member-index
+bind_members-bounds-members-member-index g t c = c.loop-member-test.true
 
-pub bind_expr-bind_arms-arms-requires : goal.bind_expr-bind_arms-arms-requires
-bind_expr-bind_arms-arms-requires g t c κs within = let h = case_lighter c.args.expression.now c.in-Case.offset c.in-Case.arms c.deref-in-Case.result.now c.deref-in-Case.ensures.value c.in-Case.otherwise c.in-Case.is in search rules
+pub bind_members-loop-member-smaller : goal.bind_members-loop-member-smaller
+bind_members-loop-member-smaller g t c = falls (length c.args.members.now) c.loop-member.member-index c.loop-member-test.true
 
-pub bind_expr-returns-in-And : goal.bind_expr-returns-in-And
-bind_expr-returns-in-And g t c = rw (and_is c.args.expression.now c.in-And.offset c.in-And.members c.deref-in-And.result.now c.deref-in-And.ensures.value c.in-And.is) (c.conjunction.ensures _ c.bind_members.ensures)
+pub bind_members-loop-member-init : goal.bind_members-loop-member-init
+bind_members-loop-member-init g t c = record {
+  rest = ap (λ (all : List (BoundExpr g.row.A.Denot)). bound_members (map (λ e. entry_of e) c.args.entries.now) c.args.reach (map bound_expr_of all) (exprs c.args.members.now)) c.new-all.ensures;
+  lighter = le_refl (all_weight (exprs c.args.members.now));
+}
 
-pub bind_expr-returns-in-Or : goal.bind_expr-returns-in-Or
-bind_expr-returns-in-Or g t c = rw (or_is c.args.expression.now c.in-Or.offset c.in-Or.members c.deref-in-Or.result.now c.deref-in-Or.ensures.value c.in-Or.is) (c.disjunction.ensures _ c.bind_members-in-Or.ensures)
+pub bind_arms-offset_bounds-arms-next-index : goal.bind_arms-offset_bounds-arms-next-index
+bind_arms-offset_bounds-arms-next-index g t c = c.loop-next.auto.next-index-end
 
-pub bind_expr-returns-in-Some : goal.bind_expr-returns-in-Some
-bind_expr-returns-in-Some g t c =
-    rw (case_some c.args.expression.now c.in-Case.offset c.in-Case.arms c.deref-in-Case.result.now c.deref-in-Case.ensures.value c.in-Case.otherwise c.in-Case.is c.in-Some.value c.in-Some.is)
-    (c.with_otherwise.ensures _ _ c.bind_arms-arms.ensures (rw c.deref-in-Some.ensures at c.bind_expr-value.ensures))
+pub bind_arms-bounds-arms-next-index : goal.bind_arms-bounds-arms-next-index
+bind_arms-bounds-arms-next-index g t c = c.loop-next-test.true
 
-pub bind_expr-returns-in-None : goal.bind_expr-returns-in-None
-bind_expr-returns-in-None g t c =
-    rw (case_none c.args.expression.now c.in-Case.offset c.in-Case.arms c.deref-in-Case.result.now c.deref-in-Case.ensures.value c.in-Case.otherwise c.in-Case.is c.in-None.is) (c.without_otherwise.ensures _ c.bind_arms-arms.ensures)
+pub bind_arms-loop-next-smaller : goal.bind_arms-loop-next-smaller
+bind_arms-loop-next-smaller g t c = falls (length c.args.arms.now) c.loop-next.next-index c.loop-next-test.true
 
-pub bind_expr-bind_expr-requires : goal.bind_expr-bind_expr-requires
-bind_expr-bind_expr-requires g t c κs within = let w = ap weight (ap expr_of c.in-Negate.is) in search rules
-
-pub bind_expr-bind_expr-requires-in-Arithmetic : goal.bind_expr-bind_expr-requires-in-Arithmetic
-bind_expr-bind_expr-requires-in-Arithmetic g t c κs within = let w = ap weight (ap expr_of c.in-Arithmetic.is) in search rules
-
-pub bind_expr-bind_expr-requires-in-Arithmetic-2 : goal.bind_expr-bind_expr-requires-in-Arithmetic-2
-bind_expr-bind_expr-requires-in-Arithmetic-2 g t c κs within = let w = ap weight (ap expr_of c.in-Arithmetic.is) in search rules
-
-pub bind_expr-bind_expr-requires-in-Comparison : goal.bind_expr-bind_expr-requires-in-Comparison
-bind_expr-bind_expr-requires-in-Comparison g t c κs within = let w = ap weight (ap expr_of c.in-Comparison.is) in search rules
-
-pub bind_expr-bind_expr-requires-in-Comparison-2 : goal.bind_expr-bind_expr-requires-in-Comparison-2
-bind_expr-bind_expr-requires-in-Comparison-2 g t c κs within = let w = ap weight (ap expr_of c.in-Comparison.is) in search rules
-
-pub bind_expr-bind_expr-requires-in-Between : goal.bind_expr-bind_expr-requires-in-Between
-bind_expr-bind_expr-requires-in-Between g t c κs within = let w = ap weight (ap expr_of c.in-Between.is) in search rules
-
-pub bind_expr-bind_expr-requires-in-Between-2 : goal.bind_expr-bind_expr-requires-in-Between-2
-bind_expr-bind_expr-requires-in-Between-2 g t c κs within = let w = ap weight (ap expr_of c.in-Between.is) in search rules
-
-pub bind_expr-bind_expr-requires-in-Between-3 : goal.bind_expr-bind_expr-requires-in-Between-3
-bind_expr-bind_expr-requires-in-Between-3 g t c κs within = let w = ap weight (ap expr_of c.in-Between.is) in search rules
-
-pub bind_expr-bind_expr-requires-in-In : goal.bind_expr-bind_expr-requires-in-In
-bind_expr-bind_expr-requires-in-In g t c κs within = let w = ap weight (ap expr_of c.in-In.is) in search rules
-
-pub bind_expr-bind_expr-requires-in-IsNull : goal.bind_expr-bind_expr-requires-in-IsNull
-bind_expr-bind_expr-requires-in-IsNull g t c κs within = let w = ap weight (ap expr_of c.in-IsNull.is) in search rules
-
-pub bind_expr-bind_expr-requires-in-Not : goal.bind_expr-bind_expr-requires-in-Not
-bind_expr-bind_expr-requires-in-Not g t c κs within = let w = ap weight (ap expr_of c.in-Not.is) in search rules
-
-pub bind_expr-bind_expr-requires-in-Cast : goal.bind_expr-bind_expr-requires-in-Cast
-bind_expr-bind_expr-requires-in-Cast g t c κs within = let w = ap weight (ap expr_of c.in-Cast.is) in search rules
-
-pub bind_expr-bind_expr-requires-in-Call : goal.bind_expr-bind_expr-requires-in-Call
-bind_expr-bind_expr-requires-in-Call g t c κs within = let w = ap weight (ap expr_of c.in-Call.is) in search rules
-
-pub bind_expr-returns-in_ok-operand-in-Negate : goal.bind_expr-returns-in_ok-operand-in-Negate
-bind_expr-returns-in_ok-operand-in-Negate g t c = c.made-in-Negate.ensures _ (let w = ap (bound_expr (map (λ e. entry_of e) c.args.entries.now) c.args.reach) (ap expr_of c.in-Negate.is) in search rules)
-
-pub bind_expr-returns-in_ok-right-in-Arithmetic : goal.bind_expr-returns-in_ok-right-in-Arithmetic
-bind_expr-returns-in_ok-right-in-Arithmetic g t c = c.made-in-Arithmetic.ensures _ (let w = ap (bound_expr (map (λ e. entry_of e) c.args.entries.now) c.args.reach) (ap expr_of c.in-Arithmetic.is) in search rules)
-
-pub bind_expr-returns-in_ok-right-in-Comparison : goal.bind_expr-returns-in_ok-right-in-Comparison
-bind_expr-returns-in_ok-right-in-Comparison g t c = c.made-in-Comparison.ensures _ (let w = ap (bound_expr (map (λ e. entry_of e) c.args.entries.now) c.args.reach) (ap expr_of c.in-Comparison.is) in search rules)
-
-pub bind_expr-returns-in_ok-high-in-Between : goal.bind_expr-returns-in_ok-high-in-Between
-bind_expr-returns-in_ok-high-in-Between g t c = c.made-in-Between.ensures _ (let w = ap (bound_expr (map (λ e. entry_of e) c.args.entries.now) c.args.reach) (ap expr_of c.in-Between.is) in search rules)
-
-pub bind_expr-returns-in_ok-values-in-In : goal.bind_expr-returns-in_ok-values-in-In
-bind_expr-returns-in_ok-values-in-In g t c = c.made-in-In.ensures _ (let w = ap (bound_expr (map (λ e. entry_of e) c.args.entries.now) c.args.reach) (ap expr_of c.in-In.is) in search rules)
-
-pub bind_expr-returns-in_ok-operand-in-IsNull : goal.bind_expr-returns-in_ok-operand-in-IsNull
-bind_expr-returns-in_ok-operand-in-IsNull g t c = c.made-in-IsNull.ensures _ (let w = ap (bound_expr (map (λ e. entry_of e) c.args.entries.now) c.args.reach) (ap expr_of c.in-IsNull.is) in search rules)
-
-pub bind_expr-returns-in_ok-operand-in-Not : goal.bind_expr-returns-in_ok-operand-in-Not
-bind_expr-returns-in_ok-operand-in-Not g t c = c.made-in-Not.ensures _ (let w = ap (bound_expr (map (λ e. entry_of e) c.args.entries.now) c.args.reach) (ap expr_of c.in-Not.is) in search rules)
-
-pub bind_expr-returns-in_ok-operand-in-Cast : goal.bind_expr-returns-in_ok-operand-in-Cast
-bind_expr-returns-in_ok-operand-in-Cast g t c = c.made-in-Cast.ensures _ (let w = ap (bound_expr (map (λ e. entry_of e) c.args.entries.now) c.args.reach) (ap expr_of c.in-Cast.is) in search rules)
-
-pub bind_expr-returns-in_ok-argument-in-Call : goal.bind_expr-returns-in_ok-argument-in-Call
-bind_expr-returns-in_ok-argument-in-Call g t c = c.made-in-Call.ensures _ (let w = ap (bound_expr (map (λ e. entry_of e) c.args.entries.now) c.args.reach) (ap expr_of c.in-Call.is) in search rules)
+pub bind_arms-loop-next-init : goal.bind_arms-loop-next-init
+bind_arms-loop-next-init g t c = record {
+  rest = ap (λ (all : List (BoundArm g.row.A.Denot)). bound_arms (map (λ e. entry_of e) c.args.entries.now) c.args.reach (map bound_arm_pair all) (arms_of c.args.arms.now)) c.new-all.ensures;
+  lighter = le_refl (arms_weight (arms_of c.args.arms.now));
+}

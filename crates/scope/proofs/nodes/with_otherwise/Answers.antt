@@ -2,7 +2,7 @@ use Rattle.std.proofs.Common.{Box, refl}
 use Rattle.expr.specs.View.{bound_expr_of}
 use Rattle.expr.specs.declared.bound.BoundExpr.{BoundExpr}
 use Rattle.scope.proofs.Binds.{some_made, otherwise_failed}
-use Rattle.scope.proofs.expressions.with_otherwise.Goals as goal
+use Rattle.scope.proofs.nodes.with_otherwise.Goals as goal
 
 pub returns-in-Ok-otherwise : goal.returns-in-Ok-otherwise
 returns-in-Ok-otherwise g c =

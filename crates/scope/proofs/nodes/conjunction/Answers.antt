@@ -1,6 +1,6 @@
 use Rattle.std.proofs.Common.{refl}
 use Rattle.scope.proofs.Binds.{and_made}
-use Rattle.scope.proofs.expressions.conjunction.Goals as goal
+use Rattle.scope.proofs.nodes.conjunction.Goals as goal
 
 pub returns-in-Ok : goal.returns-in-Ok
 returns-in-Ok g c = λ stated h. c.made.ensures _ (and_made c.args.offset c.in-Ok.members stated (rw c.in-Ok.is at h) _ refl)
