@@ -1,11 +1,16 @@
 //! What CREATE makes, from tokens.
 
 ghost use Rattle.std.specs.Prelude.{◌≡◌, map, option_map};
+ghost use Rattle.row_grammar.specs.Grammar.{both};
 ghost use Rattle.row_grammar.specs.Limits.{reads};
+ghost use Rattle.row_tokens.specs.declared.token.TokenKind.TheVariants as kinds;
 ghost use Rattle.row_tokens.specs.View.{word_of, words_of};
 ghost use Rattle.row_reader.specs.Expressions.{grammar};
+ghost use Rattle.row_reader.specs.Expressions as expressions;
+ghost use Rattle.row_reader.specs.Language.{after, enclosed, is};
 ghost use Rattle.row_reader.specs.Reading.{Parses};
 ghost use Rattle.row_creates.specs.Creates as rules;
+ghost use Rattle.row_ast.specs.Statements as statements;
 ghost use Rattle.row_ast.specs.View.{statement_of};
 ghost use Rattle.value.specs.Columns as columns;
 ghost use Rattle.value.specs.Columns.{column_of};
@@ -16,8 +21,10 @@ use memory::Heap;
 use row_ast::{CreatePolicy, Statement};
 use row_expressions::inner_expression;
 use row_reader::comma_list::comma_list;
-use row_reader::names::{name, names, type_name};
-use row_reader::reader::{Parsed, Parser, Reader, closed, expect, meant, open, present, sees};
+use row_reader::names::{name, name_after, names, type_name};
+use row_reader::reader::{
+    Parsed, Parser, Reader, before, closed, expect, meant, open, present, sees,
+};
 use row_tokens::{Token, TokenKind};
 use text::{Items, Text};
 use value::{ColType, Column};
@@ -126,16 +133,44 @@ fn column_defs<'t, A: Heap>(
     comma_list::<A, ColumnDefParser>(reader, tokens)
 }
 
+// `( columns )`.
+fn enclosed_columns<'t, A: Heap>(
+    reader: Reader<A>,
+    tokens: &'t [Token<'t>],
+) -> Parsed<'t, Items<Column<A>, A>>
+    ensures { Parses (λ t. map (λ c. column_of c) t) (enclosed rules.column_defs) reader tokens.now result }
+{
+    let (_, rest) = expect(TokenKind::Open, tokens)?;
+    closed(column_defs(reader, rest))
+}
+
 // `TABLE name ( columns )`.
 #[tactic(auto, unfolding(crate::specs::Creates::new_table))]
 fn new_table<'t, A: Heap>(reader: Reader<A>, tokens: &'t [Token<'t>]) -> Parsed<'t, Statement<A>>
     ensures { Parses (λ t. statement_of t) rules.new_table reader tokens.now result }
 {
-    let (_, rest) = expect(TokenKind::Table, tokens)?;
-    let (name, rest) = name(reader, rest)?;
-    let (_, rest) = expect(TokenKind::Open, rest)?;
-    let (columns, rest) = closed(column_defs(reader, rest))?;
+    let (name, rest) = name_after(TokenKind::Table, reader, tokens)?;
+    let ((name, columns), rest) = before(name, enclosed_columns(reader, rest))?;
     Ok((Statement::CreateTable { name, columns }, rest))
+}
+
+// `( name )`.
+fn enclosed_name<'t, A: Heap>(reader: Reader<A>, tokens: &'t [Token<'t>]) -> Parsed<'t, Text<A>>
+    ensures { Parses (λ t. t) (enclosed expressions.name) reader tokens.now result }
+{
+    let (_, rest) = expect(TokenKind::Open, tokens)?;
+    closed(name(reader, rest))
+}
+
+// `ON table ( column )`.
+fn on_column<'t, A: Heap>(
+    reader: Reader<A>,
+    tokens: &'t [Token<'t>],
+) -> Parsed<'t, (Text<A>, Text<A>)>
+    ensures { Parses (λ t. t) (after (is kinds.On) (both expressions.name (enclosed expressions.name))) reader tokens.now result }
+{
+    let (table, rest) = name_after(TokenKind::On, reader, tokens)?;
+    before(table, enclosed_name(reader, rest))
 }
 
 // `INDEX name ON table ( column )`.
@@ -143,14 +178,10 @@ fn new_table<'t, A: Heap>(reader: Reader<A>, tokens: &'t [Token<'t>]) -> Parsed<
 fn new_index<'t, A: Heap>(reader: Reader<A>, tokens: &'t [Token<'t>]) -> Parsed<'t, Statement<A>>
     ensures { Parses (λ t. statement_of t) rules.new_index reader tokens.now result }
 {
-    let (_, rest) = expect(TokenKind::Index, tokens)?;
-    let (index, rest) = name(reader, rest)?;
-    let (_, rest) = expect(TokenKind::On, rest)?;
-    let (table, rest) = name(reader, rest)?;
-    let (_, rest) = expect(TokenKind::Open, rest)?;
-    let (column, rest) = closed(name(reader, rest))?;
+    let (name, rest) = name_after(TokenKind::Index, reader, tokens)?;
+    let ((name, (table, column)), rest) = before(name, on_column(reader, rest))?;
     let index = Statement::CreateIndex {
-        name: index,
+        name,
         table,
         column,
     };
@@ -217,27 +248,63 @@ fn using<'t, A: Heap>(reader: Reader<A>, tokens: &'t [Token<'t>]) -> Parsed<'t, 
     closed(inner_expression(reader, rest))
 }
 
+// `[TO roles] USING ( condition )`.
+fn roles_using<'t, A: Heap>(
+    reader: Reader<A>,
+    tokens: &'t [Token<'t>],
+) -> Parsed<'t, (Items<Text<A>, A>, Located<A>)>
+    ensures { Parses (λ t. (t.0, located t.1)) (both rules.policy_roles rules.using) reader tokens.now result }
+{
+    let (roles, rest) = policy_roles(reader, tokens)?;
+    before(roles, using(reader, rest))
+}
+
+// What follows the table of a policy.
+type Terms<'t, A> = (bool, (Option<Token<'t>>, (Items<Text<A>, A>, Located<A>)));
+
+// `[AS ..] [FOR ..] [TO roles] USING ( condition )`.
+fn policy_terms<'t, A: Heap>(reader: Reader<A>, tokens: &'t [Token<'t>]) -> Parsed<'t, Terms<'t, A>>
+    ensures { Parses (λ t. (t.0, (option_map (λ w. word_of w) t.1.0, (t.1.1.0, located t.1.1.1)))) (both rules.strength (both rules.command (both rules.policy_roles rules.using))) reader tokens.now result }
+{
+    let (restrictive, rest) = strength(reader, tokens)?;
+    let (command, rest) = command(reader, rest)?;
+    let (further, rest) = roles_using(reader, rest)?;
+    Ok(((restrictive, (command, further)), rest))
+}
+
+// `ON table [AS ..] [FOR ..] [TO roles] USING ( condition )`.
+fn on_table<'t, A: Heap>(
+    reader: Reader<A>,
+    tokens: &'t [Token<'t>],
+) -> Parsed<'t, (Text<A>, Terms<'t, A>)>
+    ensures { Parses (λ t. (t.0, (t.1.0, (option_map (λ w. word_of w) t.1.1.0, (t.1.1.1.0, located t.1.1.1.1))))) (after (is kinds.On) (both expressions.name (both rules.strength (both rules.command (both rules.policy_roles rules.using))))) reader tokens.now result }
+{
+    let (table, rest) = name_after(TokenKind::On, reader, tokens)?;
+    before(table, policy_terms(reader, rest))
+}
+
+// The policy of its parts.
+fn policy_of<A: Heap>(name: Text<A>, table: Text<A>, terms: Terms<'_, A>) -> Statement<A>
+    ensures { statement_of result ≡ statements.CreatePolicy record { name = name; table = table; restrictive = terms.entry.0; roles = terms.entry.1.1.0; predicate = (located terms.entry.1.1.1).1 } }
+{
+    let (restrictive, (_, (roles, (_, predicate)))) = terms;
+    Statement::CreatePolicy(CreatePolicy {
+        name,
+        table,
+        restrictive,
+        roles,
+        predicate,
+    })
+}
+
 // `POLICY name ON table [AS ..] [FOR ..] [TO roles] USING ( condition )`.
 #[tactic(auto, unfolding(crate::specs::Creates::new_policy))]
 fn new_policy<'t, A: Heap>(reader: Reader<A>, tokens: &'t [Token<'t>]) -> Parsed<'t, Statement<A>>
     ensures { Parses (λ t. statement_of t) rules.new_policy reader tokens.now result }
 {
-    let (_, rest) = expect(TokenKind::Policy, tokens)?;
-    let (policy, rest) = name(reader, rest)?;
-    let (_, rest) = expect(TokenKind::On, rest)?;
-    let (table, rest) = name(reader, rest)?;
-    let (restrictive, rest) = strength(reader, rest)?;
-    let (_, rest) = command(reader, rest)?;
-    let (roles, rest) = policy_roles(reader, rest)?;
-    let ((_, predicate), rest) = using(reader, rest)?;
-    let policy = CreatePolicy {
-        name: policy,
-        table,
-        restrictive,
-        roles,
-        predicate,
-    };
-    Ok((Statement::CreatePolicy(policy), rest))
+    let (name, rest) = name_after(TokenKind::Policy, reader, tokens)?;
+    let ((name, (table, terms)), rest) = before(name, on_table(reader, rest))?;
+    Ok((policy_of(name, table, terms), rest))
 }
 
 /// `CREATE` and a role, a table, an index or a policy.

@@ -38,9 +38,12 @@ abbrev pub altered : Name → Alteration → Statement
 altered table (new_owner role) = SetOwner table role
 altered table (new_security to) = SetRowSecurity table to
 
+unfoldable pub alteration : Rule Alteration
+alteration = either (made new_owner owner) (made new_security security)
+
 -- ALTER TABLE t and a new owner, or row security
 unfoldable pub alter : Rule Statement
-alter = made (λ p. altered p.0 p.1) (after (is k.Alter) (after (is k.Table) (both name (either (made new_owner owner) (made new_security security)))))
+alter = made (λ p. altered p.0 p.1) (after (is k.Alter) (after (is k.Table) (both name alteration)))
 
 -- ---- GRANT and REVOKE
 

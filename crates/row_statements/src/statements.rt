@@ -2,6 +2,7 @@
 
 ghost use Rattle.std.specs.Prelude.{◌≡◌, map};
 ghost use Rattle.row_grammar.specs.Decoder.{head_in, first};
+ghost use Rattle.row_grammar.specs.Grammar.{made};
 ghost use Rattle.row_grammar.specs.Limits.{reads};
 ghost use Rattle.row_tokens.specs.View.{words_of};
 ghost use Rattle.row_reader.specs.Expressions.{grammar, nested_first};
@@ -60,21 +61,33 @@ fn security<'t, A: Heap>(reader: Reader<A>, tokens: &'t [Token<'t>]) -> Parsed<'
     meant(TokenKind::Security, setting, rest)
 }
 
+// `OWNER TO name`, or row security, of this table.
+#[tactic(auto, unfolding(crate::specs::Schemas::alteration, crate::specs::Schemas::owner))]
+fn altered<'t, A: Heap>(
+    table: Text<A>,
+    reader: Reader<A>,
+    tokens: &'t [Token<'t>],
+) -> Parsed<'t, Statement<A>>
+    ensures { Parses (λ t. statement_of t) (made (rules.altered table) rules.alteration) reader tokens.now result }
+{
+    if sees(TokenKind::Owner, tokens) {
+        let (owner, rest) = owner(reader, tokens)?;
+        Ok((Statement::SetOwner { table, owner }, rest))
+    } else {
+        let (setting, rest) = security(reader, tokens)?;
+        Ok((Statement::SetRowSecurity { table, setting }, rest))
+    }
+}
+
 // `ALTER TABLE name` and a new owner, or row security.
-#[tactic(auto, unfolding(crate::specs::Schemas::alter, crate::specs::Schemas::owner))]
+#[tactic(auto, unfolding(crate::specs::Schemas::alter))]
 fn alter<'t, A: Heap>(reader: Reader<A>, tokens: &'t [Token<'t>]) -> Parsed<'t, Statement<A>>
     ensures { Parses (λ t. statement_of t) rules.alter reader tokens.now result }
 {
     let (_, rest) = expect(TokenKind::Alter, tokens)?;
     let (_, rest) = expect(TokenKind::Table, rest)?;
     let (table, rest) = name(reader, rest)?;
-    if sees(TokenKind::Owner, rest) {
-        let (owner, rest) = owner(reader, rest)?;
-        Ok((Statement::SetOwner { table, owner }, rest))
-    } else {
-        let (setting, rest) = security(reader, rest)?;
-        Ok((Statement::SetRowSecurity { table, setting }, rest))
-    }
+    altered(table, reader, rest)
 }
 
 // `[( columns )]`.
@@ -196,7 +209,7 @@ fn drop_policy<'t, A: Heap>(reader: Reader<A>, tokens: &'t [Token<'t>]) -> Parse
 }
 
 /// One of these statements.
-#[tactic(auto, unfolding(crate::specs::Schemas::statement, row_creates::specs::Creates::create, crate::specs::Schemas::alter, crate::specs::Schemas::grant, crate::specs::Schemas::revoke))]
+#[tactic(auto, unfolding(crate::specs::Schemas::statement, row_creates::specs::Creates::create, crate::specs::Schemas::alter, crate::specs::Schemas::alteration, crate::specs::Schemas::grant, crate::specs::Schemas::revoke))]
 pub fn statement<'t, A: Heap>(
     reader: Reader<A>,
     tokens: &'t [Token<'t>],
@@ -229,7 +242,7 @@ fn ended_statement<'t, A: Heap>(
 }
 
 // Whether a statement comes next.
-#[tactic(auto, unfolding(crate::specs::Schemas::ended_statement, crate::specs::Schemas::statement, row_creates::specs::Creates::create, crate::specs::Schemas::alter, crate::specs::Schemas::grant, crate::specs::Schemas::revoke, crate::specs::Schemas::drop))]
+#[tactic(auto, unfolding(crate::specs::Schemas::ended_statement, crate::specs::Schemas::statement, row_creates::specs::Creates::create, crate::specs::Schemas::alter, crate::specs::Schemas::alteration, crate::specs::Schemas::grant, crate::specs::Schemas::revoke, crate::specs::Schemas::drop))]
 fn sees_statement(tokens: &[Token<'_>]) -> bool
     ensures { result ≡ head_in kind_of (first language nested_first rules.ended_statement) (words_of tokens.now) }
 {

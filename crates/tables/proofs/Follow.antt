@@ -1,20 +1,23 @@
 -- What was read follows from the records.
-use Rattle.std.proofs.Common.{ℕ, zero, suc, ◌≡◌, ◌≢◌, ◌+◌, ◌-◌, ◌<◌, ◌≤◌, ◌^◌, Bool, true, false, List, [], ◌∷◌, ◌++◌, length, take, Option, Some, None, Result, Ok, Err, IfSome, refl, sym, ap, ◌∙◌, arith, rules, length-append, subst, Vec}
+use Rattle.std.proofs.Common.{ℕ, zero, suc, ◌≡◌, ◌≢◌, ◌+◌, ◌-◌, ◌<◌, ◌≤◌, ◌^◌, Bool, true, false, List, [], ◌∷◌, ◌++◌, length, take, Option, Some, None, Result, Ok, Err, IfSome, All, map, refl, sym, ap, ◌∙◌, arith, rules, length-append, subst, Vec}
+use Rattle.std.proofs.lemmas.List.{length-map, map-append}
+use Rattle.std.proofs.lemmas.List.Elements.{All-push}
 use Rattle.std.specs.Option.{unwrap_or}
-use Rattle.std.specs.Prelude.{IsErrOf, MatchOption}
+use Rattle.std.specs.Prelude.{IsErrAnd, IsErrOf, MatchOption}
 use Rattle.csv_records.specs.Left.{Left, counted, failure_after, Fits_length, NextIsUneven, TakesFirst, TakesNext}
 use Rattle.memory.specs.declared.failure.Failure.{Failure}
 use Rattle.memory.specs.declared.failure.Failure.TheVariants.{Fault, OutOfMemory}
-use Rattle.memory.specs.Gives.{Gives}
+use Rattle.memory.specs.Gives.{Gives, IsFailure}
 use Rattle.csv_records.specs.declared.RecordError.{RecordError}
 use Rattle.csv_records.specs.declared.RecordError.TheVariants as why
 use Rattle.value.specs.declared.types.Value.{Value}
-use Rattle.value.specs.Datum.{Row}
+use Rattle.value.specs.Datum.{Row, row_of}
+use Rattle.value.specs.declared.column.Column as declared
 use Rattle.tables.specs.declared.LoadError.{LoadError}
 use Rattle.tables.specs.declared.LoadError.TheVariants as error
 use Rattle.tables.specs.Loading.{Fields, Follows, StopsAfterGood, appended, cells_of, is_fault, load_of, names, reported, rows_data, rows_of}
-use Rattle.value.specs.Columns.{Column}
-use Rattle.tables.specs.Reading.{AreKnown, HeaderIs, LoadFollows, Refuses, RowsFollow}
+use Rattle.value.specs.Columns.{Column, column_of}
+use Rattle.tables.specs.Reading.{AddsRow, AreKnown, HeaderIs, LoadFollows, Refuses, RowsFollow, filled}
 use Rattle.tables.proofs.Records.{Leaves, cell_fault, leaves_all, leaves_none, leaves_one_less, leaves_other, leaves_some, one_more_row, rows_of-nil, take-seen, too_many, uneven_fault}
 
 -- so many records were seen, and they gave these rows; of the records that are known, the others are left
@@ -26,7 +29,7 @@ fits_length None n m h e = cc e
 fits_length (Some k) n m h e = cc (h, e)
 
 -- a record that was read has the expected number of fields
-pub width : (cols : ℕ) (old new : Left) (r : Fields) → TakesNext old new true r → old.expected ≡ Some cols → (length r ≡ cols) × (new.expected ≡ Some cols)
+width : (cols : ℕ) (old new : Left) (r : Fields) → TakesNext old new true r → old.expected ≡ Some cols → (length r ≡ cols) × (new.expected ≡ Some cols)
 width cols old new r (gives, fits) expected = let n = fits_length old.expected _ _ (fits refl).0 expected in (n, (fits refl).1 ∙ ap Some n)
 
 pub known_are : (known : Option (List Fields)) → AreKnown known (unwrap_or known [])
@@ -38,7 +41,7 @@ pub start_seen : (cols : List Column) (room : ℕ) (known : Option (List Fields)
 start_seen cols room known = ([], refl, rows_of-nil cols room 1, leaves_all known)
 
 -- one more row was read
-pub one_more_seen : (cols : List Column) (room done : ℕ) (rows : List Row) (values : Row) (known : Option (List Fields)) (old new : Left) (r : Fields) → done < room
+one_more_seen : (cols : List Column) (room done : ℕ) (rows : List Row) (values : Row) (known : Option (List Fields)) (old new : Left) (r : Fields) → done < room
     → SeenRows cols room done rows known old.records → TakesNext old new true r → old.expected ≡ Some (length cols) → cells_of cols (done + 1) 0 r ≡ Ok values
     → SeenRows cols room (done + 1) (rows ++ values ∷ []) known new.records
 one_more_seen cols room done rows values known old new r lt (seen, len, was, leaves) gives expected cells = (
@@ -49,17 +52,17 @@ one_more_seen cols room done rows values known old new r lt (seen, len, was, lea
 )
 
 -- there are no more records
-pub all_seen : {A : Type 0} (cols : List Column) (room done : ℕ) (rows : Vec (List (Value A)) A) (known : Option (List Fields)) (old new : Left) (r : Fields)
+all_seen : {A : Type 0} (cols : List Column) (room done : ℕ) (rows : Vec (List (Value A)) A) (known : Option (List Fields)) (old new : Left) (r : Fields)
     → SeenRows cols room done (rows_data rows.items) known old.records → TakesNext old new false r → new.given ≡ counted false old.given → old.given ≡ done + 1 → RowsFollow cols room known new (Ok rows)
 all_seen cols room done rows known old new r (seen, len, was, leaves) gives counts before =
     (seen, leaves_none known seen old.records new.records r leaves gives.0, was, omega (arith, len, counts, before), tt)
 
 -- memory ran out
-pub out_of_memory : (A : Type 0) (cols : List Column) (room : ℕ) (known : Option (List Fields)) (new : Left) (e : Failure LoadError) → e ≡ OutOfMemory → RowsFollow {A = A} cols room known new (Err e)
+out_of_memory : (A : Type 0) (cols : List Column) (room : ℕ) (known : Option (List Fields)) (new : Left) (e : Failure LoadError) → e ≡ OutOfMemory → RowsFollow {A = A} cols room known new (Err e)
 out_of_memory A cols room known new e is = rw is (unwrap_or known [], known_are known, tt, tt, λ row same. cc same)
 
 -- a cell of the next record is refused
-pub row_refused : (A : Type 0) {X : Type 0} (view : X → Row) (cols : List Column) (room done : ℕ) (rows : List Row) (known : Option (List Fields)) (old new : Left) (r : Fields) (e : Failure LoadError) → done < room
+row_refused : (A : Type 0) {X : Type 0} (view : X → Row) (cols : List Column) (room done : ℕ) (rows : List Row) (known : Option (List Fields)) (old new : Left) (r : Fields) (e : Failure LoadError) → done < room
     → SeenRows cols room done rows known old.records → TakesNext old new true r → old.expected ≡ Some (length cols)
     → Gives view (Err e) (cells_of cols (done + 1) 0 r) → ((row : ℕ) → e ≢ Fault (error.Reader row)) → RowsFollow {A = A} cols room known new (Err e)
 row_refused A view cols room done rows known old new r OutOfMemory lt seen gives expected cells other = out_of_memory A cols room known new OutOfMemory refl
@@ -74,7 +77,7 @@ row_refused A view cols room done rows known old new r (Fault e) lt (seen, len, 
     )
 
 -- there is no room for the next record
-pub no_room_left : (A : Type 0) (cols : List Column) (room done : ℕ) (rows : List Row) (known : Option (List Fields)) (old new : Left) (r : Fields) → done ≡ room
+no_room_left : (A : Type 0) (cols : List Column) (room done : ℕ) (rows : List Row) (known : Option (List Fields)) (old new : Left) (r : Fields) → done ≡ room
     → SeenRows cols room done rows known old.records → TakesNext old new true r → old.expected ≡ Some (length cols) → RowsFollow {A = A} cols room known new (Err (Fault error.TooMany))
 no_room_left A cols room done rows known old new r same (seen, len, was, leaves) gives expected =
     let rest = leaves_some known (seen ++ r ∷ []) new.records (leaves_one_less known seen old.records new.records r leaves gives.0) in
@@ -120,12 +123,72 @@ unread row old new (Fault why.Failed) keeps uneven = rw keeps refl
 unread row old new OutOfMemory keeps uneven = rw keeps refl
 
 -- the next record was not read
-pub refused : (A : Type 0) (cols : List Column) (room done : ℕ) (rows : List Row) (known : Option (List Fields)) (old new : Left) (e : Failure LoadError) → done ≤ room
+refused : (A : Type 0) (cols : List Column) (room done : ℕ) (rows : List Row) (known : Option (List Fields)) (old new : Left) (e : Failure LoadError) → done ≤ room
     → SeenRows cols room done rows known old.records → old.expected ≡ Some (length cols) → Refuses (done + 1) old new e → RowsFollow {A = A} cols room known new (Err e)
 refused A cols room done rows known old new e le seen expected refuses = by_failure new.failure refl refuses where
   by_failure : (failure : Option (Failure RecordError)) → new.failure ≡ failure → MatchOption failure ((e ≡ Fault (error.Reader (done + 1))) × NextIsUneven old) (λ why. e ≡ reported why (done + 1)) → RowsFollow {A = A} cols room known new (Err e)
   by_failure None none (is, uneven) = rw is (uneven_row A cols room done rows known old new le seen expected uneven)
   by_failure (Some why) failed is = failed_row A cols room done rows known old.records new why failed seen e is
+
+-- ---- while rows are added, of so many columns
+
+as_many : {A : Type 0} (columns : List (declared.Column A)) (old : Left) → old.expected ≡ Some (length columns) → old.expected ≡ Some (length (map column_of columns))
+as_many columns old expected = expected ∙ ap Some (sym (length-map columns column_of))
+
+found_is : (found : Bool) (b : Bool) (old new : Left) (r : Fields) → found ≡ b → TakesNext old new found r → TakesNext old new b r
+found_is found b old new r is gives = subst (λ (x : Bool). TakesNext old new x r) is gives
+
+exit_rows : {A : Type 0} (cols : List Column) (room : ℕ) (known : Option (List Fields)) (new : Left) (rows : Vec (List (Value A)) A) (r : Result (Unit {0}) (Failure LoadError)) (f : Failure LoadError)
+    → IsErrAnd r (λ e. e ≡ f) → RowsFollow {A = A} cols room known new (Err f) → RowsFollow cols room known new (filled rows r)
+exit_rows cols room known new rows (Ok u) f is follows = absurd is
+exit_rows cols room known new rows (Err e) f is follows = rw is follows
+
+module _ {A : Type 0} (columns : List (declared.Column A)) (room done : ℕ) (rows : Vec (List (Value A)) A) (known : Option (List Fields)) (old : Left)
+    (seen : SeenRows (map column_of columns) room done (rows_data rows.items) known old.records) (expected : old.expected ≡ Some (length columns)) where
+  -- the next record was not read
+  pub exit_next : (new : Left) (filling : Vec (List (Value A)) A) (row : ℕ) (e : Failure LoadError) (r : Result (Unit {0}) (Failure LoadError)) → done ≤ room → row ≡ done + 1 → Refuses row old new e → IsErrAnd r (λ y. y ≡ e)
+      → RowsFollow (map column_of columns) room known new (filled filling r)
+  exit_next new filling row e r le at refuses is =
+      exit_rows (map column_of columns) room known new filling r e is
+      (refused A (map column_of columns) room done (rows_data rows.items) known old new e le seen (as_many columns old expected) (subst (λ (n : ℕ). Refuses n old new e) at refuses))
+
+  -- a cell of the next record is refused, or memory ran out
+  pub exit_row : (new : Left) (filling : Vec (List (Value A)) A) (fs : Fields) (found : Bool) (e : Failure LoadError) (r : Result (Unit {0}) (Failure LoadError)) → done < room → TakesNext old new found fs → found ≡ true
+      → IsFailure e (cells_of (map column_of columns) (done + 1) 0 fs) → ((row : ℕ) → e ≢ Fault (error.Reader row)) → IsErrAnd r (λ y. y ≡ e) → RowsFollow (map column_of columns) room known new (filled filling r)
+  exit_row new filling fs found e r lt gives is_found fails other is =
+      exit_rows (map column_of columns) room known new filling r e is
+      (row_refused A (λ (x : Row). x) (map column_of columns) room done (rows_data rows.items) known old new fs e lt seen (found_is found true old new fs is_found gives) (as_many columns old expected) fails other)
+
+  -- there is no room for the next record
+  pub exit_room : (new : Left) (fs : Fields) (found : Bool) → done ≤ room → room ≤ done → TakesNext old new found fs → found ≡ true → RowsFollow {A = A} (map column_of columns) room known new (Err (Fault error.TooMany))
+  exit_room new fs found le ge gives is_found =
+      no_room_left A (map column_of columns) room done (rows_data rows.items) known old new fs (omega (arith, le, ge)) seen (found_is found true old new fs is_found gives) (as_many columns old expected)
+
+  -- there are no more records
+  pub exit_end : (new : Left) (fs : Fields) (found : Bool) → TakesNext old new found fs → found ≡ false → new.given ≡ counted found old.given → old.given ≡ done + 1 → RowsFollow (map column_of columns) room known new (Ok rows)
+  exit_end new fs found gives is_found counts before =
+      all_seen (map column_of columns) room done rows known old new fs seen (found_is found false old new fs is_found gives) (counts ∙ ap (λ (b : Bool). counted b old.given) is_found) before
+
+  -- one more row was added
+  module _ (new : Left) (fs : Fields) (found : Bool) (is_found : found ≡ true) (lt : done < room) (gives : TakesNext old new found fs) where
+    pub next_width : length fs ≡ length columns
+    next_width = (width (length columns) old new fs (found_is found true old new fs is_found gives) expected).0
+
+    pub next_expected : new.expected ≡ Some (length columns)
+    next_expected = (width (length columns) old new fs (found_is found true old new fs is_found gives) expected).1
+
+    pub next_seen : (items : List (List (Value A))) → AddsRow (map column_of columns) (done + 1) fs rows.items items → SeenRows (map column_of columns) room (done + 1) (rows_data items) known new.records
+    next_seen items (values, all, wide, cells) =
+        let grown : rows_data items ≡ rows_data rows.items ++ row_of values ∷ [] = ap rows_data all ∙ map-append (λ r. row_of r) rows.items (values ∷ []) in
+        rw grown (one_more_seen (map column_of columns) room done (rows_data rows.items) (row_of values) known old new fs lt seen (found_is found true old new fs is_found gives) (as_many columns old expected) cells)
+
+-- one more row was added
+pub one_more_wide : {A : Type 0} (columns : List (declared.Column A)) (row : ℕ) (fs : Fields) (items new : List (List (Value A))) → All (λ r. length r ≡ length columns) items → AddsRow (map column_of columns) row fs items new
+    → All (λ r. length r ≡ length columns) new
+one_more_wide columns row fs items new wide (values, all, long, cells) = rw all (All-push (λ r. length r ≡ length columns) items values wide (long ∙ length-map columns column_of))
+
+pub one_more_counted : {A : Type 0} (cols : List Column) (row done : ℕ) (fs : Fields) (items new : List (List (Value A))) → length items ≡ done → AddsRow cols row fs items new → length new ≡ done + 1
+one_more_counted cols row done fs items new count (values, all, long, cells) = omega (arith, ap length all, length-append items (values ∷ []), count)
 
 -- ---- with the header
 
@@ -175,6 +238,22 @@ refuses_unread Y row given old new e same refuses = by_failure new.failure refus
   by_failure : (failure : Option (Failure RecordError)) → MatchOption failure ((e ≡ Fault (error.Reader row)) × NextIsUneven old) (λ why. e ≡ reported why row) → IfSome failure (λ why. IsErrOf {T = Y} (Err e) (reported why given))
   by_failure None h = tt
   by_failure (Some why) is = ap Err (rw same is)
+
+-- the exit of a `?` where a read may have failed
+pub exit_failed : {T : Type 0} (U : Type 0) (failure : Option (Failure RecordError)) (given : ℕ) (r : Result T (Failure LoadError)) (f : Failure LoadError) → IsErrAnd r (λ e. e ≡ f)
+    → IfSome failure (λ why. IsErrOf {T = U} (Err f) (reported why given)) → IfSome failure (λ why. IsErrOf r (reported why given))
+exit_failed U None given r f is failed = tt
+exit_failed U (Some why) given (Ok x) f is failed = absurd is
+exit_failed U (Some why) given (Err e) f is failed = let same : f ≡ reported why given = cc failed in ap Err (is ∙ same)
+
+-- of rows that were read no read failed
+pub not_failed : {T U : Type 0} (t : T) (r : Result U (Failure LoadError)) (failure : Option (Failure RecordError)) (given : ℕ) → IfSome failure (λ why. IsErrOf (Ok t) (reported why given)) → IfSome failure (λ why. IsErrOf r (reported why given))
+not_failed t r None given h = tt
+not_failed t r (Some why) given h = cc h
+
+-- no read failed
+pub none_failed : {T : Type 0} (failure : Option (Failure RecordError)) (given : ℕ) (r : Result T (Failure LoadError)) → failure ≡ None → IfSome failure (λ why. IsErrOf r (reported why given))
+none_failed failure given r none = rw none tt
 
 -- one more record was given, and there is room for its number
 pub counted_one : (done room : ℕ) (old new : ℕ) (found : Bool) → done < room → room < 2 ^ 64 - 1 → found ≡ true → new ≡ counted found old → old ≡ done + 1 → new ≡ done + 1 + 1

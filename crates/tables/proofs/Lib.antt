@@ -6,3 +6,4 @@ pub mod Wide
 pub mod Follow
 pub mod NullText
 pub mod Bytes
+pub mod Appends

@@ -66,7 +66,7 @@ abbrev pub after : {X : Type 0} → List X → Result (List X) LoadError → Res
 after xs (Ok ys) = Ok (xs ++ ys)
 after xs (Err e) = Err e
 
-after-nil : {X : Type 0} (r : Result (List X) LoadError) → after [] r ≡ r
+pub after-nil : {X : Type 0} (r : Result (List X) LoadError) → after [] r ≡ r
 after-nil (Ok ys) = refl
 after-nil (Err e) = refl
 

@@ -1,13 +1,13 @@
 -- How a text is read, record by record.
-use Rattle.std.specs.Prelude.{ℕ, ◌+◌, ◌-◌, ◌≤◌, ◌≡◌, true, List, [], length, take, Option, Some, None, MatchOption, unwrap_or, Result, Ok, Err, IfErr, OnOk, ⊤, Vec}
+use Rattle.std.specs.Prelude.{ℕ, ◌+◌, ◌-◌, ◌≤◌, ◌≡◌, true, List, [], ◌∷◌, ◌++◌, length, take, Option, Some, None, MatchOption, unwrap_or, Result, Ok, Err, IfErr, OnOk, ⊤, Vec}
 use Rattle.csv_records.specs.Left.{Left, NextIsUneven, TakesFirst}
 use Rattle.value.specs.declared.types.Value.{Value}
-use Rattle.value.specs.Datum.{Row}
+use Rattle.value.specs.Datum.{Row, row_of}
 use Rattle.memory.specs.declared.failure.Failure.{Failure}
 use Rattle.memory.specs.declared.failure.Failure.TheVariants.{Fault, OutOfMemory}
 use Rattle.tables.specs.declared.LoadError.{LoadError}
 use Rattle.tables.specs.declared.LoadError.TheVariants as error
-use Rattle.tables.specs.Loading.{Fields, Follows, StopsAfterGood, is_fault, load_of, names, reported, rows_data, rows_of}
+use Rattle.tables.specs.Loading.{Fields, Follows, StopsAfterGood, cells_of, is_fault, load_of, names, reported, rows_data, rows_of}
 use Rattle.value.specs.Columns.{Column}
 
 -- the records are those that are known, if they are
@@ -25,6 +25,15 @@ HeaderIs cols old new (Ok u) = (h : Fields) × (names cols h ≡ true) × TakesF
 HeaderIs cols old new (Err OutOfMemory) = ⊤
 HeaderIs cols old new (Err (Fault e)) = (is_fault new.failure e ≡ true → (room : ℕ) → load_of cols room (unwrap_or old.records []) ≡ Err e)
     × ((row : ℕ) → e ≡ error.Reader row → row ≡ 0)
+
+-- the row that the fields spell was added
+abbrev pub AddsRow : {A : Type 0} → List Column → ℕ → Fields → List (List (Value A)) → List (List (Value A)) → Type 0
+AddsRow {A} cols row fs old new = (values : List (Value A)) × (new ≡ old ++ values ∷ []) × (length values ≡ length cols) × (cells_of cols row 0 fs ≡ Ok (row_of values))
+
+-- what was filled, where the result is ok
+abbrev pub filled : {X Y E : Type 0} → Y → Result X E → Result Y E
+filled y (Ok x) = Ok y
+filled y (Err e) = Err e
 
 -- the rows after the header are those of some records, which are those that are known, or the fault is theirs
 abbrev pub RowsFollow : {A : Type 0} → List Column → ℕ → Option (List Fields) → Left → Result (Vec (List (Value A)) A) (Failure LoadError) → Type 0

@@ -1,14 +1,14 @@
 //! Rows from records.
 
-ghost use Rattle.std.specs.Prelude.{◌≡◌, ◌≢◌, ◌+◌, ◌-◌, ◌<◌, ◌≤◌, ◌^◌, ℕ, length, map, true, None, Some, All, IfOk, IfErr, IfSome, IsErrOf, OnErr, OnOk};
+ghost use Rattle.std.specs.Prelude.{◌≡◌, ◌≢◌, ◌+◌, ◌-◌, ◌<◌, ◌≤◌, ◌^◌, ℕ, [], length, map, true, None, Some, All, IfOk, IfErr, IfSome, IsErrOf, OnErr, OnOk};
 ghost use Rattle.csv.specs.Records.{fields_of};
-ghost use Rattle.memory.specs.Gives.{Gives};
+ghost use Rattle.memory.specs.Gives.{Gives, IsFailure};
 ghost use Rattle.memory.specs.declared.failure.Failure.TheVariants.{Fault};
 ghost use Rattle.csv_records.specs.Left.{TakesNext, counted};
 ghost use Rattle.value.specs.Datum.{datum, row_of};
 ghost use Rattle.tables.specs.Loading.{cell_of, cells_of, names, reported};
 ghost use Rattle.value.specs.Columns.{column_of};
-ghost use Rattle.tables.specs.Reading.{HeaderIs, LoadFollows, Refuses, RowsFollow};
+ghost use Rattle.tables.specs.Reading.{AddsRow, HeaderIs, LoadFollows, Refuses, RowsFollow, filled};
 ghost use Rattle.tables.specs.declared.LoadError.TheVariants.{Reader};
 
 use crate::LoadError;
@@ -47,26 +47,46 @@ fn read_cell<A: Heap>(
     }
 }
 
-// The values of a row.
-fn read_row<A: Heap>(
+// Adds the values of a row.
+fn add_cells<A: Heap>(
     alloc: A,
     columns: &[Column<A>],
     cells: &ByteRecord,
     row: u64,
-) -> Result<Items<Value<A>, A>, Failure<LoadError>>
-    requires { length (fields_of cells.now) ≡ length columns.now }
-    ensures wide { IfOk result (λ values. length values ≡ length columns.now) }
-    ensures cells { Gives (λ values. row_of values) result (cells_of (map column_of columns.now) row 0 (fields_of cells.now)) }
+    values: &mut Vec<Value<A>, A>,
+) -> Result<(), Failure<LoadError>>
+    requires none { values.old.items ≡ [] }
+    requires wide { length (fields_of cells.now) ≡ length columns.now }
+    ensures wide { OnOk result (length values.new.items ≡ length columns.now) }
+    ensures cells { Gives (λ _. row_of values.new.items) result (cells_of (map column_of columns.now) row 0 (fields_of cells.now)) }
     ensures no_reader { IfErr result (λ e. (r : ℕ) → e ≢ Fault (Reader r)) }
 {
-    let mut values = Vec::with_capacity(alloc, columns.len())?;
     for (i, column) in columns.iter().enumerate() {
         let Some(field) = cells.get(i) else {
             return Err(Failure::Fault(LoadError::Reader { row }));
         };
         values.push(read_cell(alloc, column, field, row, i as u64)?)?;
     }
-    Ok(Items::from(values))
+    Ok(())
+}
+
+// Adds a row.
+fn add_row<A: Heap>(
+    alloc: A,
+    columns: &[Column<A>],
+    cells: &ByteRecord,
+    row: u64,
+    rows: &mut Vec<Items<Value<A>, A>, A>,
+) -> Result<(), Failure<LoadError>>
+    requires { length (fields_of cells.now) ≡ length columns.now }
+    ensures row { OnOk result (AddsRow (map column_of columns.now) row (fields_of cells.now) rows.old.items rows.new.items) }
+    ensures refused { IfErr result (λ e. IsFailure e (cells_of (map column_of columns.now) row 0 (fields_of cells.now))) }
+    ensures no_reader { IfErr result (λ e. (r : ℕ) → e ≢ Fault (Reader r)) }
+{
+    let mut values = Vec::with_capacity(alloc, columns.len())?;
+    add_cells(alloc, columns, cells, row, &mut values)?;
+    rows.push(Items::from(values))?;
+    Ok(())
 }
 
 // The error that is reported where the record of a row was not read.
@@ -97,6 +117,38 @@ fn next_record<R: Read>(
     }
 }
 
+// Adds the rows of the records that are left, where there is room for so many; `cells` holds the fields of one at a time.
+fn add_rows<A: Heap, R: Read>(
+    alloc: A,
+    columns: &[Column<A>],
+    records: &mut Records<R>,
+    room: u64,
+    cells: &mut ByteRecord,
+    rows: &mut Vec<Items<Value<A>, A>, A>,
+) -> Result<(), Failure<LoadError>>
+    requires none { rows.old.items ≡ [] }
+    requires expected { records.old.expected ≡ Some (length columns.now) }
+    requires given { records.old.given ≡ 1 }
+    requires fresh { records.old.failure ≡ None }
+    requires room { room < 2 ^ 64 - 1 }
+    ensures wide { OnOk result (All (λ r. length r ≡ length columns.now) rows.new.items) }
+    ensures few { OnOk result (length rows.new.items ≤ room) }
+    ensures failed { IfSome records.new.failure (λ why. IsErrOf result (reported why records.new.given)) }
+    ensures rows { RowsFollow (map column_of columns.now) room records.old.records records.new (filled rows.new result) }
+{
+    for done in 0..room {
+        let row = done + 1;
+        if !next_record(records, cells, row)? {
+            return Ok(());
+        }
+        add_row(alloc, columns, cells, row, rows)?;
+    }
+    if next_record(records, cells, room + 1)? {
+        return Err(Failure::Fault(LoadError::TooMany));
+    }
+    Ok(())
+}
+
 // The rows of the records that are left, where there is room for so many.
 fn read_rows<A: Heap, R: Read>(
     alloc: A,
@@ -115,16 +167,7 @@ fn read_rows<A: Heap, R: Read>(
 {
     let mut rows = Vec::new(alloc);
     let mut cells = ByteRecord::new(alloc.global());
-    for done in 0..room {
-        let row = done + 1;
-        if !next_record(records, &mut cells, row)? {
-            return Ok(rows);
-        }
-        rows.push(read_row(alloc, columns, &cells, row)?)?;
-    }
-    if next_record(records, &mut cells, room + 1)? {
-        return Err(Failure::Fault(LoadError::TooMany));
-    }
+    add_rows(alloc, columns, records, room, &mut cells, &mut rows)?;
     Ok(rows)
 }
 

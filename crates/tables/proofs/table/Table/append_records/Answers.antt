@@ -1,100 +1,108 @@
-use Rattle.std.proofs.Common.{rules, arith, Option, Some, None, Result, Ok, Err, IfSome, ◌≡◌, ◌∙◌, ap, ℕ, ◌-◌, true, false, length, map, refl}
-use Rattle.std.proofs.lemmas.List.{length-append, length-map, map-append}
-use Rattle.std.proofs.lemmas.List.Elements.{All-append}
-use Rattle.std.proofs.lemmas.Result.{err_from_is_err_and}
-use Rattle.std.specs.Result.{is_ok}
-use Rattle.std.specs.Prelude.{IsErrOf}
-use Rattle.csv_records.specs.declared.RecordError.{RecordError}
-use Rattle.memory.specs.declared.failure.Failure.{Failure}
-use Rattle.tables.specs.declared.LoadError.{LoadError}
-use Rattle.tables.specs.declared.TheConstants.{MAX_ROWS}
-use Rattle.tables.specs.Loading.{reported, rows_data}
+use Rattle.std.proofs.Common.{◌∙◌, ◌-◌, List, length, map, ap, refl}
 use Rattle.value.specs.Columns.{column_of}
-use Rattle.tables.proofs.Follow.{fault_of_known, fault_of_some, rows_of_known, rows_of_some, same_load, stops_of_known}
+use Rattle.tables.specs.declared.TheConstants.{MAX_ROWS}
+use Rattle.tables.specs.Loading.{Fields, appended, load_of, rows_data}
+use Rattle.tables.proofs.Follow.{exit_failed, not_failed}
+use Rattle.tables.proofs.Appends.{at_err, columns_are, count_is, count_within, loaded_known, loaded_some, memory_known, memory_some, memory_stops, more_held, no_stop, refused_known, refused_some, refused_stops, room_fits, rows_are, same_table, still_held}
 use Rattle.tables.proofs.table.Table.append_records.Goals as goal
 
-failed_too : (T U : Type 0) (e : Failure LoadError) (failure : Option (Failure RecordError)) (given : ℕ) → IfSome failure (λ why. IsErrOf {T = T} (Err e) (reported why given)) → IfSome failure (λ why. IsErrOf {T = U} (Err e) (reported why given))
-failed_too T U e None given h = tt
-failed_too T U e (Some why) given h = let same : e ≡ reported why given = cc h in ap Err same
-
-not_failed : {T U : Type 0} (t : T) (r : Result U (Failure LoadError)) (failure : Option (Failure RecordError)) (given : ℕ) → IfSome failure (λ why. IsErrOf (Ok t) (reported why given)) → IfSome failure (λ why. IsErrOf r (reported why given))
-not_failed t r None given h = tt
-not_failed t r (Some why) given h = cc h
-
-pub returns-in_err-rows-clause-exact : goal.returns-in_err-rows-clause-exact
-returns-in_err-rows-clause-exact g c =
-    let p = err_from_is_err_and c.from_residual.result c.from_residual.ensures.1 in
-    let follows = same_load {A = g.row.A.Denot} _ (map column_of c.self.inside.columns) _ (MAX_ROWS - length c.self.inside.rows.items) c.args.records.now.records c.read_table.new.records (Err c.in_err-rows.field-0.0) (ap (map column_of) c.as_slice.ensures) (ap (λ (n : ℕ). MAX_ROWS - n) (c.len.ensures ∙ c.self.inside.rows.ok.0)) c.in_err-rows.ensures.rows in
-    rw (← c.self.view_is, length-map, p.1, p.2) (fault_of_known g.row.A.Denot (map column_of c.self.inside.columns) (MAX_ROWS - length c.self.inside.rows.items) c.args.records.now.records c.read_table.new.records _ (rows_data c.self.inside.rows.items) (rows_data c.self.inside.rows.items) follows)
-
-pub returns-in_err-rows-clause-some_records : goal.returns-in_err-rows-clause-some_records
-returns-in_err-rows-clause-some_records g c =
-    let p = err_from_is_err_and c.from_residual.result c.from_residual.ensures.1 in
-    let follows = same_load {A = g.row.A.Denot} _ (map column_of c.self.inside.columns) _ (MAX_ROWS - length c.self.inside.rows.items) c.args.records.now.records c.read_table.new.records (Err c.in_err-rows.field-0.0) (ap (map column_of) c.as_slice.ensures) (ap (λ (n : ℕ). MAX_ROWS - n) (c.len.ensures ∙ c.self.inside.rows.ok.0)) c.in_err-rows.ensures.rows in
-    rw (← c.self.view_is, length-map, p.1, p.2) (fault_of_some g.row.A.Denot (map column_of c.self.inside.columns) (MAX_ROWS - length c.self.inside.rows.items) c.args.records.now.records c.read_table.new.records _ (rows_data c.self.inside.rows.items) (rows_data c.self.inside.rows.items) follows)
-
-pub returns-in_err-rows-clause-stops : goal.returns-in_err-rows-clause-stops
-returns-in_err-rows-clause-stops g c =
-    let p = err_from_is_err_and c.from_residual.result c.from_residual.ensures.1 in
-    let follows = same_load {A = g.row.A.Denot} _ (map column_of c.self.inside.columns) _ (MAX_ROWS - length c.self.inside.rows.items) c.args.records.now.records c.read_table.new.records (Err c.in_err-rows.field-0.0) (ap (map column_of) c.as_slice.ensures) (ap (λ (n : ℕ). MAX_ROWS - n) (c.len.ensures ∙ c.self.inside.rows.ok.0)) c.in_err-rows.ensures.rows in
-    rw (← c.self.view_is, length-map, p.1, p.2) (stops_of_known g.row.A.Denot (map column_of c.self.inside.columns) (MAX_ROWS - length c.self.inside.rows.items) c.args.records.now.records c.read_table.new.records _ follows)
-
-pub invariant_of-self : goal.invariant_of-self
-invariant_of-self g c =
-    let bad : is_ok c.append.result ≡ false = search rules in
-    rw (rw bad at c.append.ensures.items) c.self.invariant
-
-pub invariant_of-self-2 : goal.invariant_of-self-2
-invariant_of-self-2 g c =
-    let good : is_ok c.append.result ≡ true = search rules in
-    let few = rw (c.len.ensures, c.self.inside.rows.ok.0) at c.in_ok-rows.ensures.few in
-    let at_most = c.self.invariant.1 in
-    rw (rw good at c.append.ensures.items) (
-      All-append (λ r. length r ≡ length c.self.inside.columns) c.self.inside.rows.items _ c.self.invariant.0 (rw c.as_slice.ensures at c.in_ok-rows.ensures.wide),
-      rw length-append (omega (arith, few, at_most)),
-    )
-
-pub returns-clause-exact : goal.returns-clause-exact
-returns-clause-exact g c =
-    let good : is_ok c.append.result ≡ true = search rules in
-    let items = rw good at c.append.ensures.items in
-    let follows = rw (c.as_slice.ensures, c.len.ensures, c.self.inside.rows.ok.0) at c.in_ok-rows.ensures.rows in
-    rw (← c.self.view_is, length-map, items, map-append) (λ _. rows_of_known (map column_of c.self.inside.columns) (MAX_ROWS - length c.self.inside.rows.items) c.args.records.now.records c.read_table.new.records c.in_ok-rows.rows (rows_data c.self.inside.rows.items) _ follows refl)
-
-pub returns-clause-some_records : goal.returns-clause-some_records
-returns-clause-some_records g c =
-    let good : is_ok c.append.result ≡ true = search rules in
-    let items = rw good at c.append.ensures.items in
-    let follows = rw (c.as_slice.ensures, c.len.ensures, c.self.inside.rows.ok.0) at c.in_ok-rows.ensures.rows in
-    rw (← c.self.view_is, length-map, items, map-append) (λ _. rows_of_some (map column_of c.self.inside.columns) (MAX_ROWS - length c.self.inside.rows.items) c.args.records.now.records c.read_table.new.records c.in_ok-rows.rows (rows_data c.self.inside.rows.items) _ follows refl)
-
 pub overflow_sub-room : goal.overflow_sub-room
-overflow_sub-room g c = rw (c.len.ensures, c.self.inside.rows.ok.0) c.self.invariant.1
+overflow_sub-room g c = count_within _ (length c.self.inside.rows.items) MAX_ROWS (c.len.ensures ∙ c.self.inside.rows.ok.0) c.self.invariant.1
+
+pub read_table-requires-clause-expected : goal.read_table-requires-clause-expected
+read_table-requires-clause-expected g c = c.requires.expected
+
+pub read_table-requires-clause-given : goal.read_table-requires-clause-given
+read_table-requires-clause-given g c = c.requires.given
+
+pub read_table-requires-clause-fresh : goal.read_table-requires-clause-fresh
+read_table-requires-clause-fresh g c = c.requires.fresh
+
+pub read_table-requires-clause-room : goal.read_table-requires-clause-room
+read_table-requires-clause-room g c = room_fits c.len.result
 
 pub returns-in_err-rows-clause-columns : goal.returns-in_err-rows-clause-columns
 returns-in_err-rows-clause-columns g c = refl
 
 pub returns-in_err-rows-clause-unchanged : goal.returns-in_err-rows-clause-unchanged
-returns-in_err-rows-clause-unchanged g c =
-    let p = err_from_is_err_and c.from_residual.result c.from_residual.ensures.1 in
-    rw p.1 refl
+returns-in_err-rows-clause-unchanged g c = at_err c.from_residual.result refl
+
+pub returns-in_err-rows-clause-exact : goal.returns-in_err-rows-clause-exact
+returns-in_err-rows-clause-exact g c =
+    refused_known g.row.A.Denot (map column_of c.as_slice.result.now) c.args.self.now.columns c.len.result c.args.self.now.rows c.args.records.now.records c.read_table.new.records
+    (columns_are c.as_slice.result.now c.self.inside.columns (rows_data c.self.inside.rows.items) c.args.self.now c.as_slice.ensures c.self.view_is)
+    (count_is (map column_of c.self.inside.columns) c.len.result c.self.inside.rows.items c.args.self.now (c.len.ensures ∙ c.self.inside.rows.ok.0) c.self.view_is)
+    c.in_err-rows.field-0.0 c.from_residual.result c.from_residual.ensures.1 c.in_err-rows.ensures.rows c.args.self.now.rows
+
+pub returns-in_err-rows-clause-some_records : goal.returns-in_err-rows-clause-some_records
+returns-in_err-rows-clause-some_records g c =
+    refused_some g.row.A.Denot (map column_of c.as_slice.result.now) c.args.self.now.columns c.len.result c.args.self.now.rows c.args.records.now.records c.read_table.new.records
+    (columns_are c.as_slice.result.now c.self.inside.columns (rows_data c.self.inside.rows.items) c.args.self.now c.as_slice.ensures c.self.view_is)
+    (count_is (map column_of c.self.inside.columns) c.len.result c.self.inside.rows.items c.args.self.now (c.len.ensures ∙ c.self.inside.rows.ok.0) c.self.view_is)
+    c.in_err-rows.field-0.0 c.from_residual.result c.from_residual.ensures.1 c.in_err-rows.ensures.rows c.args.self.now.rows c.read_table.new.records.given
 
 pub returns-in_err-rows-clause-failed : goal.returns-in_err-rows-clause-failed
-returns-in_err-rows-clause-failed g c =
-    let p = err_from_is_err_and c.from_residual.result c.from_residual.ensures.1 in
-    rw (p.1, p.2) (failed_too _ _ _ c.read_table.new.records.failure _ c.in_err-rows.ensures.failed)
+returns-in_err-rows-clause-failed g c = exit_failed _ c.read_table.new.records.failure c.read_table.new.records.given c.from_residual.result c.in_err-rows.field-0.0 c.from_residual.ensures.1 c.in_err-rows.ensures.failed
+
+pub returns-in_err-rows-clause-stops : goal.returns-in_err-rows-clause-stops
+returns-in_err-rows-clause-stops g c =
+    refused_stops g.row.A.Denot (map column_of c.as_slice.result.now) c.args.self.now.columns c.len.result c.args.self.now.rows c.args.records.now.records c.read_table.new.records
+    (columns_are c.as_slice.result.now c.self.inside.columns (rows_data c.self.inside.rows.items) c.args.self.now c.as_slice.ensures c.self.view_is)
+    (count_is (map column_of c.self.inside.columns) c.len.result c.self.inside.rows.items c.args.self.now (c.len.ensures ∙ c.self.inside.rows.ok.0) c.self.view_is)
+    c.in_err-rows.field-0.0 c.from_residual.result c.from_residual.ensures.1 c.in_err-rows.ensures.rows
+
+pub invariant_of-self : goal.invariant_of-self
+invariant_of-self g c = still_held (length c.self.inside.columns) c.self.inside.rows.items c.append.new.self.items c.in_err-append.ensures.items c.self.invariant.0 c.self.invariant.1
 
 pub returns-in_err-append-clause-columns : goal.returns-in_err-append-clause-columns
 returns-in_err-append-clause-columns g c = ap (λ v. v.columns) c.self.view_is
 
+pub returns-in_err-append-clause-unchanged : goal.returns-in_err-append-clause-unchanged
+returns-in_err-append-clause-unchanged g c =
+    at_err c.from_residual-in_err-append.result (same_table (map column_of c.self.inside.columns) c.self.inside.rows.items c.append.new.self.items c.args.self.now c.in_err-append.ensures.items c.self.view_is)
+
+pub returns-in_err-append-clause-exact : goal.returns-in_err-append-clause-exact
+returns-in_err-append-clause-exact g c =
+    λ _. memory_known c.from_residual-in_err-append.result c.from_residual-in_err-append.ensures.1 (λ _. rows_data c.append.new.self.items) (λ (recs : List Fields). appended c.args.self.now.rows (load_of c.args.self.now.columns (MAX_ROWS - length c.args.self.now.rows) recs)) c.args.records.now.records
+
+pub returns-in_err-append-clause-some_records : goal.returns-in_err-append-clause-some_records
+returns-in_err-append-clause-some_records g c =
+    λ _. memory_some c.from_residual-in_err-append.result c.from_residual-in_err-append.ensures.1 (λ _. rows_data c.append.new.self.items) (λ (recs : List Fields). appended c.args.self.now.rows (load_of c.args.self.now.columns (MAX_ROWS - length c.args.self.now.rows) recs)) c.read_table.new.records.given
+
 pub returns-in_err-append-clause-failed : goal.returns-in_err-append-clause-failed
-returns-in_err-append-clause-failed g c = not_failed _ _ c.read_table.new.records.failure _ c.in_ok-rows.ensures.failed
+returns-in_err-append-clause-failed g c = not_failed c.in_ok-rows.rows c.from_residual-in_err-append.result c.read_table.new.records.failure c.read_table.new.records.given c.in_ok-rows.ensures.failed
+
+pub returns-in_err-append-clause-stops : goal.returns-in_err-append-clause-stops
+returns-in_err-append-clause-stops g c =
+    memory_stops c.from_residual-in_err-append.result c.from_residual-in_err-append.ensures.1 c.args.self.now.columns (MAX_ROWS - length c.args.self.now.rows) c.args.records.now.records
+
+pub invariant_of-self-2 : goal.invariant_of-self-2
+invariant_of-self-2 g c =
+    more_held c.as_slice.result.now c.self.inside.columns c.len.result c.self.inside.rows.items c.in_ok-rows.rows.items c.append.new.self.items c.as_slice.ensures (c.len.ensures ∙ c.self.inside.rows.ok.0) c.in_ok-append.ensures.items
+    c.self.invariant.0 c.self.invariant.1 c.in_ok-rows.ensures.wide c.in_ok-rows.ensures.few
 
 pub returns-clause-columns : goal.returns-clause-columns
 returns-clause-columns g c = ap (λ v. v.columns) c.self.view_is
 
-pub returns-clause-failed : goal.returns-clause-failed
-returns-clause-failed g c = not_failed _ _ c.read_table.new.records.failure _ c.in_ok-rows.ensures.failed
-
 pub returns-clause-unchanged : goal.returns-clause-unchanged
 returns-clause-unchanged g c = tt
+
+pub returns-clause-exact : goal.returns-clause-exact
+returns-clause-exact g c =
+    λ _. loaded_known g.row.A.Denot (map column_of c.as_slice.result.now) c.args.self.now.columns c.len.result c.args.self.now.rows c.args.records.now.records c.read_table.new.records
+    (columns_are c.as_slice.result.now c.self.inside.columns (rows_data c.self.inside.rows.items) c.args.self.now c.as_slice.ensures c.self.view_is)
+    (count_is (map column_of c.self.inside.columns) c.len.result c.self.inside.rows.items c.args.self.now (c.len.ensures ∙ c.self.inside.rows.ok.0) c.self.view_is)
+    c.in_ok-rows.rows c.self.inside.rows.items c.append.new.self.items (rows_are (map column_of c.self.inside.columns) c.self.inside.rows.items c.args.self.now c.self.view_is) c.in_ok-append.ensures.items c.in_ok-rows.ensures.rows
+
+pub returns-clause-some_records : goal.returns-clause-some_records
+returns-clause-some_records g c =
+    λ _. loaded_some g.row.A.Denot (map column_of c.as_slice.result.now) c.args.self.now.columns c.len.result c.args.self.now.rows c.args.records.now.records c.read_table.new.records
+    (columns_are c.as_slice.result.now c.self.inside.columns (rows_data c.self.inside.rows.items) c.args.self.now c.as_slice.ensures c.self.view_is)
+    (count_is (map column_of c.self.inside.columns) c.len.result c.self.inside.rows.items c.args.self.now (c.len.ensures ∙ c.self.inside.rows.ok.0) c.self.view_is)
+    c.in_ok-rows.rows c.self.inside.rows.items c.append.new.self.items (rows_are (map column_of c.self.inside.columns) c.self.inside.rows.items c.args.self.now c.self.view_is) c.in_ok-append.ensures.items c.in_ok-rows.ensures.rows
+
+pub returns-clause-failed : goal.returns-clause-failed
+returns-clause-failed g c = not_failed c.in_ok-rows.rows _ c.read_table.new.records.failure c.read_table.new.records.given c.in_ok-rows.ensures.failed
+
+pub returns-clause-stops : goal.returns-clause-stops
+returns-clause-stops g c = no_stop {X = Unit {0}} tt c.args.self.now.columns (MAX_ROWS - length c.args.self.now.rows) c.args.records.now.records

@@ -1,32 +1,55 @@
-use Rattle.std.proofs.Common.{ℕ, ◌≡◌, Option, Some, None, Result, Ok, Err, IfSome, ap, ◌∙◌}
-use Rattle.std.proofs.lemmas.Result.{err_from_is_err_and}
-use Rattle.std.specs.Prelude.{IsErrOf}
-use Rattle.csv_records.specs.declared.RecordError.{RecordError}
-use Rattle.memory.specs.declared.failure.Failure.{Failure}
-use Rattle.tables.specs.declared.LoadError.{LoadError}
-use Rattle.tables.specs.Loading.{reported}
+use Rattle.std.proofs.Common.{◌∙◌, map}
+use Rattle.std.proofs.lemmas.Result.{IfOk-from_err}
+use Rattle.value.specs.Columns.{column_of}
+use Rattle.tables.specs.declared.TheConstants.{MAX_ROWS}
+use Rattle.tables.specs.Loading.{TableRows}
+use Rattle.tables.proofs.Follow.{exit_failed, not_failed}
+use Rattle.tables.proofs.Appends.{first_loaded_known, first_loaded_some, first_refused_known, first_refused_some, first_refused_stops, no_stop}
 use Rattle.tables.proofs.table.Table.load_records.Goals as goal
 
-failed_too : (T U : Type 0) (e : Failure LoadError) (failure : Option (Failure RecordError)) (given : ℕ) → IfSome failure (λ why. IsErrOf {T = T} (Err e) (reported why given)) → IfSome failure (λ why. IsErrOf {T = U} (Err e) (reported why given))
-failed_too T U e None given h = tt
-failed_too T U e (Some why) given h = let same : e ≡ reported why given = cc h in ap Err same
+pub append_records-requires-clause-expected : goal.append_records-requires-clause-expected
+append_records-requires-clause-expected g c = c.requires.expected
 
-not_failed : {T U : Type 0} (t : T) (r : Result U (Failure LoadError)) (failure : Option (Failure RecordError)) (given : ℕ) → IfSome failure (λ why. IsErrOf (Ok t) (reported why given)) → IfSome failure (λ why. IsErrOf r (reported why given))
-not_failed t r None given h = tt
-not_failed t r (Some why) given h = cc h
+pub append_records-requires-clause-given : goal.append_records-requires-clause-given
+append_records-requires-clause-given g c = c.requires.given
+
+pub append_records-requires-clause-fresh : goal.append_records-requires-clause-fresh
+append_records-requires-clause-fresh g c = c.requires.fresh
 
 pub returns-in_err-append_records-clause-columns : goal.returns-in_err-append_records-clause-columns
-returns-in_err-append_records-clause-columns g c =
-    let p = err_from_is_err_and c.from_residual.result c.from_residual.ensures.1 in
-    rw p.1 tt
+returns-in_err-append_records-clause-columns g c = IfOk-from_err c.from_residual.result _ c.from_residual.ensures.0
+
+pub returns-in_err-append_records-clause-exact : goal.returns-in_err-append_records-clause-exact
+returns-in_err-append_records-clause-exact g c =
+    λ none. first_refused_known c.new-table.result.columns (map column_of c.args.columns) c.new-table.result.rows c.new-table.ensures.columns c.new-table.ensures.rows (λ (t : TableRows). t.rows) c.in_err-append_records.field-0.0 c.from_residual.result c.from_residual.ensures.1 c.args.records.now.records
+    (c.in_err-append_records.ensures.exact none)
+
+pub returns-in_err-append_records-clause-some_records : goal.returns-in_err-append_records-clause-some_records
+returns-in_err-append_records-clause-some_records g c =
+    λ none. first_refused_some c.new-table.result.columns (map column_of c.args.columns) c.new-table.result.rows c.new-table.ensures.columns c.new-table.ensures.rows (λ (t : TableRows). t.rows) c.in_err-append_records.field-0.0 c.from_residual.result c.from_residual.ensures.1 c.append_records.new.records.given
+    (c.in_err-append_records.ensures.some_records none)
 
 pub returns-in_err-append_records-clause-failed : goal.returns-in_err-append_records-clause-failed
-returns-in_err-append_records-clause-failed g c =
-    let p = err_from_is_err_and c.from_residual.result c.from_residual.ensures.1 in
-    rw (p.1, p.2) (failed_too _ _ _ c.append_records.new.records.failure _ c.in_err-append_records.ensures.failed)
+returns-in_err-append_records-clause-failed g c = exit_failed _ c.append_records.new.records.failure c.append_records.new.records.given c.from_residual.result c.in_err-append_records.field-0.0 c.from_residual.ensures.1 c.in_err-append_records.ensures.failed
+
+pub returns-in_err-append_records-clause-stops : goal.returns-in_err-append_records-clause-stops
+returns-in_err-append_records-clause-stops g c =
+    first_refused_stops c.new-table.result.columns (map column_of c.args.columns) c.new-table.result.rows c.new-table.ensures.columns c.new-table.ensures.rows (λ (t : TableRows). t.rows) c.in_err-append_records.field-0.0 c.from_residual.result c.from_residual.ensures.1 c.args.records.now.records
+    c.in_err-append_records.ensures.stops
 
 pub returns-clause-columns : goal.returns-clause-columns
 returns-clause-columns g c = c.in_ok-append_records.ensures.columns ∙ c.new-table.ensures.columns
 
+pub returns-clause-exact : goal.returns-clause-exact
+returns-clause-exact g c =
+    λ none. first_loaded_known c.new-table.result.columns (map column_of c.args.columns) c.new-table.result.rows c.new-table.ensures.columns c.new-table.ensures.rows c.append_records.new.self.rows c.args.records.now.records (c.in_ok-append_records.ensures.exact none)
+
+pub returns-clause-some_records : goal.returns-clause-some_records
+returns-clause-some_records g c =
+    λ none. first_loaded_some c.new-table.result.columns (map column_of c.args.columns) c.new-table.result.rows c.new-table.ensures.columns c.new-table.ensures.rows c.append_records.new.self.rows c.append_records.new.records.given (c.in_ok-append_records.ensures.some_records none)
+
 pub returns-clause-failed : goal.returns-clause-failed
-returns-clause-failed g c = not_failed _ _ c.append_records.new.records.failure _ c.in_ok-append_records.ensures.failed
+returns-clause-failed g c = not_failed _ _ c.append_records.new.records.failure c.append_records.new.records.given c.in_ok-append_records.ensures.failed
+
+pub returns-clause-stops : goal.returns-clause-stops
+returns-clause-stops g c = no_stop {X = TableRows} c.append_records.new.self (map column_of c.args.columns) MAX_ROWS c.args.records.now.records

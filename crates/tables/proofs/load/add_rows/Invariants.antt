@@ -2,7 +2,7 @@ use Rattle.std.proofs.Common.{◌≡◌, ◌+◌, Some, None, length, map, All}
 use Rattle.tables.specs.Loading.{rows_data}
 use Rattle.value.specs.Columns.{column_of}
 use Rattle.tables.proofs.Follow.{SeenRows}
-use Rattle.tables.proofs.load.read_rows.Given as goal
+use Rattle.tables.proofs.load.add_rows.Given as goal
 
 abbrev pub invariant-loop-done : goal.invariant-loop-done
 invariant-loop-done g l = record {

@@ -4,7 +4,7 @@ use Rattle.value.specs.Datum.{row_of}
 use Rattle.tables.specs.Loading.{cells_of}
 use Rattle.value.specs.Columns.{column_of}
 use Rattle.tables.proofs.Records.{after}
-use Rattle.tables.proofs.load.read_row.Given as goal
+use Rattle.tables.proofs.load.add_cells.Given as goal
 
 abbrev pub invariant-loop-i : goal.invariant-loop-i
 invariant-loop-i g l =
