@@ -1,5 +1,5 @@
 -- How conditions that are known continue to all of them.
-use Rattle.std.proofs.Common.{◌≡◌, ◌≢◌, ℕ, ◌<◌, ◌≤◌, ◌+◌, ◌-◌, List, length, get_or, drop, Option, Some, None, Result, Ok, Err, IsOk, IsErrAnd, Vec, Box, true, refl, sym, ap, ◌∙◌, rules, arith}
+use Rattle.std.proofs.Common.{◌≡◌, ◌≢◌, ℕ, ◌<◌, ◌≤◌, ◌+◌, List, length, get_or, drop, Option, Some, None, Result, Ok, Err, IsOk, IsErrAnd, Vec, Box, true, refl, sym, ap, ◌∙◌, rules, arith}
 use Rattle.std.proofs.lemmas.Grind.{common_steps}
 use denote.Enum.Bare.{sameb, same_true}
 use Rattle.memory.specs.declared.failure.Failure.{Failure}
@@ -15,10 +15,9 @@ use Rattle.value.specs.declared.types.Val.{Val}
 use Rattle.expr.specs.declared.bound.BoundExpr.{BoundExpr, Case}
 use Rattle.expr.specs.declared.bound.BoundArm.{BoundArm}
 use Rattle.expr.specs.View.{bound_expr_of, bound_exprs, bound_arms}
-use Rattle.expr.proofs.Walks.{exprs_step, arms_step}
+use Rattle.expr.proofs.Walks.{otherwise_of, case_is, exprs_step, arms_step}
 use Rattle.eval.specs.Choice.{GivesChoice}
 use Rattle.eval.specs.Meaning.{Cells, Outcome, meaning, condition, conjunction, disjunction, chosen, otherwise, with_least, with_greatest, unless_false, unless_true, when_true}
-use Rattle.eval.proofs.Nodes.{otherwise_of, case_is}
 
 -- ---- two truths that compare as equal
 
@@ -32,9 +31,6 @@ and_open q = cc (q)
 
 pub or_open : False ≢ True
 or_open q = cc (q)
-
-pub as_heavy : (n : ℕ) → n ≤ n
-as_heavy n = omega arith
 
 pub and_start : (r : Result Truth Fault) → with_least True r ≡ r
 and_start (Ok False) = refl
@@ -131,8 +127,3 @@ exits_choice (Err e) f rest m is h = rw is h
 pub never_fails : (f : Failure Fault) (m : Outcome) → IsFailure f m → IsOk m → f ≢ failure.OutOfMemory → ⊥
 never_fails (failure.Fault x) m h ok n = absurd (cc)
 never_fails failure.OutOfMemory m h ok n = n refl
-
--- ---- one fewer is left
-
-pub one_fewer : (n k : ℕ) → k < n → n - (k + 1) < n - k
-one_fewer n k more = omega (arith, more)

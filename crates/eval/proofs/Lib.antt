@@ -1,4 +1,3 @@
-pub mod Nodes
 pub mod Conditions
 pub mod Movables
 pub mod Faultless

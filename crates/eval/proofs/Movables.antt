@@ -7,9 +7,7 @@ use Rattle.expr.specs.declared.bound.BoundExpr.{BoundExpr, Case}
 use Rattle.expr.specs.declared.bound.BoundArm.{BoundArm}
 use Rattle.expr.specs.View.{bound_expr_of, bound_exprs, bound_arms}
 use Rattle.expr.specs.Movable.{movable, all_movable, arms_movable, otherwise_movable}
-use Rattle.expr.proofs.Trees.{bound_lemmas}
-use Rattle.expr.proofs.Walks.{exprs_step, arms_step}
-use Rattle.eval.proofs.Nodes.{otherwise_of, case_is}
+use Rattle.expr.proofs.Walks.{otherwise_of, case_is, exprs_step, arms_step}
 
 pub and_left : (a b : Bool) → a && b ≡ true → a ≡ true
 and_left true b h = refl
@@ -18,8 +16,6 @@ and_left false b h = h
 pub and_right : (a b : Bool) → a && b ≡ true → b ≡ true
 and_right true b h = h
 and_right false b h = cc
-
-pub ruleset eval_lemmas = (bound_lemmas, and_left, and_right)
 
 module _ {A : Type 0} (es : List (BoundExpr A)) (k : ℕ) (e : BoundExpr A) (more : k < length es) (is : e ≡ get_or es k e) (h : all_movable (bound_exprs (drop k es)) ≡ true) where
   pub member_movable : movable (bound_expr_of e) ≡ true
@@ -54,6 +50,9 @@ module _ {A : Type 0} (e : BoundExpr A) (offset : ℕ) (v : Vec (BoundArm A) A) 
 pub exits_safe : {X Y : Type 0} (r : Result Y (Failure Fault)) (f : Failure Fault) → IsErrAnd r (λ e. e ≡ f) → ◌≢◌ {A = Result X (Failure Fault)} (Err f) (Err OutOfMemory) → r ≢ Err OutOfMemory
 exits_safe (Ok x) f is n = absurd is
 exits_safe {X} (Err e) f is n = λ q. n (cc)
+
+pub err_safe : {X Y : Type 0} (f : Failure Fault) → ◌≢◌ {A = Result X (Failure Fault)} (Err f) (Err OutOfMemory) → ◌≢◌ {A = Result Y (Failure Fault)} (Err f) (Err OutOfMemory)
+err_safe f n = λ q. n (cc)
 
 pub ok_safe : {X : Type 0} (x : X) → ◌≢◌ {A = Result X (Failure Fault)} (Ok x) (Err OutOfMemory)
 ok_safe x = λ q. cc (q)

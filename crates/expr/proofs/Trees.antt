@@ -20,5 +20,3 @@ bound_exprs_hidden {A} v = exprs_row (hidden-the_row-BoundExpr-0 A v) ∙ ap bou
 
 pub bound_arms_hidden : {A : Type 0} (v : Vec (BoundArm A) A) → row_arms (hidden-the_row-BoundArm-1 A v) ≡ bound_arms v.items
 bound_arms_hidden {A} v = arms_row (hidden-the_row-BoundArm-1 A v) ∙ ap bound_arms (items_hidden-the_row-BoundArm-1 A v)
-
-pub ruleset bound_lemmas = (bound_exprs_hidden, bound_arms_hidden)

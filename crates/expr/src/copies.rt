@@ -1,107 +1,17 @@
 //! Copies of bound expressions.
 
-ghost use Rattle.std.specs.Prelude.{◌≡◌, IfOk, map};
-ghost use Rattle.value.specs.Datum.{datum};
-ghost use Rattle.expr.specs.Bound as bound;
-ghost use Rattle.expr.specs.View.{bound_arm_pair, bound_arms, bound_expr_of, bound_exprs};
+ghost use Rattle.std.specs.Prelude.{◌≡◌, IfOk};
+ghost use Rattle.expr.specs.View.{bound_arms, bound_expr_of, bound_exprs};
 
 use crate::bound::{BoundArm, BoundExpr};
+use crate::nodes::{
+    Arms, Copied, Members, arithmetic, arm, between, call, cast, comparison, conjunction,
+    disjunction, literal, logical_not, membership, negation, null_check, with_otherwise,
+    without_otherwise,
+};
 use memory::{Heap, boxed};
 use std::alloc::AllocError;
 use text::Items;
-use value::Value;
-
-type Copied<A> = Result<Box<BoundExpr<A>, A>, AllocError>;
-
-type Members<A> = Result<Vec<BoundExpr<A>, A>, AllocError>;
-
-type Arms<A> = Result<Vec<BoundArm<A>, A>, AllocError>;
-
-fn copy_values<A: Heap>(alloc: A, values: &[Value<A>]) -> Result<Items<Value<A>, A>, AllocError>
-    ensures { IfOk result (λ copies. map datum copies ≡ map datum values.now) }
-{
-    let mut copies = Items::new(alloc);
-    for value in values {
-        copies.push(value.copy(alloc)?)?;
-    }
-    Ok(copies)
-}
-
-fn conjunction<A: Heap>(alloc: A, offset: u32, members: Members<A>) -> Copied<A>
-    ensures { (es : bound.BoundExprs) → IfOk members (λ v. bound_exprs v.items ≡ es) → IfOk result (λ b. bound_expr_of b.value ≡ bound.And offset es) }
-{
-    match members {
-        Ok(members) => boxed(alloc, BoundExpr::And { offset, members }),
-        Err(failure) => Err(failure),
-    }
-}
-
-fn disjunction<A: Heap>(alloc: A, offset: u32, members: Members<A>) -> Copied<A>
-    ensures { (es : bound.BoundExprs) → IfOk members (λ v. bound_exprs v.items ≡ es) → IfOk result (λ b. bound_expr_of b.value ≡ bound.Or offset es) }
-{
-    match members {
-        Ok(members) => boxed(alloc, BoundExpr::Or { offset, members }),
-        Err(failure) => Err(failure),
-    }
-}
-
-fn without_otherwise<A: Heap>(alloc: A, offset: u32, arms: Arms<A>) -> Copied<A>
-    ensures { (as_ : bound.BoundArms) → IfOk arms (λ v. bound_arms v.items ≡ as_) → IfOk result (λ b. bound_expr_of b.value ≡ bound.Case offset as_ bound.Nothing) }
-{
-    match arms {
-        Ok(arms) => {
-            let otherwise = None;
-            boxed(
-                alloc,
-                BoundExpr::Case {
-                    offset,
-                    arms,
-                    otherwise,
-                },
-            )
-        }
-        Err(failure) => Err(failure),
-    }
-}
-
-fn with_otherwise<A: Heap>(alloc: A, offset: u32, arms: Arms<A>, otherwise: Copied<A>) -> Copied<A>
-    ensures { (as_ : bound.BoundArms) (e : bound.BoundExpr) → IfOk arms (λ v. bound_arms v.items ≡ as_) → IfOk otherwise (λ b. bound_expr_of b.value ≡ e) → IfOk result (λ b. bound_expr_of b.value ≡ bound.Case offset as_ (bound.Value e)) }
-{
-    let arms = match arms {
-        Ok(arms) => arms,
-        Err(failure) => return Err(failure),
-    };
-    match otherwise {
-        Ok(value) => {
-            let otherwise = Some(value);
-            boxed(
-                alloc,
-                BoundExpr::Case {
-                    offset,
-                    arms,
-                    otherwise,
-                },
-            )
-        }
-        Err(failure) => Err(failure),
-    }
-}
-
-fn arm<A: Heap>(when: Copied<A>, then: Copied<A>) -> Result<BoundArm<A>, AllocError>
-    ensures { (d e : bound.BoundExpr) → IfOk when (λ b. bound_expr_of b.value ≡ d) → IfOk then (λ b. bound_expr_of b.value ≡ e) → IfOk result (λ a. bound_arm_pair a ≡ (d, e)) }
-{
-    let when = match when {
-        Ok(when) => when,
-        Err(failure) => return Err(failure),
-    };
-    match then {
-        Ok(then) => Ok(BoundArm {
-            when: Box::into_inner(when),
-            result: Box::into_inner(then),
-        }),
-        Err(failure) => Err(failure),
-    }
-}
 
 /// A copy of the expression.
 #[cycle(copy)]
@@ -110,15 +20,10 @@ pub fn copy_expr<A: Heap>(alloc: A, expression: &BoundExpr<A>) -> Copied<A>
 {
     match expression {
         BoundExpr::Column(id) => boxed(alloc, BoundExpr::Column(*id)),
-        BoundExpr::Literal(value) => {
-            let value = value.copy(alloc)?;
-            boxed(alloc, BoundExpr::Literal(value))
-        }
+        BoundExpr::Literal(value) => literal(alloc, value.copy(alloc)),
         BoundExpr::CurrentUser => boxed(alloc, BoundExpr::CurrentUser),
         BoundExpr::Negate { offset, operand } => {
-            let offset = *offset;
-            let operand = copy_expr(alloc, operand)?;
-            boxed(alloc, BoundExpr::Negate { offset, operand })
+            negation(alloc, *offset, copy_expr(alloc, operand))
         }
         BoundExpr::Arithmetic {
             operator,
@@ -127,14 +32,7 @@ pub fn copy_expr<A: Heap>(alloc: A, expression: &BoundExpr<A>) -> Copied<A>
             right,
         } => {
             let left = copy_expr(alloc, left)?;
-            let right = copy_expr(alloc, right)?;
-            let whole = BoundExpr::Arithmetic {
-                operator: *operator,
-                offset: *offset,
-                left,
-                right,
-            };
-            boxed(alloc, whole)
+            arithmetic(alloc, *operator, *offset, left, copy_expr(alloc, right))
         }
         BoundExpr::Comparison {
             operator,
@@ -143,14 +41,7 @@ pub fn copy_expr<A: Heap>(alloc: A, expression: &BoundExpr<A>) -> Copied<A>
             right,
         } => {
             let left = copy_expr(alloc, left)?;
-            let right = copy_expr(alloc, right)?;
-            let whole = BoundExpr::Comparison {
-                operator: *operator,
-                offset: *offset,
-                left,
-                right,
-            };
-            boxed(alloc, whole)
+            comparison(alloc, *operator, *offset, left, copy_expr(alloc, right))
         }
         BoundExpr::Between {
             negated,
@@ -161,15 +52,14 @@ pub fn copy_expr<A: Heap>(alloc: A, expression: &BoundExpr<A>) -> Copied<A>
         } => {
             let operand = copy_expr(alloc, operand)?;
             let low = copy_expr(alloc, low)?;
-            let high = copy_expr(alloc, high)?;
-            let whole = BoundExpr::Between {
-                negated: *negated,
-                offset: *offset,
+            between(
+                alloc,
+                *negated,
+                *offset,
                 operand,
                 low,
-                high,
-            };
-            boxed(alloc, whole)
+                copy_expr(alloc, high),
+            )
         }
         BoundExpr::In {
             negated,
@@ -177,33 +67,16 @@ pub fn copy_expr<A: Heap>(alloc: A, expression: &BoundExpr<A>) -> Copied<A>
             values,
             operand,
         } => {
-            let operand = copy_expr(alloc, operand)?;
-            let values = copy_values(alloc, values.as_slice())?;
-            let whole = BoundExpr::In {
-                negated: *negated,
-                offset: *offset,
-                values,
-                operand,
-            };
-            boxed(alloc, whole)
+            let operand = copy_expr(alloc, operand);
+            membership(alloc, *negated, *offset, operand, values.as_slice())
         }
         BoundExpr::IsNull {
             negated,
             offset,
             operand,
-        } => {
-            let operand = copy_expr(alloc, operand)?;
-            let whole = BoundExpr::IsNull {
-                negated: *negated,
-                offset: *offset,
-                operand,
-            };
-            boxed(alloc, whole)
-        }
+        } => { null_check(alloc, *negated, *offset, copy_expr(alloc, operand)) }
         BoundExpr::Not { offset, operand } => {
-            let offset = *offset;
-            let operand = copy_expr(alloc, operand)?;
-            boxed(alloc, BoundExpr::Not { offset, operand })
+            logical_not(alloc, *offset, copy_expr(alloc, operand))
         }
         BoundExpr::And { offset, members } => {
             conjunction(alloc, *offset, copy_members(alloc, members))
@@ -215,15 +88,7 @@ pub fn copy_expr<A: Heap>(alloc: A, expression: &BoundExpr<A>) -> Copied<A>
             offset,
             to,
             operand,
-        } => {
-            let operand = copy_expr(alloc, operand)?;
-            let whole = BoundExpr::Cast {
-                offset: *offset,
-                to: *to,
-                operand,
-            };
-            boxed(alloc, whole)
-        }
+        } => { cast(alloc, *offset, *to, copy_expr(alloc, operand)) }
         BoundExpr::Case {
             offset,
             arms,
@@ -243,15 +108,7 @@ pub fn copy_expr<A: Heap>(alloc: A, expression: &BoundExpr<A>) -> Copied<A>
             aggregate,
             offset,
             argument,
-        } => {
-            let argument = copy_expr(alloc, argument)?;
-            let whole = BoundExpr::Call {
-                aggregate: *aggregate,
-                offset: *offset,
-                argument,
-            };
-            boxed(alloc, whole)
-        }
+        } => { call(alloc, *aggregate, *offset, copy_expr(alloc, argument)) }
     }
 }
 

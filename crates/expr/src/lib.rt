@@ -6,6 +6,7 @@ mod bound;
 mod columns;
 mod copies;
 mod movable;
+mod nodes;
 
 pub use aggregates::{AggregateCall, push_aggregates};
 pub use bound::{BoundArm, BoundExpr, ColumnId, is_column};

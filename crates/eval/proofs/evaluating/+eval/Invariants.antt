@@ -6,8 +6,8 @@ use Rattle.expr.specs.Movable.{all_movable, arms_movable}
 use Rattle.expr.specs.Weights.{weight, all_weight, arms_weight}
 use Rattle.eval.proofs.evaluating.+eval.Given as goal
 
-abbrev pub decreases-eval : goal.decreases-eval
-decreases-eval g l = weight (bound_expr_of l.expression.now)
+abbrev pub decreases-evaluate : goal.decreases-evaluate
+decreases-evaluate g l = weight (bound_expr_of l.expression.now)
 
 abbrev pub decreases-conjunction : goal.decreases-conjunction
 decreases-conjunction g l = all_weight (bound_exprs l.members.now)
@@ -21,7 +21,7 @@ decreases-chosen g l = arms_weight (bound_arms l.arms.now)
 abbrev pub invariant-conjunction-loop-member : goal.invariant-conjunction-loop-member
 invariant-conjunction-loop-member g l = record {
   open_yet : l.known ≢ False;
-  rest : with_least l.known (conjunction (g.R.Row.cells l.row) l.role (bound_exprs (drop l.member-index l.members))) ≡ conjunction (g.R.Row.cells l.row) l.role (bound_exprs l.members);
+  rest : with_least l.known (conjunction (g.R.Row.cells l.row) l.role.name.now (bound_exprs (drop l.member-index l.members))) ≡ conjunction (g.R.Row.cells l.row) l.role.name.now (bound_exprs l.members);
   memory : all_movable (bound_exprs l.members) ≡ true → all_movable (bound_exprs (drop l.member-index l.members)) ≡ true;
   lighter : all_weight (bound_exprs (drop l.member-index l.members)) ≤ all_weight (bound_exprs l.members);
 }
@@ -29,14 +29,14 @@ invariant-conjunction-loop-member g l = record {
 abbrev pub invariant-disjunction-loop-member : goal.invariant-disjunction-loop-member
 invariant-disjunction-loop-member g l = record {
   open_yet : l.known ≢ True;
-  rest : with_greatest l.known (disjunction (g.R.Row.cells l.row) l.role (bound_exprs (drop l.member-index l.members))) ≡ disjunction (g.R.Row.cells l.row) l.role (bound_exprs l.members);
+  rest : with_greatest l.known (disjunction (g.R.Row.cells l.row) l.role.name.now (bound_exprs (drop l.member-index l.members))) ≡ disjunction (g.R.Row.cells l.row) l.role.name.now (bound_exprs l.members);
   memory : all_movable (bound_exprs l.members) ≡ true → all_movable (bound_exprs (drop l.member-index l.members)) ≡ true;
   lighter : all_weight (bound_exprs (drop l.member-index l.members)) ≤ all_weight (bound_exprs l.members);
 }
 
 abbrev pub invariant-chosen-loop-arm : goal.invariant-chosen-loop-arm
 invariant-chosen-loop-arm g l = record {
-  rest : (rest : Outcome) → chosen (g.R.Row.cells l.row) l.role (bound_arms (drop l.arm-index l.arms)) rest ≡ chosen (g.R.Row.cells l.row) l.role (bound_arms l.arms) rest;
+  rest : (rest : Outcome) → chosen (g.R.Row.cells l.row) l.role.name.now (bound_arms (drop l.arm-index l.arms)) rest ≡ chosen (g.R.Row.cells l.row) l.role.name.now (bound_arms l.arms) rest;
   memory : arms_movable (bound_arms l.arms) ≡ true → arms_movable (bound_arms (drop l.arm-index l.arms)) ≡ true;
   lighter : arms_weight (bound_arms (drop l.arm-index l.arms)) ≤ arms_weight (bound_arms l.arms);
 }

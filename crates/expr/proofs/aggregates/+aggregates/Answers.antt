@@ -4,6 +4,7 @@ use Rattle.expr.specs.Aggregates.{aggregates, all_aggregates, arms_aggregates}
 use Rattle.expr.specs.Weights.{weight}
 use Rattle.expr.proofs.Walks.{Gathers, parts_step, parts_over, arm_parts_step, arm_parts_over, case_parts_none, case_parts_some, and_is, or_is, case_none, case_some, case_lighter, exprs_lighter, exprs_still, when_lighter, result_lighter, arms_still, two_parts, three_parts, one_more}
 use Rattle.expr.specs.View.{aggregate_call_of, bound_expr_of}
+use Rattle.expr.proofs.Operands.{arithmetic_is, between_is, cast_is, comparison_is, in_is, is_null_is, last_lighter, left_lighter, lighter, middle_lighter, negate_is, not_is, right_lighter}
 use Rattle.expr.proofs.aggregates.+aggregates.Goals as goal
 
 gathers : Gathers aggregates all_aggregates arms_aggregates
@@ -55,40 +56,40 @@ push_aggregates-returns-in-None g t c =
     c.in_ok-push_arms_aggregates-in-Case.ensures
 
 pub push_aggregates-push_aggregates-requires : goal.push_aggregates-push_aggregates-requires
-push_aggregates-push_aggregates-requires g t c κs within = let w = ap weight (ap bound_expr_of c.in-Negate.is) in let e = ap (λ e. weight (bound_expr_of e)) c.deref.ensures in (omega (arith, c.decreases, w, e), within)
+push_aggregates-push_aggregates-requires g t c κs within = (lighter (weight (bound_expr_of c.deref.result.now)) _ t c.decreases (ap weight (negate_is c.args.expression.now c.in-Negate.offset c.in-Negate.operand c.deref.result.now c.deref.ensures c.in-Negate.is)), within)
 
 pub push_aggregates-push_aggregates-requires-in-Arithmetic : goal.push_aggregates-push_aggregates-requires-in-Arithmetic
-push_aggregates-push_aggregates-requires-in-Arithmetic g t c κs within = let w = ap weight (ap bound_expr_of c.in-Arithmetic.is) in let e = ap (λ e. weight (bound_expr_of e)) c.deref-in-Arithmetic.ensures in (omega (arith, c.decreases, w, e), within)
+push_aggregates-push_aggregates-requires-in-Arithmetic g t c κs within = (left_lighter (weight (bound_expr_of c.deref-in-Arithmetic.result.now)) _ t c.decreases _ (ap weight (arithmetic_is c.args.expression.now c.in-Arithmetic.offset c.in-Arithmetic.left c.in-Arithmetic.right c.deref-in-Arithmetic.result.now c.deref-in-Arithmetic.ensures c.in-Arithmetic.right.value refl c.in-Arithmetic.operator c.in-Arithmetic.is)), within)
 
 pub push_aggregates-push_aggregates-requires-in-Arithmetic-2 : goal.push_aggregates-push_aggregates-requires-in-Arithmetic-2
-push_aggregates-push_aggregates-requires-in-Arithmetic-2 g t c κs within = let w = ap weight (ap bound_expr_of c.in-Arithmetic.is) in let e = ap (λ e. weight (bound_expr_of e)) c.deref-in-Arithmetic-2.ensures in (omega (arith, c.decreases, w, e), within)
+push_aggregates-push_aggregates-requires-in-Arithmetic-2 g t c κs within = (right_lighter (weight (bound_expr_of c.deref-in-Arithmetic-2.result.now)) _ t c.decreases _ (ap weight (arithmetic_is c.args.expression.now c.in-Arithmetic.offset c.in-Arithmetic.left c.in-Arithmetic.right c.in-Arithmetic.left.value refl c.deref-in-Arithmetic-2.result.now c.deref-in-Arithmetic-2.ensures c.in-Arithmetic.operator c.in-Arithmetic.is)), within)
 
 pub push_aggregates-push_aggregates-requires-in-Comparison : goal.push_aggregates-push_aggregates-requires-in-Comparison
-push_aggregates-push_aggregates-requires-in-Comparison g t c κs within = let w = ap weight (ap bound_expr_of c.in-Comparison.is) in let e = ap (λ e. weight (bound_expr_of e)) c.deref-in-Comparison.ensures in (omega (arith, c.decreases, w, e), within)
+push_aggregates-push_aggregates-requires-in-Comparison g t c κs within = (left_lighter (weight (bound_expr_of c.deref-in-Comparison.result.now)) _ t c.decreases _ (ap weight (comparison_is c.args.expression.now c.in-Comparison.offset c.in-Comparison.left c.in-Comparison.right c.deref-in-Comparison.result.now c.deref-in-Comparison.ensures c.in-Comparison.right.value refl c.in-Comparison.operator c.in-Comparison.is)), within)
 
 pub push_aggregates-push_aggregates-requires-in-Comparison-2 : goal.push_aggregates-push_aggregates-requires-in-Comparison-2
-push_aggregates-push_aggregates-requires-in-Comparison-2 g t c κs within = let w = ap weight (ap bound_expr_of c.in-Comparison.is) in let e = ap (λ e. weight (bound_expr_of e)) c.deref-in-Comparison-2.ensures in (omega (arith, c.decreases, w, e), within)
+push_aggregates-push_aggregates-requires-in-Comparison-2 g t c κs within = (right_lighter (weight (bound_expr_of c.deref-in-Comparison-2.result.now)) _ t c.decreases _ (ap weight (comparison_is c.args.expression.now c.in-Comparison.offset c.in-Comparison.left c.in-Comparison.right c.in-Comparison.left.value refl c.deref-in-Comparison-2.result.now c.deref-in-Comparison-2.ensures c.in-Comparison.operator c.in-Comparison.is)), within)
 
 pub push_aggregates-push_aggregates-requires-in-Between : goal.push_aggregates-push_aggregates-requires-in-Between
-push_aggregates-push_aggregates-requires-in-Between g t c κs within = let w = ap weight (ap bound_expr_of c.in-Between.is) in let e = ap (λ e. weight (bound_expr_of e)) c.deref-in-Between.ensures in (omega (arith, c.decreases, w, e), within)
+push_aggregates-push_aggregates-requires-in-Between g t c κs within = (left_lighter (weight (bound_expr_of c.deref-in-Between.result.now)) _ t c.decreases _ (ap weight (between_is c.args.expression.now c.in-Between.negated c.in-Between.offset c.in-Between.operand c.in-Between.low c.in-Between.high c.in-Between.is c.deref-in-Between.result.now c.deref-in-Between.ensures c.in-Between.low.value refl c.in-Between.high.value refl)), within)
 
 pub push_aggregates-push_aggregates-requires-in-Between-2 : goal.push_aggregates-push_aggregates-requires-in-Between-2
-push_aggregates-push_aggregates-requires-in-Between-2 g t c κs within = let w = ap weight (ap bound_expr_of c.in-Between.is) in let e = ap (λ e. weight (bound_expr_of e)) c.deref-in-Between-2.ensures in (omega (arith, c.decreases, w, e), within)
+push_aggregates-push_aggregates-requires-in-Between-2 g t c κs within = (middle_lighter (weight (bound_expr_of c.deref-in-Between-2.result.now)) _ t c.decreases _ _ (ap weight (between_is c.args.expression.now c.in-Between.negated c.in-Between.offset c.in-Between.operand c.in-Between.low c.in-Between.high c.in-Between.is c.in-Between.operand.value refl c.deref-in-Between-2.result.now c.deref-in-Between-2.ensures c.in-Between.high.value refl)), within)
 
 pub push_aggregates-push_aggregates-requires-in-Between-3 : goal.push_aggregates-push_aggregates-requires-in-Between-3
-push_aggregates-push_aggregates-requires-in-Between-3 g t c κs within = let w = ap weight (ap bound_expr_of c.in-Between.is) in let e = ap (λ e. weight (bound_expr_of e)) c.deref-in-Between-3.ensures in (omega (arith, c.decreases, w, e), within)
+push_aggregates-push_aggregates-requires-in-Between-3 g t c κs within = (last_lighter (weight (bound_expr_of c.deref-in-Between-3.result.now)) _ t c.decreases _ _ (ap weight (between_is c.args.expression.now c.in-Between.negated c.in-Between.offset c.in-Between.operand c.in-Between.low c.in-Between.high c.in-Between.is c.in-Between.operand.value refl c.in-Between.low.value refl c.deref-in-Between-3.result.now c.deref-in-Between-3.ensures)), within)
 
 pub push_aggregates-push_aggregates-requires-in-In : goal.push_aggregates-push_aggregates-requires-in-In
-push_aggregates-push_aggregates-requires-in-In g t c κs within = let w = ap weight (ap bound_expr_of c.in-In.is) in let e = ap (λ e. weight (bound_expr_of e)) c.deref-in-In.ensures in (omega (arith, c.decreases, w, e), within)
+push_aggregates-push_aggregates-requires-in-In g t c κs within = (lighter (weight (bound_expr_of c.deref-in-In.result.now)) _ t c.decreases (ap weight (in_is c.args.expression.now c.in-In.negated c.in-In.offset c.in-In.values c.in-In.operand c.in-In.is c.deref-in-In.result.now c.deref-in-In.ensures)), within)
 
 pub push_aggregates-push_aggregates-requires-in-IsNull : goal.push_aggregates-push_aggregates-requires-in-IsNull
-push_aggregates-push_aggregates-requires-in-IsNull g t c κs within = let w = ap weight (ap bound_expr_of c.in-IsNull.is) in let e = ap (λ e. weight (bound_expr_of e)) c.deref-in-IsNull.ensures in (omega (arith, c.decreases, w, e), within)
+push_aggregates-push_aggregates-requires-in-IsNull g t c κs within = (lighter (weight (bound_expr_of c.deref-in-IsNull.result.now)) _ t c.decreases (ap weight (is_null_is c.args.expression.now c.in-IsNull.offset c.in-IsNull.operand c.deref-in-IsNull.result.now c.deref-in-IsNull.ensures c.in-IsNull.negated c.in-IsNull.is)), within)
 
 pub push_aggregates-push_aggregates-requires-in-Not : goal.push_aggregates-push_aggregates-requires-in-Not
-push_aggregates-push_aggregates-requires-in-Not g t c κs within = let w = ap weight (ap bound_expr_of c.in-Not.is) in let e = ap (λ e. weight (bound_expr_of e)) c.deref-in-Not.ensures in (omega (arith, c.decreases, w, e), within)
+push_aggregates-push_aggregates-requires-in-Not g t c κs within = (lighter (weight (bound_expr_of c.deref-in-Not.result.now)) _ t c.decreases (ap weight (not_is c.args.expression.now c.in-Not.offset c.in-Not.operand c.deref-in-Not.result.now c.deref-in-Not.ensures c.in-Not.is)), within)
 
 pub push_aggregates-push_aggregates-requires-in-Cast : goal.push_aggregates-push_aggregates-requires-in-Cast
-push_aggregates-push_aggregates-requires-in-Cast g t c κs within = let w = ap weight (ap bound_expr_of c.in-Cast.is) in let e = ap (λ e. weight (bound_expr_of e)) c.deref-in-Cast.ensures in (omega (arith, c.decreases, w, e), within)
+push_aggregates-push_aggregates-requires-in-Cast g t c κs within = (lighter (weight (bound_expr_of c.deref-in-Cast.result.now)) _ t c.decreases (ap weight (cast_is c.args.expression.now c.in-Cast.offset c.in-Cast.operand c.deref-in-Cast.result.now c.deref-in-Cast.ensures c.in-Cast.to c.in-Cast.is)), within)
 
 pub push_aggregates-returns-in-CountStar : goal.push_aggregates-returns-in-CountStar
 push_aggregates-returns-in-CountStar g t c = on_ok_weaker c.push.result (λ n. one_more (λ x. aggregate_call_of x) _ _ _ _ n (ap aggregates (ap bound_expr_of c.in-CountStar.is))) c.push.ensures.ok

@@ -4,6 +4,7 @@ use Rattle.expr.specs.Columns.{columns, all_columns, arms_columns}
 use Rattle.expr.specs.Weights.{weight}
 use Rattle.expr.proofs.Walks.{Gathers, parts_step, parts_over, arm_parts_step, arm_parts_over, case_parts_none, case_parts_some, and_is, or_is, case_none, case_some, case_lighter, exprs_lighter, exprs_still, when_lighter, result_lighter, arms_still, two_parts, three_parts}
 use Rattle.expr.specs.View.{bound_expr_of}
+use Rattle.expr.proofs.Operands.{arithmetic_is, between_is, call_is, cast_is, comparison_is, in_is, is_null_is, last_lighter, left_lighter, lighter, middle_lighter, negate_is, not_is, right_lighter}
 use Rattle.expr.proofs.columns.+columns.Goals as goal
 
 gathers : Gathers columns all_columns arms_columns
@@ -55,43 +56,43 @@ push_columns-returns-in-None g t c =
     c.in_ok-push_arms_columns-in-Case.ensures
 
 pub push_columns-push_columns-requires : goal.push_columns-push_columns-requires
-push_columns-push_columns-requires g t c κs within = let w = ap weight (ap bound_expr_of c.in-Negate.is) in let e = ap (λ e. weight (bound_expr_of e)) c.deref.ensures in (omega (arith, c.decreases, w, e), within)
+push_columns-push_columns-requires g t c κs within = (lighter (weight (bound_expr_of c.deref.result.now)) _ t c.decreases (ap weight (negate_is c.args.expression.now c.in-Negate.offset c.in-Negate.operand c.deref.result.now c.deref.ensures c.in-Negate.is)), within)
 
 pub push_columns-push_columns-requires-in-Arithmetic : goal.push_columns-push_columns-requires-in-Arithmetic
-push_columns-push_columns-requires-in-Arithmetic g t c κs within = let w = ap weight (ap bound_expr_of c.in-Arithmetic.is) in let e = ap (λ e. weight (bound_expr_of e)) c.deref-in-Arithmetic.ensures in (omega (arith, c.decreases, w, e), within)
+push_columns-push_columns-requires-in-Arithmetic g t c κs within = (left_lighter (weight (bound_expr_of c.deref-in-Arithmetic.result.now)) _ t c.decreases _ (ap weight (arithmetic_is c.args.expression.now c.in-Arithmetic.offset c.in-Arithmetic.left c.in-Arithmetic.right c.deref-in-Arithmetic.result.now c.deref-in-Arithmetic.ensures c.in-Arithmetic.right.value refl c.in-Arithmetic.operator c.in-Arithmetic.is)), within)
 
 pub push_columns-push_columns-requires-in-Arithmetic-2 : goal.push_columns-push_columns-requires-in-Arithmetic-2
-push_columns-push_columns-requires-in-Arithmetic-2 g t c κs within = let w = ap weight (ap bound_expr_of c.in-Arithmetic.is) in let e = ap (λ e. weight (bound_expr_of e)) c.deref-in-Arithmetic-2.ensures in (omega (arith, c.decreases, w, e), within)
+push_columns-push_columns-requires-in-Arithmetic-2 g t c κs within = (right_lighter (weight (bound_expr_of c.deref-in-Arithmetic-2.result.now)) _ t c.decreases _ (ap weight (arithmetic_is c.args.expression.now c.in-Arithmetic.offset c.in-Arithmetic.left c.in-Arithmetic.right c.in-Arithmetic.left.value refl c.deref-in-Arithmetic-2.result.now c.deref-in-Arithmetic-2.ensures c.in-Arithmetic.operator c.in-Arithmetic.is)), within)
 
 pub push_columns-push_columns-requires-in-Comparison : goal.push_columns-push_columns-requires-in-Comparison
-push_columns-push_columns-requires-in-Comparison g t c κs within = let w = ap weight (ap bound_expr_of c.in-Comparison.is) in let e = ap (λ e. weight (bound_expr_of e)) c.deref-in-Comparison.ensures in (omega (arith, c.decreases, w, e), within)
+push_columns-push_columns-requires-in-Comparison g t c κs within = (left_lighter (weight (bound_expr_of c.deref-in-Comparison.result.now)) _ t c.decreases _ (ap weight (comparison_is c.args.expression.now c.in-Comparison.offset c.in-Comparison.left c.in-Comparison.right c.deref-in-Comparison.result.now c.deref-in-Comparison.ensures c.in-Comparison.right.value refl c.in-Comparison.operator c.in-Comparison.is)), within)
 
 pub push_columns-push_columns-requires-in-Comparison-2 : goal.push_columns-push_columns-requires-in-Comparison-2
-push_columns-push_columns-requires-in-Comparison-2 g t c κs within = let w = ap weight (ap bound_expr_of c.in-Comparison.is) in let e = ap (λ e. weight (bound_expr_of e)) c.deref-in-Comparison-2.ensures in (omega (arith, c.decreases, w, e), within)
+push_columns-push_columns-requires-in-Comparison-2 g t c κs within = (right_lighter (weight (bound_expr_of c.deref-in-Comparison-2.result.now)) _ t c.decreases _ (ap weight (comparison_is c.args.expression.now c.in-Comparison.offset c.in-Comparison.left c.in-Comparison.right c.in-Comparison.left.value refl c.deref-in-Comparison-2.result.now c.deref-in-Comparison-2.ensures c.in-Comparison.operator c.in-Comparison.is)), within)
 
 pub push_columns-push_columns-requires-in-Between : goal.push_columns-push_columns-requires-in-Between
-push_columns-push_columns-requires-in-Between g t c κs within = let w = ap weight (ap bound_expr_of c.in-Between.is) in let e = ap (λ e. weight (bound_expr_of e)) c.deref-in-Between.ensures in (omega (arith, c.decreases, w, e), within)
+push_columns-push_columns-requires-in-Between g t c κs within = (left_lighter (weight (bound_expr_of c.deref-in-Between.result.now)) _ t c.decreases _ (ap weight (between_is c.args.expression.now c.in-Between.negated c.in-Between.offset c.in-Between.operand c.in-Between.low c.in-Between.high c.in-Between.is c.deref-in-Between.result.now c.deref-in-Between.ensures c.in-Between.low.value refl c.in-Between.high.value refl)), within)
 
 pub push_columns-push_columns-requires-in-Between-2 : goal.push_columns-push_columns-requires-in-Between-2
-push_columns-push_columns-requires-in-Between-2 g t c κs within = let w = ap weight (ap bound_expr_of c.in-Between.is) in let e = ap (λ e. weight (bound_expr_of e)) c.deref-in-Between-2.ensures in (omega (arith, c.decreases, w, e), within)
+push_columns-push_columns-requires-in-Between-2 g t c κs within = (middle_lighter (weight (bound_expr_of c.deref-in-Between-2.result.now)) _ t c.decreases _ _ (ap weight (between_is c.args.expression.now c.in-Between.negated c.in-Between.offset c.in-Between.operand c.in-Between.low c.in-Between.high c.in-Between.is c.in-Between.operand.value refl c.deref-in-Between-2.result.now c.deref-in-Between-2.ensures c.in-Between.high.value refl)), within)
 
 pub push_columns-push_columns-requires-in-Between-3 : goal.push_columns-push_columns-requires-in-Between-3
-push_columns-push_columns-requires-in-Between-3 g t c κs within = let w = ap weight (ap bound_expr_of c.in-Between.is) in let e = ap (λ e. weight (bound_expr_of e)) c.deref-in-Between-3.ensures in (omega (arith, c.decreases, w, e), within)
+push_columns-push_columns-requires-in-Between-3 g t c κs within = (last_lighter (weight (bound_expr_of c.deref-in-Between-3.result.now)) _ t c.decreases _ _ (ap weight (between_is c.args.expression.now c.in-Between.negated c.in-Between.offset c.in-Between.operand c.in-Between.low c.in-Between.high c.in-Between.is c.in-Between.operand.value refl c.in-Between.low.value refl c.deref-in-Between-3.result.now c.deref-in-Between-3.ensures)), within)
 
 pub push_columns-push_columns-requires-in-In : goal.push_columns-push_columns-requires-in-In
-push_columns-push_columns-requires-in-In g t c κs within = let w = ap weight (ap bound_expr_of c.in-In.is) in let e = ap (λ e. weight (bound_expr_of e)) c.deref-in-In.ensures in (omega (arith, c.decreases, w, e), within)
+push_columns-push_columns-requires-in-In g t c κs within = (lighter (weight (bound_expr_of c.deref-in-In.result.now)) _ t c.decreases (ap weight (in_is c.args.expression.now c.in-In.negated c.in-In.offset c.in-In.values c.in-In.operand c.in-In.is c.deref-in-In.result.now c.deref-in-In.ensures)), within)
 
 pub push_columns-push_columns-requires-in-IsNull : goal.push_columns-push_columns-requires-in-IsNull
-push_columns-push_columns-requires-in-IsNull g t c κs within = let w = ap weight (ap bound_expr_of c.in-IsNull.is) in let e = ap (λ e. weight (bound_expr_of e)) c.deref-in-IsNull.ensures in (omega (arith, c.decreases, w, e), within)
+push_columns-push_columns-requires-in-IsNull g t c κs within = (lighter (weight (bound_expr_of c.deref-in-IsNull.result.now)) _ t c.decreases (ap weight (is_null_is c.args.expression.now c.in-IsNull.offset c.in-IsNull.operand c.deref-in-IsNull.result.now c.deref-in-IsNull.ensures c.in-IsNull.negated c.in-IsNull.is)), within)
 
 pub push_columns-push_columns-requires-in-Not : goal.push_columns-push_columns-requires-in-Not
-push_columns-push_columns-requires-in-Not g t c κs within = let w = ap weight (ap bound_expr_of c.in-Not.is) in let e = ap (λ e. weight (bound_expr_of e)) c.deref-in-Not.ensures in (omega (arith, c.decreases, w, e), within)
+push_columns-push_columns-requires-in-Not g t c κs within = (lighter (weight (bound_expr_of c.deref-in-Not.result.now)) _ t c.decreases (ap weight (not_is c.args.expression.now c.in-Not.offset c.in-Not.operand c.deref-in-Not.result.now c.deref-in-Not.ensures c.in-Not.is)), within)
 
 pub push_columns-push_columns-requires-in-Cast : goal.push_columns-push_columns-requires-in-Cast
-push_columns-push_columns-requires-in-Cast g t c κs within = let w = ap weight (ap bound_expr_of c.in-Cast.is) in let e = ap (λ e. weight (bound_expr_of e)) c.deref-in-Cast.ensures in (omega (arith, c.decreases, w, e), within)
+push_columns-push_columns-requires-in-Cast g t c κs within = (lighter (weight (bound_expr_of c.deref-in-Cast.result.now)) _ t c.decreases (ap weight (cast_is c.args.expression.now c.in-Cast.offset c.in-Cast.operand c.deref-in-Cast.result.now c.deref-in-Cast.ensures c.in-Cast.to c.in-Cast.is)), within)
 
 pub push_columns-push_columns-requires-in-Call : goal.push_columns-push_columns-requires-in-Call
-push_columns-push_columns-requires-in-Call g t c κs within = let w = ap weight (ap bound_expr_of c.in-Call.is) in let e = ap (λ e. weight (bound_expr_of e)) c.deref-in-Call.ensures in (omega (arith, c.decreases, w, e), within)
+push_columns-push_columns-requires-in-Call g t c κs within = (lighter (weight (bound_expr_of c.deref-in-Call.result.now)) _ t c.decreases (ap weight (call_is c.args.expression.now c.in-Call.offset c.in-Call.argument c.deref-in-Call.result.now c.deref-in-Call.ensures c.in-Call.aggregate c.in-Call.is)), within)
 
 pub push_columns-returns-in-Column : goal.push_columns-returns-in-Column
 push_columns-returns-in-Column g t c = rw (ap bound_expr_of c.in-Column.is) c.push.ensures.ok

@@ -4,6 +4,7 @@ use Rattle.std.proofs.lemmas.Grind.{common_steps}
 use Rattle.expr.specs.Movable.{movable, all_movable, arms_movable}
 use Rattle.expr.specs.View.{bound_expr_of}
 use Rattle.expr.proofs.Walks.{and_is, or_is, case_is, case_none, case_some, case_lighter, exprs_step, exprs_lighter, exprs_still, exprs_over, when_lighter, result_lighter, arms_step, arms_still, arms_over, both_true}
+use Rattle.expr.proofs.Operands.{between_is, comparison_is, in_is, is_null_is, last_lighter, left_lighter, lighter, middle_lighter, not_is, right_lighter}
 use Rattle.expr.proofs.movable.+movable.Goals as goal
 
 -- ---- the members that are left, after one
@@ -54,28 +55,28 @@ are_arms_movable-loop-arm-preserved g t c = record {
 }
 
 pub is_movable-is_movable-requires : goal.is_movable-is_movable-requires
-is_movable-is_movable-requires g t c κs within = let w = ap weight (ap bound_expr_of c.in-Comparison.is) in let e = ap (λ e. weight (bound_expr_of e)) c.deref.ensures in (omega (arith, c.decreases, w, e), within)
+is_movable-is_movable-requires g t c κs within = (left_lighter (weight (bound_expr_of c.deref.result.now)) _ t c.decreases _ (ap weight (comparison_is c.args.expression.now c.in-Comparison.offset c.in-Comparison.left c.in-Comparison.right c.deref.result.now c.deref.ensures c.in-Comparison.right.value refl c.in-Comparison.operator c.in-Comparison.is)), within)
 
 pub is_movable-is_movable-requires-then-is_movable : goal.is_movable-is_movable-requires-then-is_movable
-is_movable-is_movable-requires-then-is_movable g t c κs within = let w = ap weight (ap bound_expr_of c.in-Comparison.is) in let e = ap (λ e. weight (bound_expr_of e)) c.deref-then-is_movable.ensures in (omega (arith, c.decreases, w, e), within)
+is_movable-is_movable-requires-then-is_movable g t c κs within = (right_lighter (weight (bound_expr_of c.deref-then-is_movable.result.now)) _ t c.decreases _ (ap weight (comparison_is c.args.expression.now c.in-Comparison.offset c.in-Comparison.left c.in-Comparison.right c.in-Comparison.left.value refl c.deref-then-is_movable.result.now c.deref-then-is_movable.ensures c.in-Comparison.operator c.in-Comparison.is)), within)
 
 pub is_movable-is_movable-requires-in-Between : goal.is_movable-is_movable-requires-in-Between
-is_movable-is_movable-requires-in-Between g t c κs within = let w = ap weight (ap bound_expr_of c.in-Between.is) in let e = ap (λ e. weight (bound_expr_of e)) c.deref-in-Between.ensures in (omega (arith, c.decreases, w, e), within)
+is_movable-is_movable-requires-in-Between g t c κs within = (left_lighter (weight (bound_expr_of c.deref-in-Between.result.now)) _ t c.decreases _ (ap weight (between_is c.args.expression.now c.in-Between.negated c.in-Between.offset c.in-Between.operand c.in-Between.low c.in-Between.high c.in-Between.is c.deref-in-Between.result.now c.deref-in-Between.ensures c.in-Between.low.value refl c.in-Between.high.value refl)), within)
 
 pub is_movable-is_movable-requires-then-is_movable-2 : goal.is_movable-is_movable-requires-then-is_movable-2
-is_movable-is_movable-requires-then-is_movable-2 g t c κs within = let w = ap weight (ap bound_expr_of c.in-Between.is) in let e = ap (λ e. weight (bound_expr_of e)) c.deref-then-is_movable-2.ensures in (omega (arith, c.decreases, w, e), within)
+is_movable-is_movable-requires-then-is_movable-2 g t c κs within = (middle_lighter (weight (bound_expr_of c.deref-then-is_movable-2.result.now)) _ t c.decreases _ _ (ap weight (between_is c.args.expression.now c.in-Between.negated c.in-Between.offset c.in-Between.operand c.in-Between.low c.in-Between.high c.in-Between.is c.in-Between.operand.value refl c.deref-then-is_movable-2.result.now c.deref-then-is_movable-2.ensures c.in-Between.high.value refl)), within)
 
 pub is_movable-is_movable-requires-then-is_movable-3 : goal.is_movable-is_movable-requires-then-is_movable-3
-is_movable-is_movable-requires-then-is_movable-3 g t c κs within = let w = ap weight (ap bound_expr_of c.in-Between.is) in let e = ap (λ e. weight (bound_expr_of e)) c.deref-then-is_movable-3.ensures in (omega (arith, c.decreases, w, e), within)
+is_movable-is_movable-requires-then-is_movable-3 g t c κs within = (last_lighter (weight (bound_expr_of c.deref-then-is_movable-3.result.now)) _ t c.decreases _ _ (ap weight (between_is c.args.expression.now c.in-Between.negated c.in-Between.offset c.in-Between.operand c.in-Between.low c.in-Between.high c.in-Between.is c.in-Between.operand.value refl c.in-Between.low.value refl c.deref-then-is_movable-3.result.now c.deref-then-is_movable-3.ensures)), within)
 
 pub is_movable-is_movable-requires-in-In : goal.is_movable-is_movable-requires-in-In
-is_movable-is_movable-requires-in-In g t c κs within = let w = ap weight (ap bound_expr_of c.in-In.is) in let e = ap (λ e. weight (bound_expr_of e)) c.deref-in-In.ensures in (omega (arith, c.decreases, w, e), within)
+is_movable-is_movable-requires-in-In g t c κs within = (lighter (weight (bound_expr_of c.deref-in-In.result.now)) _ t c.decreases (ap weight (in_is c.args.expression.now c.in-In.negated c.in-In.offset c.in-In.values c.in-In.operand c.in-In.is c.deref-in-In.result.now c.deref-in-In.ensures)), within)
 
 pub is_movable-is_movable-requires-in-IsNull : goal.is_movable-is_movable-requires-in-IsNull
-is_movable-is_movable-requires-in-IsNull g t c κs within = let w = ap weight (ap bound_expr_of c.in-IsNull.is) in let e = ap (λ e. weight (bound_expr_of e)) c.deref-in-IsNull.ensures in (omega (arith, c.decreases, w, e), within)
+is_movable-is_movable-requires-in-IsNull g t c κs within = (lighter (weight (bound_expr_of c.deref-in-IsNull.result.now)) _ t c.decreases (ap weight (is_null_is c.args.expression.now c.in-IsNull.offset c.in-IsNull.operand c.deref-in-IsNull.result.now c.deref-in-IsNull.ensures c.in-IsNull.negated c.in-IsNull.is)), within)
 
 pub is_movable-is_movable-requires-in-Not : goal.is_movable-is_movable-requires-in-Not
-is_movable-is_movable-requires-in-Not g t c κs within = let w = ap weight (ap bound_expr_of c.in-Not.is) in let e = ap (λ e. weight (bound_expr_of e)) c.deref-in-Not.ensures in (omega (arith, c.decreases, w, e), within)
+is_movable-is_movable-requires-in-Not g t c κs within = (lighter (weight (bound_expr_of c.deref-in-Not.result.now)) _ t c.decreases (ap weight (not_is c.args.expression.now c.in-Not.offset c.in-Not.operand c.deref-in-Not.result.now c.deref-in-Not.ensures c.in-Not.is)), within)
 
 pub is_movable-returns-in-In : goal.is_movable-returns-in-In
 is_movable-returns-in-In g t c = c.is_movable-in-In.ensures ∙ ap (λ e. movable (bound_expr_of e)) c.deref-in-In.ensures ∙ sym (ap movable (ap bound_expr_of c.in-In.is))

@@ -1,5 +1,5 @@
 use Rattle.expr.proofs.Copied.{some_copied}
-use Rattle.expr.proofs.copies.with_otherwise.Goals as goal
+use Rattle.expr.proofs.nodes.with_otherwise.Goals as goal
 
 pub returns-in-Ok-otherwise : goal.returns-in-Ok-otherwise
 returns-in-Ok-otherwise g c = λ as_ e h i. some_copied c.args.offset c.in-Ok.arms as_ (rw c.in-Ok.is at h) c.boxed.result c.in-Ok-otherwise.value e (rw c.in-Ok-otherwise.is at i) c.boxed.ensures

@@ -1,5 +1,5 @@
 use Rattle.expr.proofs.Copied.{or_copied}
-use Rattle.expr.proofs.copies.disjunction.Goals as goal
+use Rattle.expr.proofs.nodes.disjunction.Goals as goal
 
 pub returns-in-Ok : goal.returns-in-Ok
 returns-in-Ok g c = λ es h. or_copied c.args.offset c.in-Ok.members es (rw c.in-Ok.is at h) c.boxed.result c.boxed.ensures
