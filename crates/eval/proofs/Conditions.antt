@@ -10,13 +10,11 @@ use Rattle.value.specs.declared.order.Truth.TheVariants.{False, Unknown, True}
 use Rattle.value.specs.contracts.order.Truth.{the_type}
 use Rattle.value.specs.declared.faults.Fault.{Fault}
 use Rattle.value.specs.Truths.{least, greatest}
-use Rattle.value.specs.Datum.{Datum, null}
-use Rattle.value.specs.declared.types.Val.{Val}
+use Rattle.value.specs.Datum.{null}
 use Rattle.expr.specs.declared.bound.BoundExpr.{BoundExpr, Case}
 use Rattle.expr.specs.declared.bound.BoundArm.{BoundArm}
-use Rattle.expr.specs.View.{bound_expr_of, bound_exprs, bound_arms}
-use Rattle.expr.proofs.Walks.{otherwise_of, case_is, exprs_step, arms_step}
-use Rattle.eval.specs.Choice.{GivesChoice}
+use Rattle.expr.specs.View.{bound_expr_of, bound_exprs, bound_arms, otherwise_of}
+use Rattle.expr.proofs.Walks.{case_is, exprs_step, arms_step}
 use Rattle.eval.specs.Meaning.{Cells, Outcome, meaning, condition, conjunction, disjunction, chosen, otherwise, with_least, with_greatest, unless_false, unless_true, when_true}
 
 -- ---- two truths that compare as equal
@@ -98,31 +96,21 @@ module _ (cells : Cells) (role : List ℕ) {A : Type 0} (as_ : List (BoundArm A)
 -- ---- CASE
 
 module _ (cells : Cells) (role : List ℕ) {A : Type 0} (e : BoundExpr A) (offset : ℕ) (v : Vec (BoundArm A) A) (as_ : List (BoundArm A)) (d : as_ ≡ v.items) (o : Option (Box (BoundExpr A) A)) (is : e ≡ Case offset v o) where
-  by_arms : meaning cells role (bound_expr_of e) ≡ chosen cells role (bound_arms as_) (otherwise cells role (otherwise_of o))
+  pub by_arms : meaning cells role (bound_expr_of e) ≡ chosen cells role (bound_arms as_) (otherwise cells role (otherwise_of o))
   by_arms = ap (meaning cells role) (case_is e offset v as_ d o is)
 
-  pub case_fails : (f : Failure Fault) → ((rest : Outcome) → IsFailure f (chosen cells role (bound_arms as_) rest)) → IsFailure f (meaning cells role (bound_expr_of e))
-  case_fails f h = rw by_arms (h _)
+module _ (cells : Cells) (role : List ℕ) {A : Type 0} (o : Option (Box (BoundExpr A) A)) where
+  pub else_value : (b : Box (BoundExpr A) A) → o ≡ Some b → (x : BoundExpr A) → x ≡ b.value → otherwise cells role (otherwise_of o) ≡ meaning cells role (bound_expr_of x)
+  else_value b s x q = ap (λ p. otherwise cells role (otherwise_of p)) s ∙ ap (λ y. meaning cells role (bound_expr_of y)) (sym q)
 
-  pub case_value : (x : Datum) → ((rest : Outcome) → chosen cells role (bound_arms as_) rest ≡ Ok x) → meaning cells role (bound_expr_of e) ≡ Ok x
-  case_value x h = by_arms ∙ h _
-
-  module _ (none : (rest : Outcome) → chosen cells role (bound_arms as_) rest ≡ rest) where
-    pub case_else : (b : Box (BoundExpr A) A) → o ≡ Some b → (x : BoundExpr A) → x ≡ b.value → meaning cells role (bound_expr_of e) ≡ meaning cells role (bound_expr_of x)
-    case_else b s x q = by_arms ∙ none _ ∙ ap (λ p. otherwise cells role (otherwise_of p)) s ∙ ap (λ y. meaning cells role (bound_expr_of y)) (sym q)
-
-    pub case_null : o ≡ None → meaning cells role (bound_expr_of e) ≡ Ok null
-    case_null n = by_arms ∙ none _ ∙ ap (λ p. otherwise cells role (otherwise_of p)) n
+  pub else_null : o ≡ None → otherwise cells role (otherwise_of o) ≡ Ok null
+  else_null n = ap (λ p. otherwise cells role (otherwise_of p)) n
 
 -- ---- what `?` returns
 
 pub exits : {X Y : Type 0} (view : X → Y) (r : Result X (Failure Fault)) (f : Failure Fault) (m : Result Y Fault) → IsErrAnd r (λ e. e ≡ f) → IsFailure f m → Gives view r m
 exits view (Ok x) f m is h = absurd is
 exits view (Err e) f m is h = rw is h
-
-pub exits_choice : {A : Type 0} (r : Result (Option (Val A)) (Failure Fault)) (f : Failure Fault) (rest m : Outcome) → IsErrAnd r (λ e. e ≡ f) → IsFailure f m → GivesChoice r rest m
-exits_choice (Ok x) f rest m is h = absurd is
-exits_choice (Err e) f rest m is h = rw is h
 
 pub never_fails : (f : Failure Fault) (m : Outcome) → IsFailure f m → IsOk m → f ≢ failure.OutOfMemory → ⊥
 never_fails (failure.Fault x) m h ok n = absurd (cc)

@@ -4,3 +4,4 @@ pub mod Faultless
 pub mod Members
 pub mod Agreement
 pub mod Operands
+pub mod Measures

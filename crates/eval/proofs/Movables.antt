@@ -5,9 +5,9 @@ use Rattle.memory.specs.declared.failure.Failure.TheVariants.{OutOfMemory}
 use Rattle.value.specs.declared.faults.Fault.{Fault}
 use Rattle.expr.specs.declared.bound.BoundExpr.{BoundExpr, Case}
 use Rattle.expr.specs.declared.bound.BoundArm.{BoundArm}
-use Rattle.expr.specs.View.{bound_expr_of, bound_exprs, bound_arms}
+use Rattle.expr.specs.View.{bound_expr_of, bound_exprs, bound_arms, otherwise_of}
 use Rattle.expr.specs.Movable.{movable, all_movable, arms_movable, otherwise_movable}
-use Rattle.expr.proofs.Walks.{otherwise_of, case_is, exprs_step, arms_step}
+use Rattle.expr.proofs.Walks.{case_is, exprs_step, arms_step}
 
 pub and_left : (a b : Bool) → a && b ≡ true → a ≡ true
 and_left true b h = refl
@@ -41,10 +41,11 @@ module _ {A : Type 0} (e : BoundExpr A) (offset : ℕ) (v : Vec (BoundArm A) A) 
   pub arms_all_movable : arms_movable (bound_arms as_) ≡ true
   arms_all_movable = and_left (arms_movable (bound_arms as_)) (otherwise_movable (otherwise_of o)) (rw (case_is e offset v as_ d o is) at h)
 
-  pub else_movable : (b : Box (BoundExpr A) A) → o ≡ Some b → (x : BoundExpr A) → x ≡ b.value → movable (bound_expr_of x) ≡ true
-  else_movable b s x q =
-      let r : otherwise_movable (otherwise_of o) ≡ true = and_right (arms_movable (bound_arms as_)) (otherwise_movable (otherwise_of o)) (rw (case_is e offset v as_ d o is) at h) in
-      ap (λ y. movable (bound_expr_of y)) q ∙ sym (ap (λ p. otherwise_movable (otherwise_of p)) s) ∙ r
+  pub else_all_movable : otherwise_movable (otherwise_of o) ≡ true
+  else_all_movable = and_right (arms_movable (bound_arms as_)) (otherwise_movable (otherwise_of o)) (rw (case_is e offset v as_ d o is) at h)
+
+pub else_movable : {A : Type 0} (o : Option (Box (BoundExpr A) A)) → otherwise_movable (otherwise_of o) ≡ true → (b : Box (BoundExpr A) A) → o ≡ Some b → (x : BoundExpr A) → x ≡ b.value → movable (bound_expr_of x) ≡ true
+else_movable o h b s x q = ap (λ y. movable (bound_expr_of y)) q ∙ sym (ap (λ p. otherwise_movable (otherwise_of p)) s) ∙ h
 
 -- what `?` returns
 pub exits_safe : {X Y : Type 0} (r : Result Y (Failure Fault)) (f : Failure Fault) → IsErrAnd r (λ e. e ≡ f) → ◌≢◌ {A = Result X (Failure Fault)} (Err f) (Err OutOfMemory) → r ≢ Err OutOfMemory

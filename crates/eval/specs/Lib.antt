@@ -1,4 +1,3 @@
 pub mod Operators
 pub mod Meaning
-pub mod Choice
 pub mod Laws

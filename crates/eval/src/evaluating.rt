@@ -3,14 +3,13 @@
 ghost use Rattle.std.specs.Prelude.{◌≡◌, ◌≢◌, Err, true};
 ghost use Rattle.memory.specs.Gives.{Gives};
 ghost use Rattle.value.specs.Datum.{datum_of};
-ghost use Rattle.expr.specs.View.{bound_arms, bound_expr_of, bound_exprs};
-ghost use Rattle.expr.specs.Movable.{movable, all_movable, arms_movable};
+ghost use Rattle.expr.specs.View.{bound_arms, bound_expr_of, bound_exprs, otherwise_of};
+ghost use Rattle.expr.specs.Movable.{movable, all_movable, arms_movable, otherwise_movable};
 ghost use Rattle.eval.specs.Meaning as spec;
-ghost use Rattle.eval.specs.Meaning.{Outcome, meaning};
-ghost use Rattle.eval.specs.Choice.{GivesChoice};
+ghost use Rattle.eval.specs.Meaning.{meaning};
 
 use crate::outcomes::{
-    arithmetic, as_value, between, cast_at, choice, comparison, condition, logical_not, membership,
+    arithmetic, as_value, between, cast_at, comparison, condition, logical_not, membership,
     negation, null_check,
 };
 use crate::row::Row;
@@ -116,14 +115,7 @@ fn evaluate<'a, A: Heap, R: Row<A>>(
             arms,
             otherwise,
             ..
-        } => match chosen(alloc, arms, row, role) {
-            Ok(Some(value)) => Ok(value),
-            Ok(None) => match otherwise {
-                Some(other) => evaluate(alloc, other, row, role),
-                None => Ok(Val::Null),
-            },
-            Err(failure) => Err(failure),
-        },
+        } => { chosen(alloc, arms, otherwise, row, role) }
         BoundExpr::CountStar { offset } | BoundExpr::Call { offset, .. } => {
             Ok(row.aggregate(*offset))
         }
@@ -172,21 +164,25 @@ fn disjunction<A: Heap, R: Row<A>>(
     Ok(known)
 }
 
-// The result of the first arm whose condition is true.
+// The result of the first arm whose condition is true, or else that of ELSE.
 #[cycle(eval)]
 fn chosen<'a, A: Heap, R: Row<A>>(
     alloc: A,
     arms: &'a [BoundArm<A>],
+    otherwise: &'a Option<Box<BoundExpr<A>, A>>,
     row: &'a R,
     role: &Role<'a>,
-) -> Result<Option<Val<'a, A>>, Failure<Fault>>
-    ensures value { (rest : Outcome) → GivesChoice result rest (spec.chosen (R.cells row.now) role.now.name.now (bound_arms arms.now) rest) }
-    ensures memory { arms_movable (bound_arms arms.now) ≡ true → result ≢ Err Failure.OutOfMemory }
+) -> Result<Val<'a, A>, Failure<Fault>>
+    ensures value { Gives datum_of result (spec.chosen (R.cells row.now) role.now.name.now (bound_arms arms.now) (spec.otherwise (R.cells row.now) role.now.name.now (otherwise_of otherwise.now))) }
+    ensures memory { arms_movable (bound_arms arms.now) ≡ true → otherwise_movable (otherwise_of otherwise.now) ≡ true → result ≢ Err Failure.OutOfMemory }
 {
     for arm in arms {
         if condition(evaluate(alloc, &arm.when, row, role))? == Truth::True {
-            return choice(evaluate(alloc, &arm.result, row, role));
+            return evaluate(alloc, &arm.result, row, role);
         }
     }
-    Ok(None)
+    match otherwise {
+        Some(other) => evaluate(alloc, other, row, role),
+        None => Ok(Val::Null),
+    }
 }

@@ -5,7 +5,6 @@ ghost use Rattle.memory.specs.Gives.{Gives};
 ghost use Rattle.value.specs.Datum.{datum, datum_of, datums_of};
 ghost use Rattle.value.specs.declared.order.Truth.{Truth};
 ghost use Rattle.value.specs.declared.faults.Fault.{Fault};
-ghost use Rattle.eval.specs.Choice.{GivesChoice};
 ghost use Rattle.eval.specs.Meaning as spec;
 ghost use Rattle.eval.specs.Meaning.{Outcome, at_offset};
 
@@ -171,19 +170,6 @@ pub(crate) fn as_value<'a, A: Heap>(
 {
     match outcome {
         Ok(truth) => Ok(of_truth(truth)),
-        Err(failure) => Err(failure),
-    }
-}
-
-// The value of the arm of a CASE that is chosen.
-pub(crate) fn choice<'a, A: Heap>(
-    outcome: Result<Val<'a, A>, Failure<Fault>>,
-) -> Result<Option<Val<'a, A>>, Failure<Fault>>
-    ensures value { (m rest : Outcome) → Gives datum_of outcome.entry m → GivesChoice result rest m }
-    ensures memory { outcome.entry ≢ Err Failure.OutOfMemory → result ≢ Err Failure.OutOfMemory }
-{
-    match outcome {
-        Ok(value) => Ok(Some(value)),
         Err(failure) => Err(failure),
     }
 }

@@ -3,18 +3,13 @@ use Rattle.std.proofs.Common.{◌≡◌, Bool, true, false, ◌&&◌, ℕ, suc, 
 use Rattle.std.proofs.Math.ListN.{drop_of_length-le}
 use Rattle.std.proofs.lemmas.List.{map-append}
 use Rattle.expr.specs.Bound as bound
-use Rattle.expr.specs.View.{bound_expr_of, bound_exprs, bound_arms}
+use Rattle.expr.specs.View.{bound_expr_of, bound_exprs, bound_arms, otherwise_of}
 use Rattle.expr.specs.declared.bound.BoundExpr.{BoundExpr, And, Or, Case}
 use Rattle.expr.specs.declared.bound.BoundArm.{BoundArm}
 use Rattle.expr.proofs.Trees.{bound_exprs_hidden, bound_arms_hidden}
 use Rattle.expr.specs.Weights.{weight, all_weight, arms_weight}
 
 -- ---- what a node with members is
-
--- ELSE, if it is there
-abbrev pub otherwise_of : {A : Type 0} → Option (Box (BoundExpr A) A) → bound.BoundOtherwise
-otherwise_of None = bound.Nothing
-otherwise_of (Some b) = bound.Value (bound_expr_of b.value)
 
 module _ {A : Type 0} (e : BoundExpr A) (offset : ℕ) where
   module _ (v : Vec (BoundExpr A) A) (es : List (BoundExpr A)) (d : es ≡ v.items) where

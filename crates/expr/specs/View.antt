@@ -1,5 +1,5 @@
 -- What the bound trees of the program are.
-use Rattle.std.specs.Prelude.{List, map, option_map}
+use Rattle.std.specs.Prelude.{List, Option, Some, None, Box, map, option_map}
 use Rattle.value.specs.Datum.{datum}
 use Rattle.expr.specs.Bound as bound
 use Rattle.expr.specs.declared.bound.BoundExpr.{BoundExpr, Column, Literal, CurrentUser, Negate', Arithmetic', Comparison', Between', In', IsNull', Not', And', Or', Cast', Case', CountStar, Call', Row_of-BoundExpr, end_of-BoundExpr, more_of-BoundExpr, Row_of-BoundArm, end_of-BoundArm, more_of-BoundArm, Held-BoundExpr-Case-2, None', Some'}
@@ -46,6 +46,11 @@ bound_arm_pair a = (bound_expr_of a.when, bound_expr_of a.result)
 
 abbrev pub bound_arms : {A : Type 0} → List (BoundArm A) → bound.BoundArms
 bound_arms as_ = bound.bound_arms_of (map bound_arm_pair as_)
+
+-- ELSE, if it is there
+abbrev pub otherwise_of : {A : Type 0} → Option (Box (BoundExpr A) A) → bound.BoundOtherwise
+otherwise_of None = bound.Nothing
+otherwise_of (Some b) = bound.Value (bound_expr_of b.value)
 
 abbrev pub aggregate_call_of : {A : Type 0} → call.AggregateCall A → AggregateCall
 aggregate_call_of c = record { aggregate = c.aggregate; offset = c.offset; argument = option_map (λ e. bound_expr_of e.now) c.argument }

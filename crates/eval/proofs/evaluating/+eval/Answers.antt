@@ -1,5 +1,5 @@
 use borrow.Author.Count.{falls}
-use Rattle.std.proofs.Common.{◌<◌, length, None, Ok, refl, sym, ap, ◌∙◌, subst, rules, arith}
+use Rattle.std.proofs.Common.{length, Ok, refl, sym, ap, ◌∙◌, rules, arith}
 use Rattle.std.proofs.Math.Nat.{le_refl}
 use denote.Enum.Bare.{same_false}
 use Rattle.value.specs.Datum.{datum_of}
@@ -7,14 +7,15 @@ use Rattle.value.specs.declared.order.Truth.TheVariants.{False, True}
 use Rattle.value.specs.declared.types.Val.{Val}
 use Rattle.std.specs.declared.borrow.CowStr.{CowStr}
 use Rattle.value.specs.contracts.order.Truth.{the_type}
-use Rattle.expr.specs.View.{bound_expr_of, bound_exprs, bound_arms}
-use Rattle.eval.specs.Meaning.{meaning, conjunction, disjunction}
+use Rattle.expr.specs.View.{bound_expr_of, bound_exprs, bound_arms, otherwise_of}
+use Rattle.eval.specs.Meaning.{meaning, conjunction, disjunction, otherwise}
 use Rattle.expr.specs.Movable.{movable}
 use Rattle.expr.specs.Weights.{weight, all_weight, arms_weight}
 use Rattle.expr.proofs.Operands.{negate_is, in_is, is_null_is, not_is, cast_is, arithmetic_is, comparison_is, between_is, lighter, left_lighter, right_lighter, middle_lighter, last_lighter}
-use Rattle.expr.proofs.Walks.{else_is, and_is, or_is, case_lighter, exprs_lighter, exprs_still, when_lighter, result_lighter, arms_still}
-use Rattle.eval.proofs.Conditions.{and_open, or_open, and_start, or_start, and_over, and_fails, and_ends, and_goes_on, or_over, or_fails, or_ends, or_goes_on, case_over, when_fails, case_gives, case_goes_on, case_fails, case_value, case_else, case_null, exits, exits_choice, same}
-use Rattle.eval.proofs.Movables.{member_movable, rest_movable, when_movable, result_movable, arms_left_movable, arms_all_movable, else_movable, exits_safe, err_safe, ok_safe, and_left, and_right}
+use Rattle.expr.proofs.Walks.{case_is, and_is, or_is, exprs_lighter, exprs_still, when_lighter, result_lighter, arms_still}
+use Rattle.eval.proofs.Conditions.{and_open, or_open, and_start, or_start, and_over, and_fails, and_ends, and_goes_on, or_over, or_fails, or_ends, or_goes_on, case_over, when_fails, case_gives, case_goes_on, by_arms, else_value, else_null, exits, same}
+use Rattle.eval.proofs.Movables.{member_movable, rest_movable, when_movable, result_movable, arms_left_movable, arms_all_movable, else_all_movable, else_movable, exits_safe, ok_safe, and_left, and_right}
+use Rattle.eval.proofs.Measures.{doubled, case_below, arm_below, else_below, else_weight}
 use Rattle.eval.proofs.Operands.{immovable, aggregate_is, member_of, arithmetic_known, comparison_known, arithmetic_fails, comparison_fails, between_fails, between_low_fails, between_known, operand_movable, low_movable, high_movable}
 use base.Fml.{Lft}
 use contract.BorrowLft.{◌⊑◌}
@@ -82,22 +83,19 @@ disjunction-returns-clause-value g t c = or_over (g.R.Row.cells c.args.row.now) 
 -- ---- the arms of CASE
 
 pub chosen-returns-in_err-condition-clause-value : goal.chosen-returns-in_err-condition-clause-value
-chosen-returns-in_err-condition-clause-value g t c = λ rest.
-    exits_choice c.from_residual.result c.in_err-condition.field-0.0 rest _ c.from_residual.ensures.1
-    (when_fails (g.R.Row.cells c.args.row.now) c.args.role.now.name.now c.args.arms.now c.loop-arm.arm-index rest (c.loop-arm.invariant.rest rest) c.arm-item.result c.loop-arm-test.true c.arm-item.is c.in_err-condition.field-0.0 (c.in_err-condition.ensures.value (meaning (g.R.Row.cells c.args.row.now) c.args.role.now.name.now (bound_expr_of c.arm-item.result.when)) c.evaluate.ensures.value))
+chosen-returns-in_err-condition-clause-value g t c =
+    exits (datum_of {A = g.row.A.Denot}) c.from_residual.result c.in_err-condition.field-0.0 _ c.from_residual.ensures.1
+    (when_fails (g.R.Row.cells c.args.row.now) c.args.role.now.name.now c.args.arms.now c.loop-arm.arm-index (otherwise (g.R.Row.cells c.args.row.now) c.args.role.now.name.now (otherwise_of c.args.otherwise.now)) c.loop-arm.invariant.rest c.arm-item.result c.loop-arm-test.true c.arm-item.is c.in_err-condition.field-0.0 (c.in_err-condition.ensures.value (meaning (g.R.Row.cells c.args.row.now) c.args.role.now.name.now (bound_expr_of c.arm-item.result.when)) c.evaluate.ensures.value))
 
 pub chosen-returns-then-eq-clause-value : goal.chosen-returns-then-eq-clause-value
-chosen-returns-then-eq-clause-value g t c = λ rest. rw (case_gives (g.R.Row.cells c.args.row.now) c.args.role.now.name.now c.args.arms.now c.loop-arm.arm-index rest (c.loop-arm.invariant.rest rest) c.arm-item.result c.loop-arm-test.true c.arm-item.is c.in_ok-condition.field-0 (c.in_ok-condition.ensures.value (meaning (g.R.Row.cells c.args.row.now) c.args.role.now.name.now (bound_expr_of c.arm-item.result.when)) c.evaluate.ensures.value) (same c.in_ok-condition.field-0 True (sym c.if-eq.ensures))) (c.choice.ensures.value _ rest c.evaluate-then-eq.ensures.value)
+chosen-returns-then-eq-clause-value g t c = rw (case_gives (g.R.Row.cells c.args.row.now) c.args.role.now.name.now c.args.arms.now c.loop-arm.arm-index (otherwise (g.R.Row.cells c.args.row.now) c.args.role.now.name.now (otherwise_of c.args.otherwise.now)) c.loop-arm.invariant.rest c.arm-item.result c.loop-arm-test.true c.arm-item.is c.in_ok-condition.field-0 (c.in_ok-condition.ensures.value (meaning (g.R.Row.cells c.args.row.now) c.args.role.now.name.now (bound_expr_of c.arm-item.result.when)) c.evaluate.ensures.value) (same c.in_ok-condition.field-0 True (sym c.if-eq.ensures))) c.evaluate-then-eq.ensures.value
 
 pub chosen-loop-arm-preserved : goal.chosen-loop-arm-preserved
 chosen-loop-arm-preserved g t c = record {
-  rest = λ rest. case_goes_on (g.R.Row.cells c.args.row.now) c.args.role.now.name.now c.args.arms.now c.loop-arm.arm-index rest (c.loop-arm.invariant.rest rest) c.arm-item.result c.loop-arm-test.true c.arm-item.is c.in_ok-condition.field-0 (c.in_ok-condition.ensures.value (meaning (g.R.Row.cells c.args.row.now) c.args.role.now.name.now (bound_expr_of c.arm-item.result.when)) c.evaluate.ensures.value) (same_false the_type c.in_ok-condition.field-0 True (sym c.if-eq.ensures));
+  rest = case_goes_on (g.R.Row.cells c.args.row.now) c.args.role.now.name.now c.args.arms.now c.loop-arm.arm-index (otherwise (g.R.Row.cells c.args.row.now) c.args.role.now.name.now (otherwise_of c.args.otherwise.now)) c.loop-arm.invariant.rest c.arm-item.result c.loop-arm-test.true c.arm-item.is c.in_ok-condition.field-0 (c.in_ok-condition.ensures.value (meaning (g.R.Row.cells c.args.row.now) c.args.role.now.name.now (bound_expr_of c.arm-item.result.when)) c.evaluate.ensures.value) (same_false the_type c.in_ok-condition.field-0 True (sym c.if-eq.ensures));
   memory = λ p. arms_left_movable c.args.arms.now c.loop-arm.arm-index c.arm-item.result c.loop-arm-test.true c.arm-item.is (c.loop-arm.invariant.memory p);
   lighter = arms_still c.args.arms.now c.loop-arm.arm-index c.arm-item.result c.loop-arm-test.true c.arm-item.is c.loop-arm.invariant.lighter;
 }
-
-pub chosen-returns-clause-value : goal.chosen-returns-clause-value
-chosen-returns-clause-value g t c = λ rest. case_over (g.R.Row.cells c.args.row.now) c.args.role.now.name.now c.args.arms.now c.loop-arm.arm-index rest (c.loop-arm.invariant.rest rest) (omega (arith, c.loop-arm-test.false))
 
 -- ---- nodes with members
 
@@ -106,9 +104,6 @@ evaluate-returns-in-And-clause-value g t c = rw (and_is c.args.expression.now c.
 
 pub evaluate-returns-in-Or-clause-value : goal.evaluate-returns-in-Or-clause-value
 evaluate-returns-in-Or-clause-value g t c = rw (or_is c.args.expression.now c.in-Or.offset c.in-Or.members c.deref-in-Or.result.now c.deref-in-Or.ensures.value c.in-Or.is) (c.as_value-in-Or.ensures.value _ c.disjunction.ensures.value)
-
-pub evaluate-returns-in-Some-clause-value : goal.evaluate-returns-in-Some-clause-value
-evaluate-returns-in-Some-clause-value g t c = rw (case_else (g.R.Row.cells c.args.row.now) c.args.role.now.name.now c.args.expression.now c.in-Case.offset c.in-Case.arms c.deref-in-Case.result.now c.deref-in-Case.ensures.value c.in-Case.otherwise c.in-Case.is (rw c.in-Ok-None.field-0-is at c.in-Ok-None.ensures.value) c.in-Some.other c.in-Some.is c.deref-in-Some.result.now c.deref-in-Some.ensures) c.evaluate-in-Some.ensures.value
 
 -- ---- no memory
 
@@ -123,7 +118,7 @@ disjunction-returns-in_err-condition-clause-memory g t c = λ p.
     (c.in_err-condition.ensures.memory (c.evaluate.ensures.memory (member_movable c.args.members.now c.loop-member.member-index c.member-item.result c.loop-member-test.true c.member-item.is (c.loop-member.invariant.memory p))))
 
 pub chosen-returns-in_err-condition-clause-memory : goal.chosen-returns-in_err-condition-clause-memory
-chosen-returns-in_err-condition-clause-memory g t c = λ p.
+chosen-returns-in_err-condition-clause-memory g t c = λ p o.
     exits_safe c.from_residual.result c.in_err-condition.field-0.0 c.from_residual.ensures.1
     (c.in_err-condition.ensures.memory (c.evaluate.ensures.memory (when_movable c.args.arms.now c.loop-arm.arm-index c.arm-item.result c.loop-arm-test.true c.arm-item.is (c.loop-arm.invariant.memory p))))
 
@@ -138,19 +133,19 @@ evaluate-returns-in-Or-clause-memory g t c = λ p.
 -- ---- each call is on less
 
 pub evaluate-conjunction-requires : goal.evaluate-conjunction-requires
-evaluate-conjunction-requires g t c κs within = (lighter (all_weight (bound_exprs c.deref-in-And.result.now)) _ t c.decreases (ap weight (and_is c.args.expression.now c.in-And.offset c.in-And.members c.deref-in-And.result.now c.deref-in-And.ensures.value c.in-And.is)), within)
+evaluate-conjunction-requires g t c κs within = (doubled (all_weight (bound_exprs c.deref-in-And.result.now)) (weight (bound_expr_of c.args.expression.now)) t c.decreases (lighter (all_weight (bound_exprs c.deref-in-And.result.now)) (weight (bound_expr_of c.args.expression.now)) (weight (bound_expr_of c.args.expression.now)) refl (ap weight (and_is c.args.expression.now c.in-And.offset c.in-And.members c.deref-in-And.result.now c.deref-in-And.ensures.value c.in-And.is))), within)
 
 pub evaluate-disjunction-requires : goal.evaluate-disjunction-requires
-evaluate-disjunction-requires g t c κs within = (lighter (all_weight (bound_exprs c.deref-in-Or.result.now)) _ t c.decreases (ap weight (or_is c.args.expression.now c.in-Or.offset c.in-Or.members c.deref-in-Or.result.now c.deref-in-Or.ensures.value c.in-Or.is)), within)
+evaluate-disjunction-requires g t c κs within = (doubled (all_weight (bound_exprs c.deref-in-Or.result.now)) (weight (bound_expr_of c.args.expression.now)) t c.decreases (lighter (all_weight (bound_exprs c.deref-in-Or.result.now)) (weight (bound_expr_of c.args.expression.now)) (weight (bound_expr_of c.args.expression.now)) refl (ap weight (or_is c.args.expression.now c.in-Or.offset c.in-Or.members c.deref-in-Or.result.now c.deref-in-Or.ensures.value c.in-Or.is))), within)
 
 pub evaluate-chosen-requires : goal.evaluate-chosen-requires
-evaluate-chosen-requires g t c κs within = (subst (λ n. arms_weight (bound_arms c.deref-in-Case.result.now) < n) c.decreases (case_lighter c.args.expression.now c.in-Case.offset c.in-Case.arms c.deref-in-Case.result.now c.deref-in-Case.ensures.value c.in-Case.otherwise c.in-Case.is), within)
+evaluate-chosen-requires g t c κs within = (case_below (bound_arms c.deref-in-Case.result.now) (otherwise_of c.in-Case.otherwise) t (weight (bound_expr_of c.args.expression.now)) c.decreases (ap weight (case_is c.args.expression.now c.in-Case.offset c.in-Case.arms c.deref-in-Case.result.now c.deref-in-Case.ensures.value c.in-Case.otherwise c.in-Case.is)), within)
 
 pub conjunction-evaluate-requires : goal.conjunction-evaluate-requires
-conjunction-evaluate-requires g t c κs within = (subst (λ n. weight (bound_expr_of c.member-item.result) < n) c.decreases (exprs_lighter c.args.members.now c.loop-member.member-index c.member-item.result c.loop-member-test.true c.member-item.is c.loop-member.invariant.lighter), within)
+conjunction-evaluate-requires g t c κs within = (doubled (weight (bound_expr_of c.member-item.result)) (all_weight (bound_exprs c.args.members.now)) t c.decreases (exprs_lighter c.args.members.now c.loop-member.member-index c.member-item.result c.loop-member-test.true c.member-item.is c.loop-member.invariant.lighter), within)
 
 pub disjunction-evaluate-requires : goal.disjunction-evaluate-requires
-disjunction-evaluate-requires g t c κs within = (subst (λ n. weight (bound_expr_of c.member-item.result) < n) c.decreases (exprs_lighter c.args.members.now c.loop-member.member-index c.member-item.result c.loop-member-test.true c.member-item.is c.loop-member.invariant.lighter), within)
+disjunction-evaluate-requires g t c κs within = (doubled (weight (bound_expr_of c.member-item.result)) (all_weight (bound_exprs c.args.members.now)) t c.decreases (exprs_lighter c.args.members.now c.loop-member.member-index c.member-item.result c.loop-member-test.true c.member-item.is c.loop-member.invariant.lighter), within)
 
 pub conjunction-loop-member-init : goal.conjunction-loop-member-init
 conjunction-loop-member-init g t c = record {
@@ -169,40 +164,40 @@ disjunction-loop-member-init g t c = record {
 }
 
 pub evaluate-evaluate-requires : goal.evaluate-evaluate-requires
-evaluate-evaluate-requires g t c κs within = (lighter (weight (bound_expr_of c.deref.result.now)) _ t c.decreases (ap weight (negate_is c.args.expression.now c.in-Negate.offset c.in-Negate.operand c.deref.result.now c.deref.ensures c.in-Negate.is)), within)
+evaluate-evaluate-requires g t c κs within = (doubled (weight (bound_expr_of c.deref.result.now)) (weight (bound_expr_of c.args.expression.now)) t c.decreases (lighter (weight (bound_expr_of c.deref.result.now)) (weight (bound_expr_of c.args.expression.now)) (weight (bound_expr_of c.args.expression.now)) refl (ap weight (negate_is c.args.expression.now c.in-Negate.offset c.in-Negate.operand c.deref.result.now c.deref.ensures c.in-Negate.is))), within)
 
 pub evaluate-evaluate-requires-in-Arithmetic : goal.evaluate-evaluate-requires-in-Arithmetic
-evaluate-evaluate-requires-in-Arithmetic g t c κs within = (left_lighter (weight (bound_expr_of c.deref-in-Arithmetic.result.now)) _ t c.decreases _ (ap weight (arithmetic_is c.args.expression.now c.in-Arithmetic.offset c.in-Arithmetic.left c.in-Arithmetic.right c.deref-in-Arithmetic.result.now c.deref-in-Arithmetic.ensures c.in-Arithmetic.right.value refl c.in-Arithmetic.operator c.in-Arithmetic.is)), within)
+evaluate-evaluate-requires-in-Arithmetic g t c κs within = (doubled (weight (bound_expr_of c.deref-in-Arithmetic.result.now)) (weight (bound_expr_of c.args.expression.now)) t c.decreases (left_lighter (weight (bound_expr_of c.deref-in-Arithmetic.result.now)) (weight (bound_expr_of c.args.expression.now)) (weight (bound_expr_of c.args.expression.now)) refl _ (ap weight (arithmetic_is c.args.expression.now c.in-Arithmetic.offset c.in-Arithmetic.left c.in-Arithmetic.right c.deref-in-Arithmetic.result.now c.deref-in-Arithmetic.ensures c.in-Arithmetic.right.value refl c.in-Arithmetic.operator c.in-Arithmetic.is))), within)
 
 pub evaluate-evaluate-requires-in-Arithmetic-2 : goal.evaluate-evaluate-requires-in-Arithmetic-2
-evaluate-evaluate-requires-in-Arithmetic-2 g t c κs within = (right_lighter (weight (bound_expr_of c.deref-in-Arithmetic-2.result.now)) _ t c.decreases _ (ap weight (arithmetic_is c.args.expression.now c.in-Arithmetic.offset c.in-Arithmetic.left c.in-Arithmetic.right c.in-Arithmetic.left.value refl c.deref-in-Arithmetic-2.result.now c.deref-in-Arithmetic-2.ensures c.in-Arithmetic.operator c.in-Arithmetic.is)), within)
+evaluate-evaluate-requires-in-Arithmetic-2 g t c κs within = (doubled (weight (bound_expr_of c.deref-in-Arithmetic-2.result.now)) (weight (bound_expr_of c.args.expression.now)) t c.decreases (right_lighter (weight (bound_expr_of c.deref-in-Arithmetic-2.result.now)) (weight (bound_expr_of c.args.expression.now)) (weight (bound_expr_of c.args.expression.now)) refl _ (ap weight (arithmetic_is c.args.expression.now c.in-Arithmetic.offset c.in-Arithmetic.left c.in-Arithmetic.right c.in-Arithmetic.left.value refl c.deref-in-Arithmetic-2.result.now c.deref-in-Arithmetic-2.ensures c.in-Arithmetic.operator c.in-Arithmetic.is))), within)
 
 pub evaluate-evaluate-requires-in-Comparison : goal.evaluate-evaluate-requires-in-Comparison
-evaluate-evaluate-requires-in-Comparison g t c κs within = (left_lighter (weight (bound_expr_of c.deref-in-Comparison.result.now)) _ t c.decreases _ (ap weight (comparison_is c.args.expression.now c.in-Comparison.offset c.in-Comparison.left c.in-Comparison.right c.deref-in-Comparison.result.now c.deref-in-Comparison.ensures c.in-Comparison.right.value refl c.in-Comparison.operator c.in-Comparison.is)), within)
+evaluate-evaluate-requires-in-Comparison g t c κs within = (doubled (weight (bound_expr_of c.deref-in-Comparison.result.now)) (weight (bound_expr_of c.args.expression.now)) t c.decreases (left_lighter (weight (bound_expr_of c.deref-in-Comparison.result.now)) (weight (bound_expr_of c.args.expression.now)) (weight (bound_expr_of c.args.expression.now)) refl _ (ap weight (comparison_is c.args.expression.now c.in-Comparison.offset c.in-Comparison.left c.in-Comparison.right c.deref-in-Comparison.result.now c.deref-in-Comparison.ensures c.in-Comparison.right.value refl c.in-Comparison.operator c.in-Comparison.is))), within)
 
 pub evaluate-evaluate-requires-in-Comparison-2 : goal.evaluate-evaluate-requires-in-Comparison-2
-evaluate-evaluate-requires-in-Comparison-2 g t c κs within = (right_lighter (weight (bound_expr_of c.deref-in-Comparison-2.result.now)) _ t c.decreases _ (ap weight (comparison_is c.args.expression.now c.in-Comparison.offset c.in-Comparison.left c.in-Comparison.right c.in-Comparison.left.value refl c.deref-in-Comparison-2.result.now c.deref-in-Comparison-2.ensures c.in-Comparison.operator c.in-Comparison.is)), within)
+evaluate-evaluate-requires-in-Comparison-2 g t c κs within = (doubled (weight (bound_expr_of c.deref-in-Comparison-2.result.now)) (weight (bound_expr_of c.args.expression.now)) t c.decreases (right_lighter (weight (bound_expr_of c.deref-in-Comparison-2.result.now)) (weight (bound_expr_of c.args.expression.now)) (weight (bound_expr_of c.args.expression.now)) refl _ (ap weight (comparison_is c.args.expression.now c.in-Comparison.offset c.in-Comparison.left c.in-Comparison.right c.in-Comparison.left.value refl c.deref-in-Comparison-2.result.now c.deref-in-Comparison-2.ensures c.in-Comparison.operator c.in-Comparison.is))), within)
 
 pub evaluate-evaluate-requires-in-Between : goal.evaluate-evaluate-requires-in-Between
-evaluate-evaluate-requires-in-Between g t c κs within = (left_lighter (weight (bound_expr_of c.deref-in-Between.result.now)) _ t c.decreases _ (ap weight (between_is c.args.expression.now c.in-Between.negated c.in-Between.offset c.in-Between.operand c.in-Between.low c.in-Between.high c.in-Between.is c.deref-in-Between.result.now c.deref-in-Between.ensures c.in-Between.low.value refl c.in-Between.high.value refl)), within)
+evaluate-evaluate-requires-in-Between g t c κs within = (doubled (weight (bound_expr_of c.deref-in-Between.result.now)) (weight (bound_expr_of c.args.expression.now)) t c.decreases (left_lighter (weight (bound_expr_of c.deref-in-Between.result.now)) (weight (bound_expr_of c.args.expression.now)) (weight (bound_expr_of c.args.expression.now)) refl _ (ap weight (between_is c.args.expression.now c.in-Between.negated c.in-Between.offset c.in-Between.operand c.in-Between.low c.in-Between.high c.in-Between.is c.deref-in-Between.result.now c.deref-in-Between.ensures c.in-Between.low.value refl c.in-Between.high.value refl))), within)
 
 pub evaluate-evaluate-requires-in-Between-2 : goal.evaluate-evaluate-requires-in-Between-2
-evaluate-evaluate-requires-in-Between-2 g t c κs within = (middle_lighter (weight (bound_expr_of c.deref-in-Between-2.result.now)) _ t c.decreases _ _ (ap weight (between_is c.args.expression.now c.in-Between.negated c.in-Between.offset c.in-Between.operand c.in-Between.low c.in-Between.high c.in-Between.is c.in-Between.operand.value refl c.deref-in-Between-2.result.now c.deref-in-Between-2.ensures c.in-Between.high.value refl)), within)
+evaluate-evaluate-requires-in-Between-2 g t c κs within = (doubled (weight (bound_expr_of c.deref-in-Between-2.result.now)) (weight (bound_expr_of c.args.expression.now)) t c.decreases (middle_lighter (weight (bound_expr_of c.deref-in-Between-2.result.now)) (weight (bound_expr_of c.args.expression.now)) (weight (bound_expr_of c.args.expression.now)) refl _ _ (ap weight (between_is c.args.expression.now c.in-Between.negated c.in-Between.offset c.in-Between.operand c.in-Between.low c.in-Between.high c.in-Between.is c.in-Between.operand.value refl c.deref-in-Between-2.result.now c.deref-in-Between-2.ensures c.in-Between.high.value refl))), within)
 
 pub evaluate-evaluate-requires-in-Between-3 : goal.evaluate-evaluate-requires-in-Between-3
-evaluate-evaluate-requires-in-Between-3 g t c κs within = (last_lighter (weight (bound_expr_of c.deref-in-Between-3.result.now)) _ t c.decreases _ _ (ap weight (between_is c.args.expression.now c.in-Between.negated c.in-Between.offset c.in-Between.operand c.in-Between.low c.in-Between.high c.in-Between.is c.in-Between.operand.value refl c.in-Between.low.value refl c.deref-in-Between-3.result.now c.deref-in-Between-3.ensures)), within)
+evaluate-evaluate-requires-in-Between-3 g t c κs within = (doubled (weight (bound_expr_of c.deref-in-Between-3.result.now)) (weight (bound_expr_of c.args.expression.now)) t c.decreases (last_lighter (weight (bound_expr_of c.deref-in-Between-3.result.now)) (weight (bound_expr_of c.args.expression.now)) (weight (bound_expr_of c.args.expression.now)) refl _ _ (ap weight (between_is c.args.expression.now c.in-Between.negated c.in-Between.offset c.in-Between.operand c.in-Between.low c.in-Between.high c.in-Between.is c.in-Between.operand.value refl c.in-Between.low.value refl c.deref-in-Between-3.result.now c.deref-in-Between-3.ensures))), within)
 
 pub evaluate-evaluate-requires-in-In : goal.evaluate-evaluate-requires-in-In
-evaluate-evaluate-requires-in-In g t c κs within = (lighter (weight (bound_expr_of c.deref-in-In.result.now)) _ t c.decreases (ap weight (in_is c.args.expression.now c.in-In.negated c.in-In.offset c.in-In.values c.in-In.operand c.in-In.is c.deref-in-In.result.now c.deref-in-In.ensures)), within)
+evaluate-evaluate-requires-in-In g t c κs within = (doubled (weight (bound_expr_of c.deref-in-In.result.now)) (weight (bound_expr_of c.args.expression.now)) t c.decreases (lighter (weight (bound_expr_of c.deref-in-In.result.now)) (weight (bound_expr_of c.args.expression.now)) (weight (bound_expr_of c.args.expression.now)) refl (ap weight (in_is c.args.expression.now c.in-In.negated c.in-In.offset c.in-In.values c.in-In.operand c.in-In.is c.deref-in-In.result.now c.deref-in-In.ensures))), within)
 
 pub evaluate-evaluate-requires-in-IsNull : goal.evaluate-evaluate-requires-in-IsNull
-evaluate-evaluate-requires-in-IsNull g t c κs within = (lighter (weight (bound_expr_of c.deref-in-IsNull.result.now)) _ t c.decreases (ap weight (is_null_is c.args.expression.now c.in-IsNull.offset c.in-IsNull.operand c.deref-in-IsNull.result.now c.deref-in-IsNull.ensures c.in-IsNull.negated c.in-IsNull.is)), within)
+evaluate-evaluate-requires-in-IsNull g t c κs within = (doubled (weight (bound_expr_of c.deref-in-IsNull.result.now)) (weight (bound_expr_of c.args.expression.now)) t c.decreases (lighter (weight (bound_expr_of c.deref-in-IsNull.result.now)) (weight (bound_expr_of c.args.expression.now)) (weight (bound_expr_of c.args.expression.now)) refl (ap weight (is_null_is c.args.expression.now c.in-IsNull.offset c.in-IsNull.operand c.deref-in-IsNull.result.now c.deref-in-IsNull.ensures c.in-IsNull.negated c.in-IsNull.is))), within)
 
 pub evaluate-evaluate-requires-in-Not : goal.evaluate-evaluate-requires-in-Not
-evaluate-evaluate-requires-in-Not g t c κs within = (lighter (weight (bound_expr_of c.deref-in-Not.result.now)) _ t c.decreases (ap weight (not_is c.args.expression.now c.in-Not.offset c.in-Not.operand c.deref-in-Not.result.now c.deref-in-Not.ensures c.in-Not.is)), within)
+evaluate-evaluate-requires-in-Not g t c κs within = (doubled (weight (bound_expr_of c.deref-in-Not.result.now)) (weight (bound_expr_of c.args.expression.now)) t c.decreases (lighter (weight (bound_expr_of c.deref-in-Not.result.now)) (weight (bound_expr_of c.args.expression.now)) (weight (bound_expr_of c.args.expression.now)) refl (ap weight (not_is c.args.expression.now c.in-Not.offset c.in-Not.operand c.deref-in-Not.result.now c.deref-in-Not.ensures c.in-Not.is))), within)
 
 pub evaluate-evaluate-requires-in-Cast : goal.evaluate-evaluate-requires-in-Cast
-evaluate-evaluate-requires-in-Cast g t c κs within = (lighter (weight (bound_expr_of c.deref-in-Cast.result.now)) _ t c.decreases (ap weight (cast_is c.args.expression.now c.in-Cast.offset c.in-Cast.operand c.deref-in-Cast.result.now c.deref-in-Cast.ensures c.in-Cast.to c.in-Cast.is)), within)
+evaluate-evaluate-requires-in-Cast g t c κs within = (doubled (weight (bound_expr_of c.deref-in-Cast.result.now)) (weight (bound_expr_of c.args.expression.now)) t c.decreases (lighter (weight (bound_expr_of c.deref-in-Cast.result.now)) (weight (bound_expr_of c.args.expression.now)) (weight (bound_expr_of c.args.expression.now)) refl (ap weight (cast_is c.args.expression.now c.in-Cast.offset c.in-Cast.operand c.deref-in-Cast.result.now c.deref-in-Cast.ensures c.in-Cast.to c.in-Cast.is))), within)
 
 -- ---- the loops
 
@@ -235,7 +230,7 @@ chosen-loop-arm-smaller g t c = falls (length c.args.arms.now) c.loop-arm.arm-in
 
 pub chosen-loop-arm-init : goal.chosen-loop-arm-init
 chosen-loop-arm-init g t c = record {
-  rest = λ rest. refl;
+  rest = refl;
   memory = λ p. p;
   lighter = le_refl (arms_weight (bound_arms c.args.arms.now));
 }
@@ -255,10 +250,7 @@ pub disjunction-returns-clause-memory : goal.disjunction-returns-clause-memory
 disjunction-returns-clause-memory g t c = λ p. ok_safe c.loop-member.known
 
 pub chosen-returns-then-eq-clause-memory : goal.chosen-returns-then-eq-clause-memory
-chosen-returns-then-eq-clause-memory g t c = λ p. c.choice.ensures.memory (c.evaluate-then-eq.ensures.memory (result_movable c.args.arms.now c.loop-arm.arm-index c.arm-item.result c.loop-arm-test.true c.arm-item.is (c.loop-arm.invariant.memory p)))
-
-pub chosen-returns-clause-memory : goal.chosen-returns-clause-memory
-chosen-returns-clause-memory g t c = λ p. ok_safe None
+chosen-returns-then-eq-clause-memory g t c = λ p o. (c.evaluate-then-eq.ensures.memory (result_movable c.args.arms.now c.loop-arm.arm-index c.arm-item.result c.loop-arm-test.true c.arm-item.is (c.loop-arm.invariant.memory p)))
 
 pub evaluate-returns-in-Column-clause-memory : goal.evaluate-returns-in-Column-clause-memory
 evaluate-returns-in-Column-clause-memory g t c = λ p. ok_safe c.cell.result
@@ -268,9 +260,6 @@ evaluate-returns-in-Literal-clause-memory g t c = λ p. ok_safe c.as_val.result
 
 pub evaluate-returns-in-CurrentUser-clause-memory : goal.evaluate-returns-in-CurrentUser-clause-memory
 evaluate-returns-in-CurrentUser-clause-memory g t c = λ p. ok_safe (Val.Text (CowStr.Borrowed c.args.role.now.name))
-
-pub evaluate-returns-in-Some-clause-memory : goal.evaluate-returns-in-Some-clause-memory
-evaluate-returns-in-Some-clause-memory g t c = λ p. c.evaluate-in-Some.ensures.memory (else_movable c.args.expression.now c.in-Case.offset c.in-Case.arms c.deref-in-Case.result.now c.deref-in-Case.ensures.value c.in-Case.otherwise c.in-Case.is p c.in-Some.other c.in-Some.is c.deref-in-Some.result.now c.deref-in-Some.ensures)
 
 pub evaluate-returns-in-CountStar-clause-memory : goal.evaluate-returns-in-CountStar-clause-memory
 evaluate-returns-in-CountStar-clause-memory g t c = λ p. ok_safe c.aggregate.result
@@ -355,10 +344,10 @@ pub evaluate-returns-in_ok-y-in-Between-clause-memory : goal.evaluate-returns-in
 evaluate-returns-in_ok-y-in-Between-clause-memory g t c = λ p. c.between.ensures.memory (c.evaluate-in-Between-3.ensures.memory (high_movable c.args.expression.now c.in-Between.negated c.in-Between.offset c.in-Between.operand c.in-Between.low c.in-Between.high c.in-Between.is c.deref-in-Between.result.now c.deref-in-Between.ensures c.deref-in-Between-2.result.now c.deref-in-Between-2.ensures c.deref-in-Between-3.result.now c.deref-in-Between-3.ensures p))
 
 pub chosen-evaluate-requires : goal.chosen-evaluate-requires
-chosen-evaluate-requires g t c κs within = (subst (λ n. weight (bound_expr_of c.arm-item.result.when) < n) c.decreases (when_lighter c.args.arms.now c.loop-arm.arm-index c.arm-item.result c.loop-arm-test.true c.arm-item.is c.loop-arm.invariant.lighter), within)
+chosen-evaluate-requires g t c κs within = (arm_below (bound_arms c.args.arms.now) (otherwise_of c.args.otherwise.now) t (weight (bound_expr_of c.arm-item.result.when)) c.decreases (when_lighter c.args.arms.now c.loop-arm.arm-index c.arm-item.result c.loop-arm-test.true c.arm-item.is c.loop-arm.invariant.lighter), within)
 
 pub chosen-evaluate-requires-then-eq : goal.chosen-evaluate-requires-then-eq
-chosen-evaluate-requires-then-eq g t c κs within = (subst (λ n. weight (bound_expr_of c.arm-item.result.result) < n) c.decreases (result_lighter c.args.arms.now c.loop-arm.arm-index c.arm-item.result c.loop-arm-test.true c.arm-item.is c.loop-arm.invariant.lighter), within)
+chosen-evaluate-requires-then-eq g t c κs within = (arm_below (bound_arms c.args.arms.now) (otherwise_of c.args.otherwise.now) t (weight (bound_expr_of c.arm-item.result.result)) c.decreases (result_lighter c.args.arms.now c.loop-arm.arm-index c.arm-item.result c.loop-arm-test.true c.arm-item.is c.loop-arm.invariant.lighter), within)
 
 pub evaluate-returns-in-In-clause-value : goal.evaluate-returns-in-In-clause-value
 evaluate-returns-in-In-clause-value g t c = member_of (g.R.Row.cells c.args.row.now) c.args.role.now.name.now c.args.expression.now c.in-In.negated c.in-In.offset c.in-In.values c.in-In.operand c.in-In.is c.deref-in-In.result.now c.deref-in-In.ensures c.as_slice.result.now c.as_slice.ensures c.membership.result (c.membership.ensures.value _ c.evaluate-in-In.ensures.value)
@@ -368,27 +357,6 @@ evaluate-returns-in-In-clause-memory g t c = λ p. c.membership.ensures.memory (
 
 pub evaluate-returns-in-CountStar-clause-value : goal.evaluate-returns-in-CountStar-clause-value
 evaluate-returns-in-CountStar-clause-value g t c = aggregate_is (g.R.Row.cells c.args.row.now) c.args.role.now.name.now c.args.expression.now c.in-CountStar.offset c.in-CountStar.is ∙ ap Ok (sym c.aggregate.ensures)
-
-pub evaluate-evaluate-requires-in-Some : goal.evaluate-evaluate-requires-in-Some
-evaluate-evaluate-requires-in-Some g t c κs within = (right_lighter (weight (bound_expr_of c.deref-in-Some.result.now)) _ t c.decreases _ (ap weight (else_is c.args.expression.now c.in-Case.offset c.in-Case.arms c.deref-in-Case.result.now c.deref-in-Case.ensures.value c.in-Case.otherwise c.in-Case.is c.in-Some.other c.in-Some.is c.deref-in-Some.result.now c.deref-in-Some.ensures)), within)
-
-pub evaluate-returns-in-Err-clause-value : goal.evaluate-returns-in-Err-clause-value
-evaluate-returns-in-Err-clause-value g t c = case_fails (g.R.Row.cells c.args.row.now) c.args.role.now.name.now c.args.expression.now c.in-Case.offset c.in-Case.arms c.deref-in-Case.result.now c.deref-in-Case.ensures.value c.in-Case.otherwise c.in-Case.is c.in-Err.failure c.in-Err.ensures.value
-
-pub evaluate-returns-in-Err-clause-memory : goal.evaluate-returns-in-Err-clause-memory
-evaluate-returns-in-Err-clause-memory g t c = λ p. err_safe c.in-Err.failure (c.in-Err.ensures.memory (arms_all_movable c.args.expression.now c.in-Case.offset c.in-Case.arms c.deref-in-Case.result.now c.deref-in-Case.ensures.value c.in-Case.otherwise c.in-Case.is p))
-
-pub evaluate-returns-in-Ok-Some-clause-value : goal.evaluate-returns-in-Ok-Some-clause-value
-evaluate-returns-in-Ok-Some-clause-value g t c = case_value (g.R.Row.cells c.args.row.now) c.args.role.now.name.now c.args.expression.now c.in-Case.offset c.in-Case.arms c.deref-in-Case.result.now c.deref-in-Case.ensures.value c.in-Case.otherwise c.in-Case.is _ (rw c.in-Ok-Some.field-0-is at c.in-Ok-Some.ensures.value)
-
-pub evaluate-returns-in-Ok-Some-clause-memory : goal.evaluate-returns-in-Ok-Some-clause-memory
-evaluate-returns-in-Ok-Some-clause-memory g t c = λ p. ok_safe c.in-Ok-Some.value
-
-pub evaluate-returns-in-None-clause-value : goal.evaluate-returns-in-None-clause-value
-evaluate-returns-in-None-clause-value g t c = case_null (g.R.Row.cells c.args.row.now) c.args.role.now.name.now c.args.expression.now c.in-Case.offset c.in-Case.arms c.deref-in-Case.result.now c.deref-in-Case.ensures.value c.in-Case.otherwise c.in-Case.is (rw c.in-Ok-None.field-0-is at c.in-Ok-None.ensures.value) c.in-None.is
-
-pub evaluate-returns-in-None-clause-memory : goal.evaluate-returns-in-None-clause-memory
-evaluate-returns-in-None-clause-memory g t c = λ p. ok_safe Val.Null
 
 pub evaluate-deref-requires : goal.evaluate-deref-requires
 evaluate-deref-requires g t c κs within = (expr_lives g.row.A g.A.Allocator κs.1.0 within.0, within.1)
@@ -426,9 +394,6 @@ evaluate-deref-requires-in-IsNull g t c κs within = (expr_lives g.row.A g.A.All
 pub evaluate-deref-requires-in-Not : goal.evaluate-deref-requires-in-Not
 evaluate-deref-requires-in-Not g t c κs within = (expr_lives g.row.A g.A.Allocator κs.1.0 within.0, within.1)
 
-pub evaluate-deref-requires-in-Some : goal.evaluate-deref-requires-in-Some
-evaluate-deref-requires-in-Some g t c κs within = (expr_lives g.row.A g.A.Allocator κs.1.0 within.0, within.1)
-
 pub evaluate-deref-requires-in-And : goal.evaluate-deref-requires-in-And
 evaluate-deref-requires-in-And g t c κs within = (expr_lives g.row.A g.A.Allocator κs.1.0 within.0, within.1)
 
@@ -437,3 +402,33 @@ evaluate-deref-requires-in-Or g t c κs within = (expr_lives g.row.A g.A.Allocat
 
 pub evaluate-deref-requires-in-Case : goal.evaluate-deref-requires-in-Case
 evaluate-deref-requires-in-Case g t c κs within = (arm_lives g.row.A g.A.Allocator κs.1.0 within.0, within.1)
+
+-- ---- CASE and its ELSE
+
+pub evaluate-returns-in-Case-clause-value : goal.evaluate-returns-in-Case-clause-value
+evaluate-returns-in-Case-clause-value g t c = rw (by_arms (g.R.Row.cells c.args.row.now) c.args.role.now.name.now c.args.expression.now c.in-Case.offset c.in-Case.arms c.deref-in-Case.result.now c.deref-in-Case.ensures.value c.in-Case.otherwise c.in-Case.is) c.chosen.ensures.value
+
+pub evaluate-returns-in-Case-clause-memory : goal.evaluate-returns-in-Case-clause-memory
+evaluate-returns-in-Case-clause-memory g t c = λ p.
+    c.chosen.ensures.memory (arms_all_movable c.args.expression.now c.in-Case.offset c.in-Case.arms c.deref-in-Case.result.now c.deref-in-Case.ensures.value c.in-Case.otherwise c.in-Case.is p)
+    (else_all_movable c.args.expression.now c.in-Case.offset c.in-Case.arms c.deref-in-Case.result.now c.deref-in-Case.ensures.value c.in-Case.otherwise c.in-Case.is p)
+
+pub chosen-returns-in-Some-clause-value : goal.chosen-returns-in-Some-clause-value
+chosen-returns-in-Some-clause-value g t c =
+    rw (case_over (g.R.Row.cells c.args.row.now) c.args.role.now.name.now c.args.arms.now c.loop-arm.arm-index (otherwise (g.R.Row.cells c.args.row.now) c.args.role.now.name.now (otherwise_of c.args.otherwise.now)) c.loop-arm.invariant.rest (omega (arith, c.loop-arm-test.false)), else_value (g.R.Row.cells c.args.row.now) c.args.role.now.name.now c.args.otherwise.now c.in-Some.other c.in-Some.is c.deref.result.now c.deref.ensures) c.evaluate-in-Some.ensures.value
+
+pub chosen-returns-in-Some-clause-memory : goal.chosen-returns-in-Some-clause-memory
+chosen-returns-in-Some-clause-memory g t c = λ p o. c.evaluate-in-Some.ensures.memory (else_movable c.args.otherwise.now o c.in-Some.other c.in-Some.is c.deref.result.now c.deref.ensures)
+
+pub chosen-returns-in-None-clause-value : goal.chosen-returns-in-None-clause-value
+chosen-returns-in-None-clause-value g t c =
+    case_over (g.R.Row.cells c.args.row.now) c.args.role.now.name.now c.args.arms.now c.loop-arm.arm-index (otherwise (g.R.Row.cells c.args.row.now) c.args.role.now.name.now (otherwise_of c.args.otherwise.now)) c.loop-arm.invariant.rest (omega (arith, c.loop-arm-test.false)) ∙ else_null (g.R.Row.cells c.args.row.now) c.args.role.now.name.now c.args.otherwise.now c.in-None.is
+
+pub chosen-returns-in-None-clause-memory : goal.chosen-returns-in-None-clause-memory
+chosen-returns-in-None-clause-memory g t c = λ p o. ok_safe Val.Null
+
+pub chosen-evaluate-requires-in-Some : goal.chosen-evaluate-requires-in-Some
+chosen-evaluate-requires-in-Some g t c κs within = (else_below (bound_arms c.args.arms.now) (otherwise_of c.args.otherwise.now) t (weight (bound_expr_of c.deref.result.now)) c.decreases (else_weight c.args.otherwise.now c.in-Some.other c.in-Some.is c.deref.result.now c.deref.ensures), within)
+
+pub chosen-deref-requires : goal.chosen-deref-requires
+chosen-deref-requires g t c κs within = (expr_lives g.row.A g.A.Allocator κs.1.0 within.0, within.1)
