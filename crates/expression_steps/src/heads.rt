@@ -1,9 +1,11 @@
 //! Heads of operands.
 
+ghost use Rattle.row_grammar.specs.Grammar.{made};
 ghost use Rattle.row_grammar.specs.Limits.{reads};
 ghost use Rattle.row_reader.specs.Expressions as rules;
 ghost use Rattle.row_reader.specs.Expressions.{grammar};
-ghost use Rattle.row_tokens.specs.View.{words_of};
+ghost use Rattle.row_reader.specs.Language.{inside};
+ghost use Rattle.row_tokens.specs.View.{word_of, words_of};
 ghost use Rattle.expression_parts.specs.GoesOn.{GoesOn};
 ghost use Rattle.expression_parts.specs.View.{located};
 ghost use Rattle.expression_steps.specs.Heads.{HasLevel, LeadsTo, minus_rule, opened_step, operand_rest};
@@ -102,25 +104,37 @@ fn literal<'t, A: Heap>(reader: Reader<A>, tokens: &'t [Token<'t>]) -> Parsed<'t
     Ok((Head::Whole(constant), rest))
 }
 
-// `count` and what follows it, up to an argument.
-#[tactic(auto, unfolding(row_reader::specs::Expressions::count, row_reader::specs::Expressions::count_tail, row_reader::specs::Expressions::counted_rows))]
-fn count<'t, A: Heap>(reader: Reader<A>, tokens: &'t [Token<'t>]) -> Parsed<'t, Head<'t, A>>
-    ensures leads { LeadsTo (operand_rest reader.run_limit reader.depth_limit) result (reads grammar reader.run_limit reader.depth_limit rules.count (words_of tokens.now)) }
+// `( * )`, or `(` before an argument.
+#[tactic(auto, unfolding(row_reader::specs::Expressions::counted_rows))]
+fn counted<'t, A: Heap>(
+    reader: Reader<A>,
+    word: Token<'t>,
+    tokens: &'t [Token<'t>],
+) -> Parsed<'t, Head<'t, A>>
+    ensures leads { LeadsTo (operand_rest reader.run_limit reader.depth_limit) result (reads grammar reader.run_limit reader.depth_limit (made (λ s. (word.entry.offset, rules.counted (word_of word.entry) s)) (inside rules.counted_rows)) (words_of tokens.now)) }
     ensures level { HasLevel reader.depth_limit result }
 {
-    let (word, rest) = expect(TokenKind::Count, tokens)?;
-    if !sees(TokenKind::Open, rest) {
-        let (column, rest) = counted_call(reader.alloc, &word, dotted(reader, rest))?;
-        return Ok((Head::Whole(column), rest));
-    }
-    let (_, rest) = open(TokenKind::Open, reader.depth_limit, rest)?;
+    let (_, rest) = open(TokenKind::Open, reader.depth_limit, tokens)?;
     if sees(TokenKind::Star, rest) {
         let star = closed(meant(TokenKind::Star, CallSuffix::Star, rest));
         let (rows, rest) = counted_call(reader.alloc, &word, star)?;
         return Ok((Head::Whole(rows), rest));
     }
-    let opened = Opened::Call(word, Aggregate::Count);
-    Ok((Head::Opened(opened), rest))
+    Ok((Head::Opened(Opened::Call(word, Aggregate::Count)), rest))
+}
+
+// `count` and what follows it, up to an argument.
+#[tactic(auto, unfolding(row_reader::specs::Expressions::count, row_reader::specs::Expressions::count_tail))]
+fn count<'t, A: Heap>(reader: Reader<A>, tokens: &'t [Token<'t>]) -> Parsed<'t, Head<'t, A>>
+    ensures leads { LeadsTo (operand_rest reader.run_limit reader.depth_limit) result (reads grammar reader.run_limit reader.depth_limit rules.count (words_of tokens.now)) }
+    ensures level { HasLevel reader.depth_limit result }
+{
+    let (word, rest) = expect(TokenKind::Count, tokens)?;
+    if sees(TokenKind::Open, rest) {
+        return counted(reader, word, rest);
+    }
+    let (column, rest) = counted_call(reader.alloc, &word, dotted(reader, rest))?;
+    Ok((Head::Whole(column), rest))
 }
 
 // Another function's name and what follows it, up to an argument.
