@@ -31,7 +31,6 @@ fn put_member<A: Heap>(
 }
 
 /// The members by key, in the order of the keys.
-#[tactic(auto, using(crate::proofs::ClassLaws::all_put))]
 pub fn classes_of<A: Heap>(alloc: A, members: Items<Member<A>, A>) -> Result<Classes<A>, AllocError>
     ensures { IfOk result (λ by_key. groups_in by_key.entries ≡ classes (map (λ m. member_of m) members)) }
 {
