@@ -16,7 +16,7 @@ make_rows() {
     }'
 }
 
-# The policy shows the role `reader` every row, so that each is tested; `root` is above it.
+# The policy shows the role `reader` every row, so that each is tested; `root` bypasses it.
 cat > "$work/schema.sql" <<'SQL'
 CREATE ROLE reader;
 CREATE TABLE deal (id bigint, region bigint, amount bigint);

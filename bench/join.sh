@@ -14,7 +14,7 @@ make_table() {
     }'
 }
 
-# The policy of the first table shows the role `reader` every row, so that each is tested; `root` is above it.
+# The policy of the first table shows the role `reader` every row, so that each is tested; `root` bypasses it.
 cat > "$work/schema.sql" <<'SQL'
 CREATE ROLE reader;
 CREATE TABLE a (id bigint, owner text);

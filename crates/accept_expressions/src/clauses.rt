@@ -1,8 +1,8 @@
-//! Queries over the tables of `fixture_queries` whose aggregates and types are in order, or the first fault.
+//! Queries over the tables of `fixture_stores` whose aggregates and types are in order, or the first error.
 
 use crate::queries::made;
 use catalog::Catalog;
-use fixture_queries::{catalog, fault_as, query};
+use fixture_stores::{catalog, error_text, query};
 use resolve::bind;
 use row_ast::Query;
 use std::alloc::{AllocError, Global};
@@ -169,7 +169,7 @@ static MISTYPED: [(&str, &str); 26] = [
     ("SELECT CAST(id = 1 AS text) FROM deal", "42804 at 7"),
 ];
 
-// Conditions that are none, and which of several faults is reported.
+// Conditions that are none, and the first of several errors.
 static CONDITIONS: [(&str, &str); 16] = [
     ("SELECT id FROM deal WHERE amount", "42804 at 26"),
     ("SELECT id FROM deal WHERE (owner)", "42804 at 26"),
@@ -229,7 +229,7 @@ fn fault_of(
 ) -> Result<String, AllocError> {
     match bind(alloc, catalog, query) {
         Ok(_) => format!(in alloc; "accepted"),
-        Err(failure) => fault_as(alloc, failure),
+        Err(failure) => error_text(alloc, failure),
     }
 }
 

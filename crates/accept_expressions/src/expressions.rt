@@ -1,4 +1,4 @@
-//! Values of expressions, asked as items of queries over the tables of `fixture_queries`: on a row whose first column is 7 and whose
+//! Values of expressions, asked as items of queries over the tables of `fixture_stores`: on a row whose first column is 7 and whose
 //! other columns are null, for a role `bob`.
 
 ghost use Rattle.std.specs.Prelude.{nat_eq, pos, if◌then◌else◌};
@@ -8,12 +8,11 @@ ghost use Rattle.eval.specs.Meaning.{no_aggregate};
 use crate::queries::made;
 use catalog::Catalog;
 use eval::{Row, eval, eval_movable};
-use expr::{BoundExpr, ColumnId, is_movable};
-use fixture_queries::{catalog, fault_as, query};
+use expr::{BoundExpr, BoundQuery, ColumnId, is_movable};
+use fixture_stores::{catalog, error_text, query};
 use memory::Failure;
 use resolve::bind;
 use row_ast::Query;
-use scope::BoundQuery;
 use std::alloc::{AllocError, Global};
 use std::process::Abort;
 use std::test::Fail;
@@ -101,7 +100,7 @@ static CASES: [(&str, &str); 21] = [
         "'bob'",
     ),
     ("SELECT CASE WHEN amount IS NULL THEN id END FROM deal", "7"),
-    // What is not chosen is not evaluated.
+    // A result that is not chosen is not evaluated.
     ("SELECT CASE WHEN TRUE THEN 1 ELSE 1 / 0 END FROM deal", "1"),
     (
         "SELECT CASE WHEN NULL THEN 1 / 0 WHEN id BETWEEN 1 AND 9 THEN 2 END FROM deal",
@@ -206,7 +205,7 @@ fn outcome_as(
 ) -> Result<String, AllocError> {
     match outcome {
         Ok(value) => value_as(alloc, &value),
-        Err(Failure::Fault(fault)) => {
+        Err(Failure::Error(fault)) => {
             format!(in alloc; "{} at {}", fault.kind.code(), fault.offset)
         }
         Err(Failure::OutOfMemory) => format!(in alloc; "out of memory"),
@@ -236,7 +235,7 @@ fn value_of(
 ) -> Result<String, AllocError> {
     match bind(alloc, catalog, query) {
         Ok(bound) => first_value(alloc, &bound.query),
-        Err(failure) => fault_as(alloc, failure),
+        Err(failure) => error_text(alloc, failure),
     }
 }
 

@@ -1,11 +1,11 @@
 //! Catalogues and queries, which have to be made.
 
-use fixture_queries::QueryFault;
+use fixture_stores::QueryError;
 use memory::Failure;
 use std::process::Abort;
 
 /// The catalogue or the query, which has to be made.
-pub fn made<T: Drop>(rt: &impl Abort, made: Result<T, Failure<QueryFault>>) -> T {
+pub fn made<T: Drop>(rt: &impl Abort, made: Result<T, Failure<QueryError>>) -> T {
     match made {
         Ok(made) => made,
         Err(failure) => panic!(rt; "{failure:?}"),

@@ -1,13 +1,13 @@
-//! Query texts, and the trees that they are or where they are refused.
+//! Query texts, and the trees that they are or the offsets at which they are refused.
 
 use crate::trees::is_read;
 use std::process::Abort;
 use syntax::parse_query;
 
-// A text, and its tree or the byte at which it is refused.
+// A text, and its tree or the offset at which it is refused.
 type Row = (&'static str, Result<&'static str, u32>);
 
-// Levels of operators, the tightest first, and how each binds.
+// Levels of operators, the tightest first, and the side from which each binds.
 static LEVELS: [Row; 20] = [
     ("SELECT a + b * c FROM t", Ok("SELECT (a + (b * c)) FROM t")),
     ("SELECT a * b + c FROM t", Ok("SELECT ((a * b) + c) FROM t")),
@@ -368,7 +368,7 @@ static CLAUSES: [Row; 23] = [
     ("SELECT a FROM t UNION SELECT a FROM t", Err(16)),
 ];
 
-// Literals, and what is no token.
+// Literals, and bytes that are no token.
 static TOKENS: [Row; 29] = [
     (
         "SELECT NULL, TRUE, FALSE, CURRENT_USER, 007 FROM t",

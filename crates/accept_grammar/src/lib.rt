@@ -1,4 +1,4 @@
-//! Tests of tokens and of the grammar: tables of rows with expected values from outside the program.
+//! Tests of tokens, of the grammar and of its limits: tables of rows with expected values from outside the program.
 //! docs/ACCEPTANCE.md lists them.
 #![tactic(auto)]
 
@@ -6,6 +6,8 @@
 mod compared;
 #[cfg(test)]
 mod grammar;
+#[cfg(test)]
+mod limits;
 #[cfg(test)]
 mod schemas;
 #[cfg(test)]

@@ -1,10 +1,10 @@
-//! Schema texts, and the statements that they are or where they are refused.
+//! Schema texts, and the statements that they are or the offsets at which they are refused.
 
 use crate::trees::is_read;
 use std::process::Abort;
 use syntax::{parse_schema, parse_statement};
 
-// A text, and its statements or the byte at which it is refused.
+// A text, and its statements or the offset at which it is refused.
 type Row = (&'static str, Result<&'static str, u32>);
 
 // Roles.

@@ -1,4 +1,4 @@
-//! Texts, and the kinds of their tokens or where the first bad one starts.
+//! Texts, and the kinds of their tokens or the offset of the first bad one.
 
 use crate::compared::same;
 use memory::Failure;
@@ -10,7 +10,7 @@ use std::test::Fail;
 // A text, and the kinds of its tokens.
 type Kinds = (&'static str, &'static [TokenKind]);
 
-// Texts and the kinds of their tokens, by what they show.
+// Texts and the kinds of their tokens, by topic.
 static KINDS: [(&str, &[Kinds]); 5] = [
     (
         "signs",
@@ -147,7 +147,7 @@ static KINDS: [(&str, &[Kinds]); 5] = [
 // Of 63 bytes, and one more.
 const LONG: &str = "abcdefghijklmnopqrstuvwxyz_0123456789_ABCDEFGHIJKLMNOPQRSTUVWXY";
 
-// A text, and where its first bad token starts.
+// A text, and the offset of its first bad token.
 static BAD: [(&str, u32); 20] = [
     ("SELECT 1 -- x", 9),
     ("--", 0),
@@ -195,12 +195,12 @@ fn has_kinds(rt: &(impl Abort + AllocGlobal), name: &str, text: &str, kinds: &[T
     }
 }
 
-// Why a text is not made of tokens, if it is not.
+// The error of a text that is not made of tokens, if it is not.
 fn refusal(alloc: Global, text: &str) -> Option<Failure<TokenError>> {
     tokenize(alloc, text).err()
 }
 
-// The kind and the place of the last token, if there is one.
+// The kind and the offset of the last token, if there is one.
 fn last_of(found: &[Token<'_>]) -> Option<(TokenKind, u32)> {
     match found.last() {
         Some(token) => Some((token.kind, token.offset)),
@@ -208,7 +208,7 @@ fn last_of(found: &[Token<'_>]) -> Option<(TokenKind, u32)> {
     }
 }
 
-// The last token that is scanned is bad, and starts there.
+// The last token that is scanned is bad, at this offset.
 fn scanned_to(rt: &(impl Abort + AllocGlobal), text: &str, at: u32) {
     assert!(rt; text.len() < 65_536, "{text}");
     match scan(rt.alloc(), text) {
@@ -220,9 +220,9 @@ fn scanned_to(rt: &(impl Abort + AllocGlobal), text: &str, at: u32) {
     }
 }
 
-// The first bad token of a text starts there, and is the last that is scanned.
+// The first bad token of a text is at this offset, and is the last that is scanned.
 fn bad_at(rt: &(impl Abort + AllocGlobal), text: &str, at: u32) {
-    let want = Failure::Fault(TokenError::Bad { offset: at });
+    let want = Failure::Error(TokenError::Bad { offset: at });
     same(
         rt,
         &refusal(rt.alloc(), text),
@@ -267,7 +267,7 @@ fn spaced(alloc: Global) -> Result<String, AllocError> {
     Ok(text)
 }
 
-// Where a token starts, its text and its number.
+// The offset of a token, its text and its number.
 static PLACES: [(u32, &str, u64); 8] = [
     (1000, "a", 0),
     (1002, "=", 0),

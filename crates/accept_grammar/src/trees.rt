@@ -1,13 +1,12 @@
-//! What a text is read as, written as a text and compared with what it is to be.
+//! The trees of texts, written as texts and compared with the wanted ones.
 
 use crate::compared::same;
 use fixtures::{Printer, show_query, show_statement};
-use memory::Failure;
+use memory::{Failure, Items};
 use row_ast::{Query, Statement};
 use std::alloc::{AllocError, Global};
 use std::process::Abort;
 use syntax::ParseError;
-use text::Items;
 
 /// A tree that is written as a text.
 pub trait Shown {
@@ -59,7 +58,7 @@ fn read_text<T: Shown + Drop>(
     }
 }
 
-/// What was read is written as it is to be, or is refused at the byte where it is to be.
+/// The tree that was read is written as the wanted text, or the text is refused at the wanted offset.
 pub fn is_read<T: Shown + Drop>(
     rt: &(impl Abort + AllocGlobal),
     placed: bool,
@@ -70,7 +69,7 @@ pub fn is_read<T: Shown + Drop>(
     let (name, text) = row;
     match read_text(rt.alloc(), placed, read) {
         Ok(found) => same(rt, &Ok(found.as_str()), &want, name, &text),
-        Err(Failure::Fault(ParseError::Syntax { offset })) => {
+        Err(Failure::Error(ParseError::Syntax { offset })) => {
             same(rt, &Err(offset), &want, name, &text);
         }
         Err(error) => panic!(rt; "{name}: {text}: {error:?}"),

@@ -3,7 +3,7 @@
 use crate::passing::passes;
 use std::test::Fail;
 
-// What PostgreSQL answers in another way.
+// Queries that PostgreSQL answers in another way.
 const ELSEWHERE: &str = "-- a_sum_has_64_bits
 boss: SELECT sum(id + 9223372036854775800) FROM deal
 5

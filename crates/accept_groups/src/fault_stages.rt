@@ -1,4 +1,4 @@
-//! Worked rows of faults of grouped queries: which stage gives it, and which of several is reported.
+//! Worked rows of faults of grouped queries: the stage of a fault, and the one of several that is reported.
 
 use crate::passing::passes;
 use std::test::Fail;
@@ -80,7 +80,7 @@ count
 5
 ";
 
-// Of several faults of a stage the one with the least offset, of whatever row or group.
+// Of several faults of a stage the one with the least offset, of any row or group.
 const LEAST: &str = "-- of_the_arguments_of_all_rows
 boss: SELECT sum(amount / parts), sum(CAST(owner AS bigint)) FROM deal
 5

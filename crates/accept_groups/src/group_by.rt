@@ -391,7 +391,7 @@ boss: SELECT count(*) FROM deal HAVING count(*)
 refused 42804 at 33
 ";
 
-// Only rows that a role sees count, and what it reads has to be granted.
+// Only rows that a role sees count, and the columns that it reads have to be granted.
 const ROLES: &str = "-- the_count_of_alice
 alice: SELECT count(*) FROM deal
 0

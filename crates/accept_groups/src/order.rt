@@ -4,7 +4,7 @@ use crate::passing::passes;
 use fixture_stores::{answered, sales};
 use std::test::Fail;
 
-// ORDER BY headings and places; rows that are equal there follow by all columns, ascending.
+// ORDER BY headings and positions; rows that are equal there follow by all columns, ascending.
 const KEYS: &str = "-- nulls_are_first_where_it_descends
 audit: SELECT id, amount FROM deal ORDER BY amount DESC LIMIT 2
 0

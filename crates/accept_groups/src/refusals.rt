@@ -1,9 +1,9 @@
-//! Worked rows of what aggregates, GROUP BY, HAVING and ORDER BY do not take.
+//! Worked rows of the errors of aggregates, GROUP BY, HAVING and ORDER BY.
 
 use crate::passing::passes;
 use std::test::Fail;
 
-// Where an aggregate, or a column beside one, may not be, and what it takes.
+// Misplaced aggregates, columns beside aggregates, and arguments of the wrong type.
 const REFUSED: &str = "-- a_column_beside_an_aggregate
 boss: SELECT count(*), id FROM deal
 3
@@ -140,7 +140,7 @@ boss: SELECT count FROM deal
 refused 42703 at 7
 ";
 
-// What GROUP BY and HAVING take.
+// Names and expressions of GROUP BY and HAVING.
 const CLAUSES: &str = "-- no_such_column
 boss: SELECT count(*) FROM deal GROUP BY nosuch
 3

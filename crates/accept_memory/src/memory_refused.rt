@@ -1,7 +1,7 @@
 //! Each request for memory refused in turn.
 
 use crate::stores::made;
-use fixture_stores::{DEALS, SCHEMA, StoreFault, deals, load, served, store_of};
+use fixture_stores::{DEALS, FixtureError, SCHEMA, deals, load, served, store_of};
 use memory::{Failure, Heap};
 use metered::Metered;
 use std::alloc::AllocError;
@@ -35,21 +35,21 @@ fn texts() -> &'static [(&'static str, &'static str, u8)] {
     &TEXTS
 }
 
-// How many requests the store of the worked rows takes.
+// The number of requests of the store of the worked rows.
 fn requests_of_deals(rt: &(impl Abort + AllocGlobal)) -> u64 {
     let counting = Metered::counting(rt.alloc());
     assert!(rt; deals(&counting).is_ok());
     counting.requests(0)
 }
 
-// How many of them its schema takes.
+// The number of requests of its schema.
 fn requests_of_schema(rt: &(impl Abort + AllocGlobal)) -> u64 {
     let counting = Metered::counting(rt.alloc());
     assert!(rt; store_of(&counting, SCHEMA).is_ok());
     counting.requests(0)
 }
 
-// What one request gave of which memory was refused, or of none.
+// The outcome where one request for memory was refused, or none.
 #[derive(Clone, Copy)]
 struct Tried {
     none_refused: bool,
@@ -58,7 +58,7 @@ struct Tried {
     is_refusal: bool,
 }
 
-// What is given where the nth request after the store is refused.
+// The outcome where the nth request after the store is refused.
 fn tried_without(
     rt: &(impl Abort + AllocGlobal),
     built: u64,
@@ -109,11 +109,11 @@ fn reply_or_refusal_of_memory(rt: &(impl Abort + AllocGlobal), asked: (&str, &st
     assert!(rt; refused < 200, "{refused}");
 }
 
-// What a refused request gives where a store is made.
-fn is_memory(failure: Failure<StoreFault>) -> bool {
+// The failure of a refused request where a store is made.
+fn is_memory(failure: Failure<FixtureError>) -> bool {
     matches!(
         failure,
-        Failure::OutOfMemory | Failure::Fault(StoreFault::Statement(Refusal::OutOfMemory))
+        Failure::OutOfMemory | Failure::Error(FixtureError::Statement(Refusal::OutOfMemory))
     )
 }
 
@@ -159,7 +159,7 @@ fn store_or_refusal_of_memory(rt: &(impl Abort + AllocGlobal), schema: &str) {
     assert!(rt; refused < 900, "{refused}");
 }
 
-// How many bytes the owner is answered after a load of the deals.
+// The number of bytes that the owner is answered after a load of the deals.
 fn answered_after_load<A: Heap>(alloc: A) -> Result<usize, AllocError> {
     let Ok(mut store) = store_of(alloc, SCHEMA) else {
         return Err(AllocError);

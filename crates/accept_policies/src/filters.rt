@@ -474,7 +474,7 @@ lone: SELECT id FROM deal HAVING TRUE
 refused 42803 at 7
 ";
 
-// What PostgreSQL answers in another way.
+// Queries that PostgreSQL answers in another way.
 const ELSEWHERE: &str = "-- a_table_is_no_column
 boss: SELECT deal FROM deal
 3

@@ -1,5 +1,5 @@
-//! Worked rows of policies, and of conditions and items over one table: scripts of rows, each run by one test.
-//! docs/ACCEPTANCE.md lists them.
+//! Worked rows of policies, of conditions and items over one table, and of schema statements with their refusals and
+//! limits. docs/ACCEPTANCE.md lists them.
 #![tactic(auto)]
 
 #[cfg(test)]
@@ -8,3 +8,7 @@ mod filters;
 mod passing;
 #[cfg(test)]
 mod policies;
+#[cfg(test)]
+mod statements;
+#[cfg(test)]
+mod stores;

@@ -1,5 +1,5 @@
-//! Worked rows of policies, on the store of `sales`: who is held by row security, which policies apply, and what their
-//! conditions show.
+//! Worked rows of policies, on the store of `sales`: the roles that row security acts on, the policies that apply, and
+//! the rows that their conditions show.
 
 use crate::passing::passes;
 use std::test::Fail;
@@ -410,7 +410,7 @@ bob: SELECT id FROM deal
 id
 ";
 
-// What a condition shows: the rows on which it is true, neither false nor null.
+// The rows that a condition shows: those on which it is true, neither false nor null.
 const CONDITIONS: &str = "-- a_null_condition_hides
 schema sales
 

@@ -1,17 +1,17 @@
-//! Texts of rows for a store, and their first fault.
+//! Texts of rows for a store, and their first load error.
 
 use crate::stores::made;
 use csv_records::Records;
 use engine::StoreError::Data;
-use engine::{Store, StoreError};
-use fixture_stores::{DEALS, FLAGS, SCHEMA, StoreFault, answered, deals, load, store_of};
+use fixture_stores::{DEALS, FLAGS, FixtureError, SCHEMA, answered, deals, load, store_of};
 use fixtures::in_pieces;
 use memory::Failure;
 use std::alloc::Global;
 use std::process::Abort;
+use store::{Store, StoreError};
 use tables::LoadError;
 
-// Texts of rows that a fresh store refuses for a table, and what root is answered after each.
+// Texts of rows that a fresh store refuses for a table, and the reply to root after each.
 struct RefusedTexts {
     name: &'static str,
     schema: &'static str,
@@ -149,12 +149,12 @@ fn store_before(rt: &(impl Abort + AllocGlobal), faults: &RefusedTexts) -> Box<S
     store
 }
 
-// What a text of rows gives, and the number of tables after it; the query is answered as before.
+// The result of a text of rows, and the number of tables after it; the query is answered as before.
 fn load_and_ask(
     rt: &(impl Abort + AllocGlobal),
     faults: &RefusedTexts,
     text: &str,
-) -> (Result<(), Failure<StoreFault>>, usize) {
+) -> (Result<(), Failure<FixtureError>>, usize) {
     let mut store = store_before(rt, faults);
     let found = load(&mut store, faults.table, text);
     let asked = (faults.name, "root", faults.query, faults.shown, 0);
@@ -166,7 +166,7 @@ fn load_and_ask(
 fn refused(rt: &(impl Abort + AllocGlobal), faults: &RefusedTexts, text: &str, fault: StoreError) {
     let name = faults.name;
     let (found, tables) = load_and_ask(rt, faults, text);
-    let want = Err(Failure::Fault(StoreFault::Data(fault)));
+    let want = Err(Failure::Error(FixtureError::Data(fault)));
     assert_eq!(rt; found, want, "{name}: {text}");
     assert_eq!(rt; tables, 1, "{name}: {text}");
 }
@@ -212,13 +212,13 @@ fn accepted() -> &'static [Accepted] {
     &ACCEPTED
 }
 
-// What rows of a table of a new store give.
+// The result of rows of a table of a new store.
 fn loaded(
     rt: &(impl Abort + AllocGlobal),
     schema: &str,
     table: &str,
     text: &str,
-) -> Result<(), Failure<StoreFault>> {
+) -> Result<(), Failure<FixtureError>> {
     let mut store = made(rt, store_of(rt.alloc(), schema));
     load(&mut store, table, text)
 }
@@ -235,7 +235,7 @@ fn loaded_slowly(rt: &(impl Abort + AllocGlobal), left: u64) -> Result<(), Failu
     store.load("deal", in_pieces(DEALS, 1, left))
 }
 
-// The same over records, which keep why a read failed.
+// The same over records, which keep the failure of a read.
 fn records_loaded_slowly(
     rt: &(impl Abort + AllocGlobal),
     left: u64,
@@ -245,7 +245,7 @@ fn records_loaded_slowly(
     store.load_records("deal", &mut records)
 }
 
-// How many bytes are read, and the row that is not: the header has 9 bytes, the rows 8, 8 and 6.
+// The number of bytes that are read, and the row that is not: the header has 9 bytes, the rows 8, 8 and 6.
 static CUT_RECORDS: [(u64, u64); 7] = [(0, 0), (8, 0), (9, 1), (16, 1), (17, 2), (25, 3), (31, 4)];
 
 fn cut_records() -> &'static [(u64, u64)] {
@@ -254,7 +254,7 @@ fn cut_records() -> &'static [(u64, u64)] {
 
 fn records_report_the_row_that_was_not_read(rt: &(impl Abort + AllocGlobal)) {
     for (left, row) in cut_records() {
-        let want = Err(Failure::Fault(Data(LoadError::Reader { row: *row })));
+        let want = Err(Failure::Error(Data(LoadError::Reader { row: *row })));
         assert_eq!(rt; records_loaded_slowly(rt, *left), want, "{left}");
     }
     assert_eq!(rt; records_loaded_slowly(rt, 10_000), Ok(()));
@@ -263,7 +263,7 @@ fn records_report_the_row_that_was_not_read(rt: &(impl Abort + AllocGlobal)) {
 fn failed_reader_adds_nothing(rt: &(impl Abort + AllocGlobal)) {
     for left in 0..30u64 {
         match loaded_slowly(rt, left) {
-            Err(Failure::Fault(Data(LoadError::Reader { row }))) => {
+            Err(Failure::Error(Data(LoadError::Reader { row }))) => {
                 assert!(rt; row <= 3, "{left}");
             }
             other => panic!(rt; "failed_reader_adds_nothing: {left}: {other:?}"),

@@ -1,13 +1,14 @@
-//! Writers that fail, and what went out before.
+//! Writers that fail, and the bytes that went out before.
 
 use crate::stores::made;
-use engine::{Store, serve};
+use engine::serve;
 use fixture_stores::deals;
 use output::Output;
 use std::alloc::Global;
 use std::io;
 use std::io::{ErrorKind, Write};
 use std::process::Abort;
+use store::Store;
 
 /// Takes at most `step` bytes a call, and fails after `room` bytes.
 #[derive(Drop)]
@@ -33,8 +34,8 @@ impl Write for Narrow {
     }
 }
 
-// What a writer of so much room and so many bytes a call gives: the status, the count of failures, and whether it holds the
-// first bytes of the answer.
+// The outcome of a writer of so much room and so many bytes a call: the status, the count of failures, and true where
+// it holds the first bytes of the answer.
 fn written(
     rt: &(impl Abort + AllocGlobal),
     store: &Store<Global>,

@@ -1,9 +1,9 @@
-//! What was found, compared with what was wanted.
+//! A value that was found, compared with the wanted one.
 
 use std::fmt::{Debug, Display};
 use std::process::Abort;
 
-/// What was found is what was wanted, at a place of a test.
+/// The value that was found is the wanted one, in a row of a test.
 pub fn same<T: PartialEq + Debug>(
     rt: &impl Abort,
     found: &T,

@@ -3,12 +3,11 @@
 ghost use Rattle.std.specs.Prelude.{◌<◌, length};
 
 use crate::compared::same;
-use memory::{Failure, Heap};
+use memory::{Failure, Heap, Items, Text};
 use std::alloc::{AllocError, Global};
 use std::io::Read;
 use std::process::Abort;
 use tables::{LoadError, Table};
-use text::{Items, Text};
 use value::{ColType, Column, Val};
 
 /// Five deals: numbers, texts, truth values and nulls.
@@ -19,7 +18,7 @@ pub const DEAL: &str =
 pub const DEAL_ROWS: &str =
     "1;'alice';1;4;t;/2;'alice';2;0;f;/3;'bob';1;7;t;/4;'bob';2;null;null;/5;'alice';null;5;f;/";
 
-// A name of a column, its type, and whether it refuses nulls.
+// A name of a column, its type, and true where it refuses nulls.
 type Named = (&'static str, ColType, bool);
 
 static COLUMNS: [Named; 5] = [
@@ -79,7 +78,7 @@ pub fn loaded<A: Heap, R: Read + Drop>(
     }
 }
 
-/// Why a reader's text is no table, if it is none.
+/// The load error of a reader's text that is no table, if it is none.
 pub fn refusal<R: Read + Drop>(alloc: Global, reader: R) -> Option<Failure<LoadError>> {
     load(alloc, reader).err()
 }

@@ -43,7 +43,7 @@ fn load_or_refusal_of_memory(rt: &(impl Abort + AllocGlobal)) {
     assert!(rt; refused < 900, "{refused}");
 }
 
-// How many requests a load takes.
+// The number of requests of a load.
 fn requests_of_load(rt: &(impl Abort + AllocGlobal)) -> u64 {
     let counting = Metered::counting(rt.alloc());
     assert!(rt; loads(rt, &counting, 0));

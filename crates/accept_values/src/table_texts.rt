@@ -1,4 +1,4 @@
-//! Tables that are read from comma-separated text, and how they are refused.
+//! Tables that are read from comma-separated text, and the errors of refused ones.
 
 use crate::compared::same;
 use crate::deals::{DEAL, DEAL_ROWS, loaded, refusal, shows};
@@ -11,7 +11,7 @@ use std::test::Fail;
 use tables::{LoadError, Table};
 use value::Val;
 
-// A name, a text before each row and one after it, and the rows with the fault of the whole.
+// A name, a text before each row and one after it, and the rows with the load error of the whole.
 type Group = (
     &'static str,
     &'static str,
@@ -196,7 +196,7 @@ fn is_refused(
     let (before, row, after) = parts;
     let text = format!(in rt.alloc(); "{before}{row}{after}")?;
     let found = refusal(rt.alloc(), text.as_str().as_bytes());
-    let want = Some(Failure::Fault(want));
+    let want = Some(Failure::Error(want));
     same(rt, &found, &want, name, &text.as_str());
     Ok(())
 }
@@ -212,7 +212,7 @@ fn are_refused(rt: &(impl Abort + AllocGlobal), group: &Group) -> Result<(), All
 fn bytes_of_no_text_are_reported(rt: &(impl Abort + AllocGlobal)) {
     for (row, (bytes, want)) in no_texts().iter().enumerate() {
         let found = refusal(rt.alloc(), *bytes);
-        let want = Some(Failure::Fault(*want));
+        let want = Some(Failure::Error(*want));
         same(rt, &found, &want, "bytes_of_no_text_are_reported", &row);
     }
 }
@@ -271,7 +271,7 @@ fn rows_of_texts_whole_and_in_pieces(rt: HostRuntime) {
     cells_by_their_place(&rt, &table);
 }
 
-// How many lines end among the first bytes of a text.
+// The number of lines that end among the first bytes of a text.
 fn lines_in(text: &str, bytes: u64) -> u64 {
     let mut lines = 0u64;
     for (i, byte) in text.as_bytes().iter().enumerate() {
@@ -288,7 +288,7 @@ fn loads_after(rt: &(impl Abort + AllocGlobal), left: u64) -> bool {
         None => true,
         Some(error) => {
             let row = lines_in(DEAL, left);
-            let want = Failure::Fault(LoadError::Reader { row });
+            let want = Failure::Error(LoadError::Reader { row });
             same(rt, &error, &want, "failed_read_gives_no_table: at", &left);
             false
         }
@@ -309,7 +309,7 @@ fn failed_read_gives_no_table(rt: &(impl Abort + AllocGlobal)) {
 fn failed_append(rt: &(impl Abort + AllocGlobal), table: &mut Table<Global>, left: u64) {
     let found = table.append(in_pieces(DEAL, 1, left)).err();
     let row = lines_in(DEAL, left);
-    let want = Some(Failure::Fault(LoadError::Reader { row }));
+    let want = Some(Failure::Error(LoadError::Reader { row }));
     same(rt, &found, &want, "failed_read_adds_no_rows: at", &left);
     shows(rt, table, DEAL_ROWS, "failed_read_adds_no_rows");
 }
@@ -354,7 +354,7 @@ fn appends(rt: &(impl Abort + AllocGlobal), table: &mut Table<Global>, want: &st
     shows(rt, table, want, more);
     adds_nothing(rt, table, want);
     let cut = "id,owner,region,parts,open\n7\n";
-    let fault = Failure::Fault(LoadError::Reader { row: 1 });
+    let fault = Failure::Error(LoadError::Reader { row: 1 });
     same(rt, &table.append(cut.as_bytes()), &Err(fault), name, &cut);
     same(rt, &table.rows(), &6, name, &"rows");
 }

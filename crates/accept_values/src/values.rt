@@ -1,6 +1,8 @@
 //! Values: arithmetic, logic of three values, comparison, and texts.
 
 use crate::compared::same;
+use Operation::{Add, Div, Mul, Neg, Rem, Sub};
+use Sample::{Bool, Int, Null};
 use memory::Failure;
 use std::alloc::Global;
 use std::borrow::CowStr;
@@ -17,8 +19,6 @@ enum Sample {
     Int(i64),
     Bool(bool),
 }
-
-use Sample::{Bool, Int, Null};
 
 fn value_of<'r>(sample: Sample) -> Val<'r, Global> {
     match sample {
@@ -39,8 +39,6 @@ enum Operation {
     Rem,
     Neg,
 }
-
-use Operation::{Add, Div, Mul, Neg, Rem, Sub};
 
 // An operation, its operands, and its result; a Neg has one operand.
 type Computed = (Operation, Sample, Sample, Result<Option<i64>, FaultKind>);
@@ -199,7 +197,7 @@ fn truth_tables(rt: &impl Abort) {
     }
 }
 
-// What a truth value is as a condition, by way of its value.
+// A truth value as a condition, by way of its value.
 fn condition_of(truth: Truth) -> Truth {
     let value: Val<'_, Global> = of_truth(truth);
     as_condition(&value)
@@ -220,7 +218,7 @@ fn conditions(rt: &impl Abort) {
     same(rt, &number, &Truth::Unknown, "condition", &1);
 }
 
-// Two values, and whether the first is less.
+// Two values, and the test that the first is less.
 static LESS: [(Sample, Sample, Truth); 5] = [
     (Int(-3), Int(2), Truth::True),
     (Int(2), Int(2), Truth::False),
@@ -295,7 +293,7 @@ fn booleans() -> &'static [(&'static str, Result<bool, FaultKind>)] {
 fn boolean_of(alloc: Global, text: &str) -> Option<Result<bool, FaultKind>> {
     match read_value(alloc, ColType::Boolean, text) {
         Ok(Value::Bool(found)) => Some(Ok(found)),
-        Err(Failure::Fault(kind)) => Some(Err(kind)),
+        Err(Failure::Error(kind)) => Some(Err(kind)),
         Ok(_) | Err(Failure::OutOfMemory) => None,
     }
 }
@@ -327,7 +325,7 @@ fn samples() -> &'static [(Sample, Option<&'static str>)] {
     &WRITTEN
 }
 
-// What is lent of a text, if there is one.
+// The text that is lent, if there is one.
 fn lent<'t>(text: &'t Option<CowStr<'_, Global>>) -> Option<&'t str> {
     match text {
         Some(text) => Some(text.as_str()),
@@ -379,7 +377,7 @@ fn number_there_and_back(rt: &(impl Abort + AllocGlobal)) {
 fn casts(rt: &(impl Abort + AllocGlobal)) {
     number_there_and_back(rt);
     let wrong = cast_number(rt.alloc(), text_value(rt, "012").as_val());
-    let fault = Failure::Fault(FaultKind::BadText);
+    let fault = Failure::Error(FaultKind::BadText);
     same(rt, &wrong, &Some(Err(fault)), "casts", &"012");
     let null = number_of(cast(rt.alloc(), ColType::Text, Val::Null));
     same(rt, &null, &Some(Ok(None)), "casts", &"null");

@@ -1,8 +1,8 @@
--- How the choice of policies continues, and what is made of them.
+-- The steps of the choice of policies, and the guard made of them.
 use Rattle.std.proofs.Common.{◌≡◌, ℕ, suc, ◌+◌, ◌<◌, ◌≤◌, Bool, true, false, ◌==◌, if◌then◌else◌, List, [], ◌∷◌, ◌++◌, append_assoc, append-nil, length, map, filter, get_or, drop, drop-cons, Option, Some, None, Vec, Result, Ok, Err, IfOk, OnOk, refl, sym, ap, ◌∙◌, true≢false, arith}
 use Rattle.std.proofs.Math.ListN.{drop_of_length-le}
 use Rattle.value.specs.Datum.{Row}
-use Rattle.row_ast.specs.Ast.{Name}
+use Rattle.value.specs.Names.{Name}
 use Rattle.expr.specs.Bound.{BoundExpr, BoundExprs, one_expr, bound_exprs_of}
 use Rattle.expr.specs.Bound as bound
 use Rattle.expr.specs.View.{bound_expr_of, bound_exprs}
@@ -13,11 +13,12 @@ use Rattle.expr.proofs.Trees.{bound_exprs_hidden}
 use Rattle.row_objects.specs.Objects.{Policy, Table}
 use Rattle.eval.proofs.Movables.{and_left, and_right}
 use Rattle.catalog.specs.Catalog.{Catalog}
-use Rattle.access.specs.Access.{is_above, permits, restricts, sees}
-use Rattle.access.specs.Guards.{Guard, All, Expr, guard, guard_by, predicates, shows}
-use Rattle.access.specs.Guards as spec
-use Rattle.access.specs.View.{guard_of}
-use Rattle.access.specs.declared.shown.Guard as declared
+use Rattle.access.specs.Access.{bypasses_policies, permits, restricts, sees}
+use Rattle.tuples.specs.Guards.{Guard, All, Expr, shows}
+use Rattle.access.specs.Guards.{guard, guard_by, predicates}
+use Rattle.tuples.specs.Guards as spec
+use Rattle.tuples.specs.View.{guard_of}
+use Rattle.tuples.specs.declared.guard.Guard as declared
 use Rattle.access.proofs.Decided.{shown}
 
 -- ---- one policy after another
@@ -73,12 +74,12 @@ zero_if n h = grind arith
 pub movable_of : (es ds : List BoundExpr) → es ≡ ds → all_movable (bound_exprs_of es) ≡ true → all_movable (bound_exprs_of ds) ≡ true
 movable_of es ds e h = ap (λ xs. all_movable (bound_exprs_of xs)) (sym e) ∙ h
 
--- what holds anyway
+-- a fact that holds anyway
 pub on_ok : {X E P : Type 0} (res : Result X E) → P → OnOk res P
 on_ok (Ok x) p = p
 on_ok (Err e) p = tt
 
--- what is found movable is the expression
+-- an expression that is found movable is the expression
 pub some_movable : (e x : BoundExpr) (o : Option BoundExpr) → o ≡ if_movable e → o ≡ Some x → x ≡ e
 some_movable e x o h s = go (movable e) (sym s ∙ h)
   where
@@ -108,7 +109,7 @@ some_given (p ∷ ps) rs es res e n h = rw e at h
 -- ---- the guard of a table
 
 module _ {A E : Type 0} (cat : Catalog) (r : Name) (t : Table) (res : Result (declared.Guard A) E) where
-  pub by_policies : (ps : List Policy) → ps ≡ t.policies → false ≡ is_above cat r t → IfOk res (λ g. guard_of g ≡ guard_by (filter (permits cat r) ps) (filter (restricts cat r) ps)) → IfOk res (λ g. guard_of g ≡ guard cat r t)
+  pub by_policies : (ps : List Policy) → ps ≡ t.policies → false ≡ bypasses_policies cat r t → IfOk res (λ g. guard_of g ≡ guard_by (filter (permits cat r) ps) (filter (restricts cat r) ps)) → IfOk res (λ g. guard_of g ≡ guard cat r t)
   by_policies ps e above h = rw (← above, ← e) h
 
   pub shown_of : (ps : List Policy) → ps ≡ t.policies → OnOk res (all_movable (bound_exprs_of (predicates (filter (permits cat r) ps))) ≡ true) → IfOk res (λ g. guard_of g ≡ guard cat r t)

@@ -1,4 +1,4 @@
--- What a guard shows is what the role sees.
+-- The guard of a role shows exactly the rows that the role sees.
 use Rattle.std.proofs.Common.{◌≡◌, Bool, true, false, ◌&&◌, ◌||◌, List, [], ◌∷◌, filter, if◌then◌else◌, Result, Ok, Err, IsOk, refl, ap, ◌∙◌}
 use Rattle.std.specs.List.{list_all, list_any}
 use Rattle.value.specs.Datum.{Row}
@@ -6,7 +6,7 @@ use Rattle.value.specs.Orders.{is_true}
 use Rattle.value.specs.declared.order.Truth.{Truth}
 use Rattle.value.specs.declared.order.Truth.TheVariants.{False, Unknown, True}
 use Rattle.value.specs.declared.faults.Fault.{Fault}
-use Rattle.row_ast.specs.Ast.{Name}
+use Rattle.value.specs.Names.{Name}
 use Rattle.expr.specs.Bound.{bound_exprs_of}
 use Rattle.expr.specs.Movable.{movable, all_movable}
 use Rattle.row_objects.specs.Objects.{Policy, Table}
@@ -14,8 +14,10 @@ use Rattle.eval.specs.Meaning.{Cells, Outcome, meaning, holds, condition, conjun
 use Rattle.eval.proofs.Faultless.{faultless}
 use Rattle.eval.proofs.Movables.{and_left, and_right}
 use Rattle.catalog.specs.Catalog.{Catalog}
-use Rattle.access.specs.Access.{cells_of, is_above, is_true_of, permits, restricts, sees}
-use Rattle.access.specs.Guards.{All, None, guard, guard_by, predicates, shows}
+use Rattle.tuples.specs.Rows.{cells_of}
+use Rattle.access.specs.Access.{bypasses_policies, is_true_of, permits, restricts, sees}
+use Rattle.tuples.specs.Guards.{All, None, shows}
+use Rattle.access.specs.Guards.{guard, guard_by, predicates}
 
 -- ---- conditions that are true
 
@@ -91,7 +93,7 @@ shown_by r row (p ∷ ps) rs h =
 
 -- of policies of which those that permit are movable
 pub shown : (cat : Catalog) (r : Name) (t : Table) → all_movable (bound_exprs_of (predicates (filter (permits cat r) t.policies))) ≡ true → (row : Row) → shows r (guard cat r t) row ≡ sees cat r t row
-shown cat r t h row = go (is_above cat r t)
+shown cat r t h row = go (bypasses_policies cat r t)
   where
     go : (b : Bool) → shows r (if b then All else guard_by (filter (permits cat r) t.policies) (filter (restricts cat r) t.policies)) row
         ≡ b || (list_any (is_true_of r row) (filter (permits cat r) t.policies) && list_all (is_true_of r row) (filter (restricts cat r) t.policies))
@@ -109,7 +111,7 @@ chosen_movable f (p ∷ ps) h = go (f p) (filter f ps) (and_left (movable p.pred
 pub guard_shows : (cat : Catalog) (r : Name) (t : Table) (row : Row) → list_all (λ p. movable p.predicate) t.policies ≡ true → shows r (guard cat r t) row ≡ sees cat r t row
 guard_shows cat r t row h = shown cat r t (chosen_movable (permits cat r) t.policies h) row
 
--- ---- which guard it is
+-- ---- the cases of a guard
 
 not_all : (ps rs : List Policy) → guard_by ps rs ≡ All → false ≡ true
 not_all [] rs h = cc
@@ -119,17 +121,17 @@ none_is_empty : (ps rs : List Policy) → guard_by ps rs ≡ None → ps ≡ []
 none_is_empty [] rs h = refl
 none_is_empty (p ∷ ps) rs h = cc
 
-pub all_is_above : (cat : Catalog) (r : Name) (t : Table) → (guard cat r t ≡ All → is_above cat r t ≡ true) × (is_above cat r t ≡ true → guard cat r t ≡ All)
-all_is_above cat r t = (go (is_above cat r t), λ h. rw h refl)
+pub all_bypasses : (cat : Catalog) (r : Name) (t : Table) → (guard cat r t ≡ All → bypasses_policies cat r t ≡ true) × (bypasses_policies cat r t ≡ true → guard cat r t ≡ All)
+all_bypasses cat r t = (go (bypasses_policies cat r t), λ h. rw h refl)
   where
     go : (b : Bool) → (if b then All else guard_by (filter (permits cat r) t.policies) (filter (restricts cat r) t.policies)) ≡ All → b ≡ true
     go true h = refl
     go false h = not_all (filter (permits cat r) t.policies) (filter (restricts cat r) t.policies) h
 
 pub none_is_unpermitted : (cat : Catalog) (r : Name) (t : Table)
-    → (guard cat r t ≡ None → (is_above cat r t ≡ false) × (filter (permits cat r) t.policies ≡ []))
-    × ((is_above cat r t ≡ false) × (filter (permits cat r) t.policies ≡ []) → guard cat r t ≡ None)
-none_is_unpermitted cat r t = (go (is_above cat r t), λ h. rw (h.0, h.1) refl)
+    → (guard cat r t ≡ None → (bypasses_policies cat r t ≡ false) × (filter (permits cat r) t.policies ≡ []))
+    × ((bypasses_policies cat r t ≡ false) × (filter (permits cat r) t.policies ≡ []) → guard cat r t ≡ None)
+none_is_unpermitted cat r t = (go (bypasses_policies cat r t), λ h. rw (h.0, h.1) refl)
   where
     go : (b : Bool) → (if b then All else guard_by (filter (permits cat r) t.policies) (filter (restricts cat r) t.policies)) ≡ None → (b ≡ false) × (filter (permits cat r) t.policies ≡ [])
     go true h = cc

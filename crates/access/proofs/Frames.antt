@@ -1,8 +1,8 @@
--- How a walk that makes a guard for each entry goes on.
+-- The steps of a walk that makes a guard for each entry.
 use Rattle.std.proofs.Common.{◌≡◌, ℕ, suc, ◌+◌, ◌<◌, ◌≤◌, List, [], ◌∷◌, ◌++◌, length, map, get_or, drop, drop-cons, refl, sym, ap, ◌∙◌, append_assoc, append-nil, arith}
 use Rattle.std.proofs.lemmas.List.{drop_all, map-append}
 
--- w makes of each e what h makes of it
+-- w and h agree on each e
 module _ {G E X : Type 0} (f : G → X) (h : E → X) (w : List E → List X) (each : (e : E) (es : List E) → w (e ∷ es) ≡ h e ∷ w es) where
   pub next_is_made : (gs : List G) (es : List E) (k : ℕ) (g : G) (e : E) (new : List G) → k < length es → e ≡ get_or es k e → new ≡ gs ++ g ∷ [] → f g ≡ h e →
       map f gs ++ w (drop k es) ≡ w es → map f new ++ w (drop (k + 1) es) ≡ w es

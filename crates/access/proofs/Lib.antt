@@ -1,5 +1,7 @@
+pub mod Chosen
+pub mod Decided
+pub mod Frames
+pub mod Mentioned
+pub mod NamedMentions
 pub mod Passed
 pub mod Walks
-pub mod Decided
-pub mod Chosen
-pub mod Frames

@@ -1,6 +1,6 @@
 -- The first privilege that is not granted, one privilege after another.
 use Rattle.std.proofs.Common.{◌≡◌, ℕ, suc, ◌+◌, ◌<◌, true, false, List, length, map, get_or, drop, drop-cons, Option, Some, refl, sym, ◌∙◌, arith}
-use Rattle.row_ast.specs.Ast.{Name}
+use Rattle.value.specs.Names.{Name}
 use Rattle.catalog.specs.Catalog.{Catalog}
 use Rattle.access.specs.Access.{RequiredPrivilege, denial, granted}
 

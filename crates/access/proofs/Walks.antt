@@ -2,7 +2,7 @@
 use Rattle.std.proofs.Common.{◌≡◌, ℕ, suc, ◌+◌, ◌<◌, ◌≤◌, Bool, true, false, ◌||◌, List, [], ◌∷◌, length, get_or, drop, drop-cons, refl, sym, ap, ◌∙◌, arith}
 use Rattle.std.proofs.lemmas.List.{drop_all}
 
--- w says whether f holds of some item
+-- w tests that f holds of some item
 module _ {X : Type 0} (f : X → Bool) (w : List X → Bool) (each : (x : X) (xs : List X) → w (x ∷ xs) ≡ (f x || w xs)) (xs : List X) (k : ℕ) (so_far : w (drop k xs) ≡ w xs) where
   pub none_left : w [] ≡ false → length xs ≤ k → false ≡ w xs
   none_left empty l = sym empty ∙ ap w (sym (drop_all k xs l)) ∙ so_far

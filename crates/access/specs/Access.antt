@@ -1,14 +1,15 @@
--- Who may read what (PostgreSQL: Privileges; Row Security Policies).
-use Rattle.std.specs.Prelude.{ℕ, Bool, true, not, ◌&&◌, ◌||◌, List, [], filter, Option, Some, None, slice_index_or}
+-- The privileges on tables and the rows that a role sees (PostgreSQL: Privileges; Row Security Policies).
+use Rattle.std.specs.Prelude.{ℕ, Bool, true, not, ◌&&◌, ◌||◌, List, [], filter, Option, Some, None}
 use Rattle.std.specs.Str.{bytes_eq}
 use Rattle.std.specs.List.{list_all, list_any, find}
-use Rattle.value.specs.Datum.{Datum, null, Row}
-use Rattle.row_ast.specs.Ast.{Name, everyone}
+use Rattle.value.specs.Datum.{null, Row}
+use Rattle.value.specs.Names.{Name, everyone}
 use Rattle.row_objects.specs.Objects.{Policy, Table}
-use Rattle.eval.specs.Meaning.{Cells, no_aggregate, holds}
+use Rattle.eval.specs.Meaning.{holds}
 use Rattle.catalog.specs.Catalog.{Catalog, belongs, bypasses_rls, is_superuser, owns}
+use Rattle.tuples.specs.Rows.{cells_of}
 
--- r is among the roles that the name stands for
+-- the name is r's, that of a role that r belongs to, or that of every role
 abbrev pub includes_role : Catalog → Name → Name → Bool
 includes_role cat r name = bytes_eq name everyone || belongs cat r name
 
@@ -28,7 +29,7 @@ covers None required = true
 covers (Some column) None = true
 covers (Some column) (Some name) = bytes_eq column name
 
--- the role owns the table, or a grant to it covers what is required
+-- the role owns the table, or a grant to it covers the required privilege
 abbrev pub granted : Catalog → Name → RequiredPrivilege → Bool
 granted cat r required =
     owns cat r required.table || list_any (λ g. includes_role cat r g.to && covers g.column required.column) required.table.grants
@@ -38,18 +39,6 @@ abbrev pub denial : Catalog → Name → List RequiredPrivilege → Option Requi
 denial cat r required = find (λ privilege. not (granted cat r privilege)) required
 
 -- ---- rows
-
--- the row of a number, counted from 0; it is asked only of numbers below the number of rows
-abbrev pub row_at : List Row → ℕ → Row
-row_at rows number = slice_index_or rows number []
-
--- the value at a place; a row has a value for each column of its table, so that null is never in place of one
-abbrev pub cell : Row → ℕ → Datum
-cell row place = slice_index_or row place null
-
--- a row of a table as the cells of its columns; a policy is bound to its table alone, whatever the number of the entry
-abbrev pub cells_of : Row → Cells
-cells_of row = record { column = λ id. cell row id.column; aggregate = no_aggregate }
 
 -- the policy applies to the role
 abbrev pub applies : Catalog → Name → Policy → Bool
@@ -73,12 +62,12 @@ policies_allow cat r t row =
     list_any (is_true_of r row) (filter (permits cat r) t.policies) && list_all (is_true_of r row) (filter (restricts cat r) t.policies)
 
 -- row security is off, or the role is a superuser or has BYPASSRLS, or it belongs to the owner on whom row security is not forced
-abbrev pub is_above : Catalog → Name → Table → Bool
-is_above cat r t = not t.row_security || is_superuser cat r || bypasses_rls cat r || (belongs cat r t.owner && not t.forced)
+abbrev pub bypasses_policies : Catalog → Name → Table → Bool
+bypasses_policies cat r t = not t.row_security || is_superuser cat r || bypasses_rls cat r || (belongs cat r t.owner && not t.forced)
 
--- the role is above the policies of the table, or they allow it the row
+-- the role bypasses the policies of the table, or they allow it the row
 abbrev pub sees : Catalog → Name → Table → Row → Bool
-sees cat r t row = is_above cat r t || policies_allow cat r t row
+sees cat r t row = bypasses_policies cat r t || policies_allow cat r t row
 
 -- the rows of the table that the role sees
 abbrev pub visible : Catalog → Name → Table → List Row → List Row

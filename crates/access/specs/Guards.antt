@@ -1,21 +1,12 @@
--- The expression that decides which rows of a table a role sees.
-use Rattle.std.specs.Prelude.{Bool, true, false, List, [], ◌∷◌, map, filter, if◌then◌else◌}
-use Rattle.value.specs.Datum.{Row}
-use Rattle.row_ast.specs.Ast.{Name}
+-- The expression that decides the rows of a table that a role sees.
+use Rattle.std.specs.Prelude.{List, [], ◌∷◌, map, filter, if◌then◌else◌}
+use Rattle.value.specs.Names.{Name}
 use Rattle.expr.specs.Bound.{BoundExpr, And, Or, one_expr, bound_exprs_of}
-use Rattle.eval.specs.Meaning.{holds}
 use Rattle.row_objects.specs.Objects.{Policy, Table}
 use Rattle.scope.specs.Entry.{Entry}
 use Rattle.catalog.specs.Catalog.{Catalog}
-use Rattle.access.specs.Access.{cells_of, is_above, permits, restricts}
-
-pub data Guard : Type 0 where
-  -- every row
-  All : Guard
-  -- no row
-  None : Guard
-  -- the rows on which the expression is true
-  Expr : BoundExpr → Guard
+use Rattle.access.specs.Access.{bypasses_policies, permits, restricts}
+use Rattle.tuples.specs.Guards.{Guard, All, None, Expr}
 
 abbrev pub predicates : List Policy → List BoundExpr
 predicates policies = map (λ p. p.predicate) policies
@@ -29,15 +20,9 @@ abbrev pub guard_by : List Policy → List Policy → Guard
 guard_by [] restrictive = None
 guard_by (p ∷ ps) restrictive = Expr (combined (p ∷ ps) restrictive)
 
--- of the policies that apply to the role, unless it is above them
+-- of the policies that apply to the role, unless it bypasses them
 abbrev pub guard : Catalog → Name → Table → Guard
-guard cat r t = if is_above cat r t then All else guard_by (filter (permits cat r) t.policies) (filter (restricts cat r) t.policies)
-
--- whether the guard lets the role see a row
-abbrev pub shows : Name → Guard → Row → Bool
-shows r All row = true
-shows r None row = false
-shows r (Expr e) row = holds (cells_of row) r e
+guard cat r t = if bypasses_policies cat r t then All else guard_by (filter (permits cat r) t.policies) (filter (restricts cat r) t.policies)
 
 -- the guard of each entry, in order
 abbrev pub frame : Catalog → Name → List Entry → List Guard

@@ -1,4 +1,6 @@
 pub mod Access
 pub mod Guards
 pub mod Laws
+pub mod NamedLaws
+pub mod Needed
 pub mod View

@@ -1,4 +1,4 @@
-//! The guard of a table: which of its rows a role sees (PostgreSQL: Row Security Policies).
+//! The guard of a table: the rows of it that a role sees (PostgreSQL: Row Security Policies).
 
 ghost use Rattle.std.specs.Prelude.{◌≡◌, ◌∷◌, ◌++◌, [], true, IfOk, IsOk, OnOk, filter, map};
 ghost use Rattle.value.specs.Datum as value;
@@ -8,21 +8,21 @@ ghost use Rattle.expr.specs.Movable.{all_movable, movable};
 ghost use Rattle.expr.specs.View.{bound_expr_of, bound_exprs};
 ghost use Rattle.row_objects.specs.View.{policy_of, table_of};
 ghost use Rattle.scope.specs.View.{entry_of};
-ghost use Rattle.access.specs.Access.{applies, is_above, permits, restricts, sees};
+ghost use Rattle.access.specs.Access.{applies, bypasses_policies, permits, restricts, sees};
+ghost use Rattle.tuples.specs.Guards as row_guards;
 ghost use Rattle.access.specs.Guards as spec;
 ghost use Rattle.access.specs.Guards.{predicates};
-ghost use Rattle.access.specs.View.{guard_of};
+ghost use Rattle.tuples.specs.View.{guard_of};
 
 use crate::privileges::any_includes_role;
-use crate::shown::Guard;
 use catalog::Catalog;
 use expr::{BoundExpr, copy_expr};
-use memory::{Heap, boxed};
-use movable_expr::MovableExpr;
+use memory::{Heap, Items, boxed};
+use predicates::MovableExpr;
 use row_objects::{Policy, Table};
 use scope::Entry;
 use std::alloc::AllocError;
-use text::Items;
+use tuples::Guard;
 
 type Predicates<A> = Result<Vec<BoundExpr<A>, A>, AllocError>;
 
@@ -112,7 +112,7 @@ fn disjunction<A: Heap>(
 // The guard of members that are joined by AND and are movable.
 fn conjunction<A: Heap>(alloc: A, members: Vec<BoundExpr<A>, A>) -> Result<Guard<A>, AllocError>
     requires { all_movable (bound_exprs members.items) ≡ true }
-    ensures { IfOk result (λ g. guard_of g ≡ spec.Expr (bound.And 0 (bound_exprs members.items))) }
+    ensures { IfOk result (λ g. guard_of g ≡ row_guards.Expr (bound.And 0 (bound_exprs members.items))) }
 {
     match boxed(alloc, BoundExpr::And { offset: 0, members }) {
         Ok(whole) => match MovableExpr::new(whole) {
@@ -133,7 +133,7 @@ fn combined<A: Heap>(
     policies: &[Policy<A>],
 ) -> Result<Guard<A>, AllocError>
     requires { all_movable (bound_exprs permissive.items) ≡ true }
-    ensures { IfOk result (λ g. guard_of g ≡ spec.Expr (bound.And 0 (one_expr (bound.Or 0 (bound_exprs permissive.items)) (bound_exprs_of (predicates (filter (restricts catalog.now role.now) (map (λ p. policy_of p) policies.now))))))) }
+    ensures { IfOk result (λ g. guard_of g ≡ row_guards.Expr (bound.And 0 (one_expr (bound.Or 0 (bound_exprs permissive.items)) (bound_exprs_of (predicates (filter (restricts catalog.now role.now) (map (λ p. policy_of p) policies.now))))))) }
 {
     let first = match disjunction(alloc, permissive) {
         Ok(first) => first,
@@ -167,9 +167,9 @@ fn guard_by<A: Heap>(
     }
 }
 
-// Whether the policies of the table do not act on the role.
-fn is_above<A: Heap>(catalog: &Catalog<A>, role: &str, table: Table<'_, A>) -> bool
-    ensures { result ≡ is_above catalog.now role.now (table_of table.entry) }
+// True where the role bypasses the policies of the table.
+fn bypasses_policies<A: Heap>(catalog: &Catalog<A>, role: &str, table: Table<'_, A>) -> bool
+    ensures { result ≡ bypasses_policies catalog.now role.now (table_of table.entry) }
 {
     !table.row_security()
         || catalog.is_superuser(role)
@@ -185,11 +185,11 @@ pub fn guard<A: Heap>(
     table: Table<'_, A>,
 ) -> Result<Guard<A>, AllocError>
     ensures value { IfOk result (λ g. guard_of g ≡ spec.guard catalog.now role.now (table_of table.entry)) }
-    ensures shows { IfOk result (λ g. (row : value.Row) → spec.shows role.now (guard_of g) row ≡ sees catalog.now role.now (table_of table.entry) row) }
-    // Above the policies no memory is taken.
-    ensures exact { is_above catalog.now role.now (table_of table.entry) ≡ true → IsOk result }
+    ensures shows { IfOk result (λ g. (row : value.Row) → row_guards.shows role.now (guard_of g) row ≡ sees catalog.now role.now (table_of table.entry) row) }
+    // No memory is taken where the role bypasses the policies.
+    ensures exact { bypasses_policies catalog.now role.now (table_of table.entry) ≡ true → IsOk result }
 {
-    if is_above(catalog, role, table) {
+    if bypasses_policies(catalog, role, table) {
         Ok(Guard::All)
     } else {
         guard_by(alloc, catalog, role, table.policies())
@@ -204,7 +204,7 @@ pub fn frame<'s, A: Heap>(
     entries: &[Entry<'s, A>],
 ) -> Result<Items<Guard<A>, A>, AllocError>
     ensures value { IfOk result (λ guards. map guard_of guards ≡ spec.frame catalog.now role.now (map (λ e. entry_of e) entries.now)) }
-    ensures shows { IfOk result (λ guards. (row : value.Row) → map (λ g. spec.shows role.now (guard_of g) row) guards ≡ map (λ e. sees catalog.now role.now (table_of e.table) row) entries.now) }
+    ensures shows { IfOk result (λ guards. (row : value.Row) → map (λ g. row_guards.shows role.now (guard_of g) row) guards ≡ map (λ e. sees catalog.now role.now (table_of e.table) row) entries.now) }
 {
     let mut guards = Items::new(alloc);
     for entry in entries {

@@ -1,14 +1,16 @@
-//! Which columns and rows a role may read (PostgreSQL: Privileges; Row Security Policies).
+//! What a role may read: its privileges on columns, what a query needs of them, and the guard of a role on a table
+//! (PostgreSQL: Privileges; Row Security Policies).
 #![tactic(auto)]
 
 mod guards;
 mod laws;
+mod mentions;
+mod needed_laws;
 mod privileges;
-mod rows;
-mod shown;
+mod requirements;
 
 pub use guards::{frame, guard};
 pub use laws::law_guard;
+pub use needed_laws::law_named_are_needed;
 pub use privileges::{RequiredPrivilege, denied, is_granted};
-pub use rows::TableRow;
-pub use shown::{Guard, shows};
+pub use requirements::needed;

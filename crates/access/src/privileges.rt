@@ -1,16 +1,14 @@
-//! Which columns a role may read (PostgreSQL: Privileges).
+//! The columns that a role may read (PostgreSQL: Privileges).
 
 ghost use Rattle.std.specs.Prelude.{◌≡◌, ◌&&◌, map, option_map};
 ghost use Rattle.std.specs.List.{list_any};
-ghost use Rattle.grants.specs.View.{grant_of};
+ghost use Rattle.row_objects.specs.View.{grant_of};
 ghost use Rattle.access.specs.Access.{includes_role, covers, granted, denial};
 ghost use Rattle.access.specs.View.{privilege_of};
 
 use catalog::Catalog;
-use grants::Grant;
-use memory::Heap;
-use row_objects::Table;
-use text::Text;
+use memory::{Heap, Text};
+use row_objects::{Grant, Table};
 
 /// SELECT on a column of a table, or on any part of it.
 #[derive(Clone, Copy)]
@@ -21,14 +19,14 @@ pub struct RequiredPrivilege<'s, A: Heap> {
     pub column: Option<&'s Text<A>>,
 }
 
-// Whether the role is among those that the name stands for.
+// True where the name is the role's, that of a role that it belongs to, or `public`.
 fn includes_role<A: Heap>(catalog: &Catalog<A>, role: &str, name: &str) -> bool
     ensures { result ≡ includes_role catalog.now role.now name.now }
 {
     name == "public" || catalog.is_member(role, name)
 }
 
-// Whether the role is among those that one of the names stands for.
+// True where one of the names is the role's, that of a role that it belongs to, or `public`.
 pub(crate) fn any_includes_role<A: Heap>(
     catalog: &Catalog<A>,
     role: &str,
@@ -44,7 +42,7 @@ pub(crate) fn any_includes_role<A: Heap>(
     false
 }
 
-// Whether what a grant is on, a column or the whole table, covers what is required.
+// True where a grant on a column or on the whole table covers the required privilege.
 fn covers<A: Heap>(held: &Option<Text<A>>, required: Option<&Text<A>>) -> bool
     ensures { result ≡ covers held.now (option_map (λ c. c.now) required.entry) }
 {
@@ -82,7 +80,7 @@ fn any_grants_to<A: Heap>(
     false
 }
 
-/// Whether the role has a privilege: SELECT on a column of a table, or on any part of it.
+/// True where the role has a privilege: SELECT on a column of a table, or on any part of it.
 pub fn is_granted<A: Heap>(
     catalog: &Catalog<A>,
     role: &str,

@@ -1,2 +1,3 @@
-pub mod Sorting
 pub mod Least
+pub mod Products
+pub mod Sorting

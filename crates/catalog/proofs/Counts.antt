@@ -1,13 +1,11 @@
 -- A change that is counted.
 use Rattle.std.proofs.Common.{◌≡◌, ◌⊎◌, inl, inr, ⊎_elim, Option, Some, None, Result, Ok, Err, ap}
+use Rattle.memory.proofs.Cases.{ok_is}
 use Rattle.value.specs.declared.refusal.Refusal.{Refusal}
 use Rattle.value.specs.declared.refusal.Refusal.TheVariants as r
 use Rattle.catalog.specs.Catalog.{Catalog}
 use Rattle.catalog.specs.Checks.{unless}
 use Rattle.catalog.specs.Changes.{counted}
-
-ok_is : (a b : Catalog) → ◌≡◌ {A = Result Catalog Refusal} (Ok a) (Ok b) → a ≡ b
-ok_is a b e = cc
 
 ok_of : (a b : Catalog) → a ≡ b → ◌≡◌ {A = Result Catalog Refusal} (Ok a) (Ok b)
 ok_of a b e = cc

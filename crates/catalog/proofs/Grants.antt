@@ -2,8 +2,8 @@
 use Rattle.std.proofs.Common.{◌≡◌, Bool, true, false, cond, List, [], ◌∷◌, Some, find, is_some, bytes_eq, refl, ap}
 use Rattle.std.specs.List.{list_all}
 use Rattle.row_objects.specs.Objects.{Table}
-use Rattle.grants.specs.Grants.{grants_to_all, has_grant}
-use Rattle.grants.proofs.GrantSets.{all_added, none_added}
+use Rattle.row_objects.specs.Grants.{grants_to_all, has_grant}
+use Rattle.row_objects.proofs.GrantSets.{all_added, none_added}
 use Rattle.row_objects.specs.TableChanges.{with_grants_to}
 use Rattle.catalog.specs.Checks.{first_changed, if_found}
 use Rattle.catalog.specs.Granted.{GrantedAgain, IsGranted}

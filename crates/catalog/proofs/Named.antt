@@ -15,11 +15,11 @@ module _ {X Y : Type 0} (f : X → Y) (p : Y → Bool) where
       go true more = refl
       go false more = more
 
-  pub place-map : (k : ℕ) (xs : List X) → position_from p k (map f xs) ≡ position_from (λ x. p (f x)) k xs
-  place-map k [] = refl
-  place-map k (x ∷ xs) = ap (λ o. cond (p (f x)) (Some k) o) (place-map (k + 1) xs)
+  pub index-map : (k : ℕ) (xs : List X) → position_from p k (map f xs) ≡ position_from (λ x. p (f x)) k xs
+  index-map k [] = refl
+  index-map k (x ∷ xs) = ap (λ o. cond (p (f x)) (Some k) o) (index-map (k + 1) xs)
 
-  -- where there is none there is none before the view
+  -- no name has no entry before the view
   pub none_there : (xs : List X) → is_some (find p (map f xs)) ≡ false → find (λ x. p (f x)) xs ≡ None
   none_there xs h = go (find (λ x. p (f x)) xs) (sym (is_some-map f (find (λ x. p (f x)) xs)) ∙ sym (ap is_some (find-map xs)) ∙ h)
     where

@@ -1,9 +1,10 @@
 -- No statements make a loop.
 use Rattle.std.proofs.Common.{◌≡◌, zero, suc, nat_le, arith, Bool, true, false, not, ◌&&◌, cond, List, [], ◌∷◌, ◌++◌, filter, Contains, Option, Some, None, refl}
 use Rattle.std.specs.List.{list_any}
+use Rattle.memory.proofs.Cases.{some_is_not}
 use Rattle.value.specs.declared.refusal.Refusal.{Refusal}
 use Rattle.value.specs.declared.refusal.Refusal.TheVariants as r
-use Rattle.row_ast.specs.Ast.{Name}
+use Rattle.value.specs.Names.{Name}
 use Rattle.row_ast.specs.Statements.{Statement, CreateRole, GrantRole, RevokeRole, CreateTable, SetOwner, SetRowSecurity, CreateIndex, GrantSelect, RevokeSelect, CreatePolicy, DropPolicy}
 use Rattle.memberships.specs.Memberships.{HasNoLoop, is_membership}
 use Rattle.memberships.proofs.Loops.{none_after, none_among, none_at_first}
@@ -13,15 +14,12 @@ use Rattle.catalog.specs.GrantRole.{checks_grant_role}
 use Rattle.catalog.specs.Changes.{after, changed, checks, counted, most_changes}
 use Rattle.catalog.specs.Run.{or_same, run}
 
-some_is_not : (why : Refusal) → ◌≡◌ {A = Option Refusal} (Some why) None → ⊥
-some_is_not why e = cc
-
 -- a check that is passed
 passed : (b : Bool) (why : Refusal) (more : List Check) → first_refusal ((b, why) ∷ more) ≡ None → (b ≡ false) × (first_refusal more ≡ None)
 passed true why more e = absurd (some_is_not why e)
 passed false why more e = (refl, e)
 
--- what is left was there
+-- a membership that is left was there
 left_among : {X : Type 0} (keeps : X → Bool) (xs : List X) (x : X) → Contains (filter keeps xs) x → Contains xs x
 left_among keeps [] x h = h
 left_among keeps (y ∷ ys) x h = go (keeps y) h (left_among keeps ys x)

@@ -1,16 +1,17 @@
 -- The condition of a policy that the checks found is the one that is due.
 use Rattle.std.proofs.Common.{◌≡◌, ℕ, Bool, true, false, cond, List, [], ◌∷◌, find, Option, Some, option_map, Ok, bytes_eq, refl, sym, ap, ◌∙◌}
+use Rattle.memory.proofs.Cases.{some_is}
 use Rattle.value.specs.declared.refusal.Refusal.{Refusal}
 use Rattle.row_ast.specs.Ast.{CreatePolicy}
 use Rattle.expr.specs.Bound.{BoundExpr}
 use Rattle.row_objects.specs.Objects.{Table}
 use Rattle.row_objects.specs.Policies.{new_policy}
 use Rattle.row_objects.specs.TableChanges.{changed_at, with_new_policy}
-use Rattle.policy_predicates.specs.PolicyPredicate.{bound_predicate}
+use Rattle.catalog.specs.PolicyPredicate.{bound_predicate}
 use Rattle.catalog.specs.Catalog.{Catalog, table_named}
 use Rattle.catalog.specs.Checks.{first_changed, unless, with_table}
 use Rattle.catalog.specs.CreatePolicy.{after_create_policy, with_bound, with_policy, CheckedPolicy}
-use Rattle.catalog.proofs.Places.{due}
+use Rattle.catalog.proofs.Positions.{due}
 
 -- ---- changes that agree on the first
 
@@ -22,9 +23,6 @@ first_same {E} q f g (e ∷ es) h = go (q e) h (first_same q f g es)
         → cond b (f e ∷ es) (e ∷ first_changed q f es) ≡ cond b (g e ∷ es) (e ∷ first_changed q g es)
     go true h more = ap (λ x. x ∷ es) (h e refl)
     go false h more = ap (λ l. e ∷ l) (more h)
-
-some_is : {X : Type 0} (x y : X) → ◌≡◌ {A = Option X} (Some x) (Some y) → x ≡ y
-some_is x y e = cc
 
 policy_same : (cat : Catalog) (p : CreatePolicy) (e : BoundExpr) → option_map (λ t. bound_predicate t p.predicate) (table_named p.table cat) ≡ Some (Ok e)
     → with_table cat p.table (with_new_policy (new_policy p e)) ≡ after_create_policy cat p

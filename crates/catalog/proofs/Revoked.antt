@@ -1,9 +1,9 @@
--- What a revoke takes and leaves.
+-- The grants that a revoke takes and leaves.
 use Rattle.std.proofs.Common.{◌≡◌, Bool, true, false, not, ◌&&◌, cond, List, [], ◌∷◌, find, Option, Some, None, is_none, bytes_eq, refl, sym, ap, ◌∙◌, subst}
 use Rattle.std.specs.List.{list_any}
 use Rattle.row_ast.specs.Ast as ast
-use Rattle.row_ast.specs.Ast.{Name}
-use Rattle.grants.specs.Grants.{Grant, takes, without_grants}
+use Rattle.value.specs.Names.{Name}
+use Rattle.row_objects.specs.Grants.{Grant, takes, without_grants}
 use Rattle.row_objects.specs.Objects.{Table}
 use Rattle.memberships.proofs.Paths.{text_same}
 use Rattle.row_objects.specs.TableChanges.{without_grants_to}

@@ -4,9 +4,9 @@ use Rattle.std.proofs.lemmas.List.{length-map}
 use Rattle.row_objects.specs.Objects.{Table}
 use Rattle.catalog.specs.Catalog.{Catalog}
 
--- a place among the tables of a catalogue is one among what they are seen in
-pub below : {T : Type 0} (f : T → Table) (ts : List T) (now : Catalog) (place : ℕ) → map f ts ≡ now.tables → place < length now.tables → place < length ts
-below f ts now place is lt = omega (arith, lt, ap length is, length-map ts f)
+-- an index among the tables of a catalogue is one among those of the code
+pub below : {T : Type 0} (f : T → Table) (ts : List T) (now : Catalog) (index : ℕ) → map f ts ≡ now.tables → index < length now.tables → index < length ts
+below f ts now index is lt = omega (arith, lt, ap length is, length-map ts f)
 
 module _ (k now : Catalog) (is : k ≡ now) (change : List Table → List Table) (new : List Table) where
   pub changed : new ≡ change k.tables → record k { tables = new } ≡ record now { tables = change now.tables }

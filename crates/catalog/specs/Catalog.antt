@@ -1,14 +1,14 @@
--- A catalogue, who is who in it, and what names stand for.
+-- A catalogue: its roles, memberships and tables, and tests of them by name.
 use Rattle.std.specs.Prelude.{ℕ, Bool, true, false, ◌||◌, codes, List, [], ◌∷◌, Option, Some, None, is_some}
 use Rattle.std.specs.Str.{bytes_eq}
 use Rattle.std.specs.List.{find, position_from}
-use Rattle.row_ast.specs.Ast.{Name, everyone}
+use Rattle.value.specs.Names.{Name, everyone}
 use Rattle.memberships.specs.Memberships.{Membership, belongs_by}
 use Rattle.row_objects.specs.Objects.{Role, Table}
 use Rattle.row_objects.specs.Indexes.{any_index}
-pub use Rattle.row_objects.specs.ColumnNames.{column_named, place_of, is_qualified}
+pub use Rattle.row_objects.specs.ColumnNames.{column_named, column_index, is_qualified}
 
--- roles, memberships and tables, each in order of creation, and how many statements were accepted
+-- roles, memberships and tables, each in order of creation, and the number of accepted statements
 pub record Catalog : Type 0 where
   pub roles : List Role
   pub memberships : List Membership
@@ -54,9 +54,9 @@ is_known cat name = bytes_eq name everyone || is_role cat name
 abbrev pub table_named : Name → Catalog → Option Table
 table_named name cat = find (λ t. bytes_eq name t.name) cat.tables
 
--- the place of the table of that name, from 0
-abbrev pub table_place : Name → Catalog → Option ℕ
-table_place name cat = position_from (λ t. bytes_eq name t.name) 0 cat.tables
+-- the index of the table of that name
+abbrev pub table_index : Name → Catalog → Option ℕ
+table_index name cat = position_from (λ t. bytes_eq name t.name) 0 cat.tables
 
 abbrev pub is_table : Catalog → Name → Bool
 is_table cat name = is_some (table_named name cat)

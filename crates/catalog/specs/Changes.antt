@@ -1,8 +1,8 @@
--- What schema statements change.
+-- The changes of schema statements.
 use Rattle.std.specs.Prelude.{◌≡◌, ◌⊎◌, ℕ, ◌+◌, nat_le, Bool, true, false, not, List, ◌∷◌, Result, Ok, Err}
 use Rattle.value.specs.declared.refusal.Refusal.{Refusal}
 use Rattle.value.specs.declared.refusal.Refusal.TheVariants as r
-use Rattle.row_ast.specs.Ast.{Name}
+use Rattle.value.specs.Names.{Name}
 use Rattle.row_ast.specs.Statements.{Statement, CreateRole, GrantRole, RevokeRole, CreateTable, SetOwner, SetRowSecurity, CreateIndex, GrantSelect, RevokeSelect, CreatePolicy, DropPolicy}
 use Rattle.catalog.specs.Catalog.{Catalog, is_role}
 use Rattle.catalog.specs.Checks.{Check, first_refusal, unless}
@@ -62,12 +62,12 @@ changed cat actor statement = unless (first_refusal (
     ∷ (not (is_role cat actor), r.UndefinedObject)
     ∷ checks cat actor statement)) (counted cat (after cat actor statement))
 
--- what a call made of the old is what is due, or memory ran out and nothing changed
+-- the new state and the result of a call are those that are due, or memory ran out and nothing changed
 abbrev pub IsChange : {X : Type 0} → X → X → Result X Refusal → Result (Unit {0}) Refusal → Type 0
 IsChange old new due (Ok u) = due ≡ Ok new
 IsChange old new due (Err why) = (new ≡ old) × ((why ≡ r.OutOfMemory) ⊎ (due ≡ Err why))
 
--- what a call made of the old is what is due
+-- the new state and the result of a call are those that are due
 abbrev pub IsExactChange : {X : Type 0} → X → X → Result X Refusal → Result (Unit {0}) Refusal → Type 0
 IsExactChange old new due (Ok u) = due ≡ Ok new
 IsExactChange old new due (Err why) = (new ≡ old) × (due ≡ Err why)

@@ -1,15 +1,15 @@
--- What the statements share: checks in order, and one table changed.
+-- The shared parts of statements: checks in order, and one table changed.
 use Rattle.std.specs.Prelude.{◌≡◌, ℕ, Bool, nat_le, List, [], ◌∷◌, length, Option, Some, None, Result, Ok, Err, if◌then◌else◌}
 use Rattle.std.specs.Str.{bytes_eq}
 use Rattle.value.specs.declared.refusal.Refusal.{Refusal}
-use Rattle.row_ast.specs.Ast.{Name}
+use Rattle.value.specs.Names.{Name}
 use Rattle.row_objects.specs.Objects.{Table}
 use Rattle.catalog.specs.Catalog.{Catalog}
-pub use Rattle.policy_predicates.specs.Checks.{Check, first_refusal}
+pub use Rattle.catalog.specs.PredicateChecks.{Check, first_refusal}
 
 -- ---- checks
 
--- of what was found; else the other
+-- a function of the thing that was found; else the other
 abbrev pub if_found : {X Y : Type 0} → Y → (X → Y) → Option X → Y
 if_found other f None = other
 if_found other f (Some x) = f x
@@ -18,10 +18,10 @@ if_found other f (Some x) = f x
 abbrev pub is_full : {X : Type 0} → ℕ → List X → Bool
 is_full most xs = nat_le most (length xs)
 
--- the checks found a refusal, or none and the place of the table
+-- the checks found a refusal, or none and the index of the table
 abbrev pub Checked : Result ℕ Refusal → Option Refusal → Option ℕ → Type 0
-Checked (Err why) refusal place = refusal ≡ Some why
-Checked (Ok i) refusal place = (refusal ≡ None) × (place ≡ Some i)
+Checked (Err why) refusal index = refusal ≡ Some why
+Checked (Ok i) refusal index = (refusal ≡ None) × (index ≡ Some i)
 
 -- the catalogue after a statement, unless it is refused
 abbrev pub unless : Option Refusal → Catalog → Result Catalog Refusal

@@ -3,14 +3,15 @@ use Rattle.std.specs.Prelude.{◌≡◌, ◌⊎◌, ℕ, true, not, List, [], �
 use Rattle.std.specs.List.{list_all}
 use Rattle.value.specs.declared.refusal.Refusal.{Refusal}
 use Rattle.value.specs.declared.refusal.Refusal.TheVariants as r
-use Rattle.row_ast.specs.Ast.{Name, CreatePolicy}
+use Rattle.value.specs.Names.{Name}
+use Rattle.row_ast.specs.Ast.{CreatePolicy}
 use Rattle.expr.specs.Bound.{BoundExpr}
 use Rattle.row_objects.specs.Objects.{Table}
 use Rattle.row_objects.specs.Policies.{has_policy, has_policy_room, new_policy}
-use Rattle.scope.specs.declared.fault.NameFault.{NameFault}
+use Rattle.scope.specs.declared.error.BindError.{BindError}
 use Rattle.row_objects.specs.TableChanges.{with_new_policy}
-use Rattle.policy_predicates.specs.PolicyPredicate.{bound_predicate, checks_predicate}
-use Rattle.catalog.specs.Catalog.{Catalog, is_known, owns, table_named, table_place}
+use Rattle.catalog.specs.PolicyPredicate.{bound_predicate, checks_predicate}
+use Rattle.catalog.specs.Catalog.{Catalog, is_known, owns, table_named, table_index}
 use Rattle.catalog.specs.Checks.{Check, if_found, with_table}
 
 -- ---- checks
@@ -22,16 +23,17 @@ checks_create_policy cat actor p = if_found ((true, r.UndefinedTable) ∷ []) (�
     ∷ (has_policy t.policies p.name, r.DuplicateObject)
     ∷ checks_predicate (has_policy_room cat.tables) t p.predicate) (table_named p.table cat)
 
--- the checks of the statement found a refusal, or none, the table with its place, and the bound condition, unless memory ran out
+-- the checks of the statement found a refusal, or none, the index of the table, and the bound condition, unless memory
+-- ran out
 abbrev pub CheckedPolicy : Result (ℕ × BoundExpr) Refusal → Option Refusal → Catalog → CreatePolicy → Type 0
 CheckedPolicy (Err why) refusal cat p = (why ≡ r.OutOfMemory) ⊎ (refusal ≡ Some why)
 CheckedPolicy (Ok found) refusal cat p =
-    (refusal ≡ None) × (table_place p.table cat ≡ Some found.0) × (option_map (λ t. bound_predicate t p.predicate) (table_named p.table cat) ≡ Some (Ok found.1))
+    (refusal ≡ None) × (table_index p.table cat ≡ Some found.0) × (option_map (λ t. bound_predicate t p.predicate) (table_named p.table cat) ≡ Some (Ok found.1))
 
 -- ---- effect
 
--- a condition whose names stand for nothing is refused, and does not come this far
-abbrev pub with_bound : CreatePolicy → Table → Result BoundExpr NameFault → Table
+-- a condition whose names do not resolve is refused, and does not come this far
+abbrev pub with_bound : CreatePolicy → Table → Result BoundExpr BindError → Table
 with_bound p t (Ok e) = with_new_policy (new_policy p e) t
 with_bound p t (Err fault) = t
 

@@ -1,7 +1,7 @@
 -- CREATE ROLE name [SUPERUSER] [BYPASSRLS].
 use Rattle.std.specs.Prelude.{Bool, not, List, [], ◌∷◌, ◌++◌}
 use Rattle.value.specs.declared.refusal.Refusal.TheVariants as r
-use Rattle.row_ast.specs.Ast.{Name}
+use Rattle.value.specs.Names.{Name}
 use Rattle.memberships.specs.Memberships.{most_roles}
 use Rattle.catalog.specs.Catalog.{Catalog, is_known, is_superuser}
 use Rattle.catalog.specs.Checks.{Check, is_full}

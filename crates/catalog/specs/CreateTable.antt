@@ -2,7 +2,7 @@
 use Rattle.std.specs.Prelude.{ℕ, ◌||◌, nat_lt, List, [], ◌∷◌, ◌++◌, length}
 use Rattle.value.specs.Columns.{Column}
 use Rattle.value.specs.declared.refusal.Refusal.TheVariants as r
-use Rattle.row_ast.specs.Ast.{Name}
+use Rattle.value.specs.Names.{Name}
 use Rattle.row_objects.specs.ColumnNames.{has_name_twice}
 use Rattle.row_objects.specs.TableDefs.{new_table}
 use Rattle.catalog.specs.Catalog.{Catalog, is_index, is_table}

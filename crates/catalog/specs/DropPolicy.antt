@@ -1,7 +1,7 @@
 -- DROP POLICY name ON table.
 use Rattle.std.specs.Prelude.{true, not, List, [], ◌∷◌}
 use Rattle.value.specs.declared.refusal.Refusal.TheVariants as r
-use Rattle.row_ast.specs.Ast.{Name}
+use Rattle.value.specs.Names.{Name}
 use Rattle.row_objects.specs.Policies.{has_policy}
 use Rattle.row_objects.specs.TableChanges.{without_policy_named}
 use Rattle.catalog.specs.Catalog.{Catalog, owns, table_named}

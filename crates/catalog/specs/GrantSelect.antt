@@ -3,7 +3,7 @@ use Rattle.std.specs.Prelude.{true, not, List, [], ◌∷◌}
 use Rattle.std.specs.List.{list_all}
 use Rattle.value.specs.declared.refusal.Refusal.TheVariants as r
 use Rattle.row_ast.specs.Ast as ast
-use Rattle.row_ast.specs.Ast.{Name}
+use Rattle.value.specs.Names.{Name}
 use Rattle.row_objects.specs.ColumnNames.{are_columns}
 use Rattle.row_objects.specs.TableChanges.{with_grants_to}
 use Rattle.catalog.specs.Catalog.{Catalog, is_known, owns, table_named}

@@ -1,11 +1,11 @@
--- GRANT twice, and what a REVOKE takes and leaves.
+-- GRANT twice, and the grants that a REVOKE takes and leaves.
 use Rattle.std.specs.Prelude.{◌≡◌, Bool, false, List, [], filter, Option, Some, None, is_none, IsTrue}
 use Rattle.std.specs.Str.{bytes_eq}
 use Rattle.std.specs.List.{list_all, list_any}
 use Rattle.row_ast.specs.Ast as ast
-use Rattle.row_ast.specs.Ast.{Name}
+use Rattle.value.specs.Names.{Name}
 use Rattle.row_ast.specs.Statements.{GrantSelect, RevokeSelect}
-use Rattle.grants.specs.Grants.{Grant, grants_to_all, has_grant}
+use Rattle.row_objects.specs.Grants.{Grant, grants_to_all, has_grant}
 use Rattle.catalog.specs.Catalog.{Catalog, is_table, table_named}
 use Rattle.catalog.specs.Checks.{if_found}
 use Rattle.catalog.specs.Changes.{after}
@@ -16,11 +16,11 @@ use Rattle.catalog.specs.Changes.{after}
 abbrev pub are_granted : Catalog → ast.Grant → Bool
 are_granted cat grant = if_found false (λ t. list_all (has_grant t.grants) (grants_to_all grant.columns grant.roles)) (table_named grant.table cat)
 
--- after a GRANT on a table its roles hold what it grants
+-- after a GRANT on a table its roles hold the granted privileges
 abbrev pub IsGranted : Type 0
 IsGranted = (cat : Catalog) (actor : Name) (grant : ast.Grant) → IsTrue (is_table cat grant.table) → IsTrue (are_granted (after cat actor (GrantSelect grant)) grant)
 
--- granting what is granted already leaves the catalogue as it is
+-- granting them again leaves the catalogue as it is
 abbrev pub GrantedAgain : Type 0
 GrantedAgain = (cat : Catalog) (actor : Name) (grant : ast.Grant) → IsTrue (are_granted cat grant) → after cat actor (GrantSelect grant) ≡ cat
 

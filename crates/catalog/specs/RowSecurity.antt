@@ -1,7 +1,7 @@
 -- ALTER TABLE table ENABLE, DISABLE, FORCE or NO FORCE ROW LEVEL SECURITY.
 use Rattle.std.specs.Prelude.{true, not, List, [], ◌∷◌}
 use Rattle.value.specs.declared.refusal.Refusal.TheVariants as r
-use Rattle.row_ast.specs.Ast.{Name}
+use Rattle.value.specs.Names.{Name}
 use Rattle.row_ast.specs.declared.statement.RowSecurity.{RowSecurity}
 use Rattle.row_objects.specs.TableChanges.{with_row_security}
 use Rattle.catalog.specs.Catalog.{Catalog, owns, table_named}

@@ -1,7 +1,7 @@
 -- Statements one after another.
 use Rattle.std.specs.Prelude.{List, [], ◌∷◌, Result, Ok, Err}
 use Rattle.value.specs.declared.refusal.Refusal.{Refusal}
-use Rattle.row_ast.specs.Ast.{Name}
+use Rattle.value.specs.Names.{Name}
 use Rattle.row_ast.specs.Statements.{Statement}
 use Rattle.catalog.specs.Catalog.{Catalog}
 use Rattle.catalog.specs.Changes.{changed}

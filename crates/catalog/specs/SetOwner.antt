@@ -1,7 +1,7 @@
 -- ALTER TABLE table OWNER TO owner.
 use Rattle.std.specs.Prelude.{true, not, ◌&&◌, ◌||◌, List, [], ◌∷◌}
 use Rattle.value.specs.declared.refusal.Refusal.TheVariants as r
-use Rattle.row_ast.specs.Ast.{Name}
+use Rattle.value.specs.Names.{Name}
 use Rattle.row_objects.specs.TableChanges.{with_owner}
 use Rattle.catalog.specs.Catalog.{Catalog, belongs, is_role, is_superuser, table_named}
 use Rattle.catalog.specs.Checks.{Check, if_found, with_table}

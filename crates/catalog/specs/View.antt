@@ -1,4 +1,4 @@
--- What the catalogue of the program is.
+-- The views of the Rust type of the catalogue as spec data.
 use Rattle.std.specs.Prelude.{map}
 use Rattle.memberships.specs.View.{membership_of}
 use Rattle.row_objects.specs.View.{role_of, table_entry}

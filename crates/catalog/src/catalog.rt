@@ -1,19 +1,19 @@
-//! The sets of the catalogue, and what is found in them.
+//! The sets of the catalogue, and the search in them.
 
 ghost use Rattle.std.specs.Prelude.{◌≡◌, ◌<◌, length, IfOk, IfSome, map, option_map};
 ghost use Rattle.std.specs.List.{list_all};
 ghost use Rattle.row_objects.specs.Policies as policies;
 ghost use Rattle.row_objects.specs.View.{table_of};
-ghost use Rattle.catalog.specs.Catalog.{at_first, belongs, bypasses_rls, is_index, is_known, is_role, is_superuser, is_table, owns, table_named, table_place};
+ghost use Rattle.catalog.specs.Catalog.{at_first, belongs, bypasses_rls, is_index, is_known, is_role, is_superuser, is_table, owns, table_named, table_index};
 
-use memberships::{ByName, Membership, belongs_by};
-use memory::Heap;
+use memberships::{Membership, belongs_by};
+use memory::{Heap, Text};
+use named::ByName;
 use row_objects::{Role, Table, TableDef, any_index, has_policy_room};
 use std::alloc::AllocError;
 use std::marker::Model;
-use text::Text;
 
-/// Roles, memberships and tables, each in order of creation, and how many statements were accepted.
+/// Roles, memberships and tables, each in order of creation, and the number of accepted statements.
 #[derive(Drop)]
 pub struct Catalog<A: Heap> {
     pub(crate) alloc: A,
@@ -34,7 +34,7 @@ impl<A: Heap> Model for Catalog<A> {
     ghost Value = { spec.Catalog };
 
     ghost use Rattle.std.specs.Coded.{codes, coded_ℕ};
-    ghost use Rattle.movable_expr.specs.declared.movable_expr.MovableExpr as movable_expr;
+    ghost use Rattle.predicates.specs.declared.movable_expr.MovableExpr as movable_expr;
 
     ghost coded = { Prim.hlevel (codes, movable_expr.the_code ℕ coded_ℕ) };
 
@@ -68,21 +68,21 @@ impl<A: Heap> Catalog<A> {
         })
     }
 
-    /// How many roles there are.
+    /// The number of roles.
     pub fn roles(&self) -> usize
         ensures { result ≡ length self.now.roles }
     {
         self.roles.len()
     }
 
-    /// How many tables there are.
+    /// The number of tables.
     pub fn tables(&self) -> usize
         ensures { result ≡ length self.now.tables }
     {
         self.tables.len()
     }
 
-    /// How many statements were accepted.
+    /// The number of accepted statements.
     pub fn change_number(&self) -> u64
         ensures { result ≡ self.now.change_number }
     {
@@ -95,14 +95,14 @@ impl<A: Heap> Catalog<A> {
         self.change_number = number;
     }
 
-    /// Whether there is a role of that name.
+    /// True where there is a role of that name.
     pub fn is_role(&self, name: &str) -> bool
         ensures { result ≡ is_role self.now name.now }
     {
         self.roles.get(name).is_some()
     }
 
-    /// Whether the role of that name is a superuser.
+    /// True where the role of that name is a superuser.
     pub fn is_superuser(&self, name: &str) -> bool
         ensures { result ≡ is_superuser self.now name.now }
     {
@@ -112,7 +112,7 @@ impl<A: Heap> Catalog<A> {
         }
     }
 
-    /// Whether the role of that name has BYPASSRLS.
+    /// True where the role of that name has BYPASSRLS.
     pub fn bypasses_rls(&self, name: &str) -> bool
         ensures { result ≡ bypasses_rls self.now name.now }
     {
@@ -122,7 +122,7 @@ impl<A: Heap> Catalog<A> {
         }
     }
 
-    /// Whether r is s, or memberships lead from r to s (PostgreSQL: Role Membership). It takes no memory.
+    /// True where r is s, or memberships lead from r to s (PostgreSQL: Role Membership). It takes no memory.
     pub fn is_member(&self, r: &str, s: &str) -> bool
         ensures { result ≡ belongs self.now r.now s.now }
     {
@@ -139,54 +139,54 @@ impl<A: Heap> Catalog<A> {
         }
     }
 
-    /// The place of the table of that name, from 0, and the table.
-    pub(crate) fn find_table(&self, name: &str) -> Option<(usize, Table<'_, A>)>
-        ensures place { option_map (λ p. p.0) result ≡ table_place name.now self.now }
+    /// The index of the table of that name, and the table.
+    pub fn find_table(&self, name: &str) -> Option<(usize, Table<'_, A>)>
+        ensures index { option_map (λ p. p.0) result ≡ table_index name.now self.now }
         ensures within { IfSome result (λ p. p.0 < length self.now.tables) }
         ensures table { option_map (λ p. table_of p.1) result ≡ table_named name.now self.now }
     {
         match self.tables.get_full(name) {
-            Some((place, name, parts)) => Some((place, Table::new(name, parts))),
+            Some((index, name, parts)) => Some((index, Table::new(name, parts))),
             None => None,
         }
     }
 
-    /// Whether there is a table of that name.
+    /// True where there is a table of that name.
     pub(crate) fn is_table(&self, name: &str) -> bool
         ensures { result ≡ is_table self.now name.now }
     {
         self.table(name).is_some()
     }
 
-    /// Whether one of the tables has an index of that name.
+    /// True where one of the tables has an index of that name.
     pub(crate) fn is_index(&self, name: &str) -> bool
         ensures { result ≡ is_index self.now name.now }
     {
         any_index(&self.tables, name)
     }
 
-    /// Whether one more policy is within the limit of all tables.
+    /// True where one more policy is within the limit of all tables.
     pub(crate) fn has_policy_room(&self) -> bool
         ensures { result ≡ policies.has_policy_room self.now.tables }
     {
         has_policy_room(&self.tables)
     }
 
-    /// Whether a role is a superuser, or belongs to the owner of a table.
+    /// True where a role is a superuser, or belongs to the owner of a table.
     pub(crate) fn owns(&self, actor: &str, table: Table<'_, A>) -> bool
         ensures { result ≡ owns self.now actor.now (table_of table.entry) }
     {
         self.is_superuser(actor) || self.is_member(actor, table.owner())
     }
 
-    /// Whether the name is a role's, or `public`.
+    /// True where the name is a role's, or `public`.
     pub(crate) fn is_known(&self, name: &str) -> bool
         ensures { result ≡ is_known self.now name.now }
     {
         name == "public" || self.is_role(name)
     }
 
-    /// Whether each name is a role's, or `public`.
+    /// True where each name is a role's, or `public`.
     pub(crate) fn are_known(&self, names: &[Text<A>]) -> bool
         ensures { result ≡ list_all (is_known self.now) names.now }
     {

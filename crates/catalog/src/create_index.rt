@@ -3,14 +3,14 @@
 ghost use Rattle.std.specs.Prelude.{◌≡◌, ◌<◌, IfOk, OnErr, OnOk, length};
 ghost use Rattle.row_objects.specs.View.{table_of};
 ghost use Rattle.row_objects.specs.TableChanges.{changed_at, with_index};
-ghost use Rattle.catalog.specs.Catalog.{table_place};
+ghost use Rattle.catalog.specs.Catalog.{table_index};
 ghost use Rattle.catalog.specs.Checks.{first_refusal, unless, Checked};
 ghost use Rattle.catalog.specs.CreateIndex.{after_create_index, checks_create_index, checks_new_index};
 ghost use Rattle.catalog.specs.Changes.{IsChange};
 
 use crate::catalog::Catalog;
 use memory::Heap;
-use row_objects::{Table, add_index, is_indexed, place};
+use row_objects::{Table, add_index, column_index, is_indexed};
 use std::alloc::AllocError;
 use value::Refusal;
 
@@ -40,8 +40,8 @@ fn check_create_index<A: Heap>(
     table: &str,
     column: &str,
 ) -> Result<usize, Refusal>
-    ensures checked { Checked result (first_refusal (checks_create_index catalog.now actor.now name.now table.now column.now)) (table_place table.now catalog.now) }
-    ensures within { IfOk result (λ place. place < length catalog.now.tables) }
+    ensures checked { Checked result (first_refusal (checks_create_index catalog.now actor.now name.now table.now column.now)) (table_index table.now catalog.now) }
+    ensures within { IfOk result (λ index. index < length catalog.now.tables) }
 {
     let Some((found, table)) = catalog.find_table(table) else {
         return Err(Refusal::UndefinedTable);
@@ -49,7 +49,7 @@ fn check_create_index<A: Heap>(
     if !catalog.owns(actor, table) {
         return Err(Refusal::InsufficientPrivilege);
     }
-    let Some(column) = place(table.columns(), column) else {
+    let Some(column) = column_index(table.columns(), column) else {
         return Err(Refusal::UndefinedColumn);
     };
     match check_new_index(catalog, name, table, column) {
@@ -59,12 +59,12 @@ fn check_create_index<A: Heap>(
 }
 
 impl<A: Heap> Catalog<A> {
-    fn add_index_at(&mut self, place: usize, name: &str, column: &str) -> Result<(), AllocError>
-        requires { place < length self.old.tables }
-        ensures done { OnOk result (self.new ≡ record self.old { tables = changed_at place (with_index name.now column.now) self.old.tables }) }
+    fn add_index_at(&mut self, index: usize, name: &str, column: &str) -> Result<(), AllocError>
+        requires { index < length self.old.tables }
+        ensures done { OnOk result (self.new ≡ record self.old { tables = changed_at index (with_index name.now column.now) self.old.tables }) }
         ensures unchanged { OnErr result (self.new ≡ self.old) }
     {
-        add_index(self.alloc, &mut self.tables, place, name, column)
+        add_index(self.alloc, &mut self.tables, index, name, column)
     }
 
     /// Makes an index, if no check refuses it.
@@ -79,7 +79,7 @@ impl<A: Heap> Catalog<A> {
     {
         match check_create_index(self, actor, name, table, column) {
             Err(why) => Err(why),
-            Ok(place) => match self.add_index_at(place, name, column) {
+            Ok(index) => match self.add_index_at(index, name, column) {
                 Ok(()) => Ok(()),
                 Err(_) => Err(Refusal::OutOfMemory),
             },

@@ -9,15 +9,15 @@ ghost use Rattle.catalog.specs.CreatePolicy.{after_create_policy, checks_create_
 ghost use Rattle.catalog.specs.Changes.{IsChange};
 
 use crate::catalog::Catalog;
+use crate::predicate::check_predicate;
 use memory::Heap;
-use movable_expr::MovableExpr;
-use policy_predicates::check_predicate;
+use predicates::MovableExpr;
 use row_ast::CreatePolicy;
 use row_objects::{add_policy, has_policy, new_policy};
 use std::alloc::AllocError;
 use value::Refusal;
 
-// The place of the table, and the bound condition.
+// The index of the table, and the bound condition.
 fn check_create_policy<A: Heap>(
     catalog: &Catalog<A>,
     actor: &str,
@@ -26,7 +26,7 @@ fn check_create_policy<A: Heap>(
     ensures checked { CheckedPolicy result (first_refusal (checks_create_policy catalog.now actor.now (create_policy_of policy.now))) catalog.now (create_policy_of policy.now) }
     ensures within { IfOk result (λ found. found.0 < length catalog.now.tables) }
 {
-    let Some((place, table)) = catalog.find_table(policy.table.as_str()) else {
+    let Some((index, table)) = catalog.find_table(policy.table.as_str()) else {
         return Err(Refusal::UndefinedTable);
     };
     if !catalog.owns(actor, table) {
@@ -39,7 +39,7 @@ fn check_create_policy<A: Heap>(
         let has_room = catalog.has_policy_room();
         match check_predicate(catalog.alloc, has_room, table, &policy.predicate) {
             Err(why) => Err(why),
-            Ok(predicate) => Ok((place, predicate)),
+            Ok(predicate) => Ok((index, predicate)),
         }
     }
 }
@@ -47,17 +47,17 @@ fn check_create_policy<A: Heap>(
 impl<A: Heap> Catalog<A> {
     fn add_policy_at(
         &mut self,
-        place: usize,
+        index: usize,
         policy: &CreatePolicy<A>,
         predicate: MovableExpr<A>,
     ) -> Result<(), AllocError>
-        requires { place < length self.old.tables }
-        ensures done { OnOk result (self.new ≡ record self.old { tables = changed_at place (with_new_policy (made_policy (create_policy_of policy.now) predicate)) self.old.tables }) }
+        requires { index < length self.old.tables }
+        ensures done { OnOk result (self.new ≡ record self.old { tables = changed_at index (with_new_policy (made_policy (create_policy_of policy.now) predicate)) self.old.tables }) }
         ensures unchanged { OnErr result (self.new ≡ self.old) }
     {
         match new_policy(self.alloc, policy, predicate) {
             Err(error) => Err(error),
-            Ok(made) => add_policy(&mut self.tables, place, made),
+            Ok(made) => add_policy(&mut self.tables, index, made),
         }
     }
 
@@ -71,7 +71,7 @@ impl<A: Heap> Catalog<A> {
     {
         match check_create_policy(self, actor, policy) {
             Err(why) => Err(why),
-            Ok((place, predicate)) => match self.add_policy_at(place, policy, predicate) {
+            Ok((index, predicate)) => match self.add_policy_at(index, policy, predicate) {
                 Ok(()) => Ok(()),
                 Err(_) => Err(Refusal::OutOfMemory),
             },

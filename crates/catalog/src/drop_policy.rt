@@ -2,7 +2,7 @@
 
 ghost use Rattle.std.specs.Prelude.{◌≡◌, ◌<◌, IfOk, length};
 ghost use Rattle.row_objects.specs.TableChanges.{changed_at, without_policy_named};
-ghost use Rattle.catalog.specs.Catalog.{table_place};
+ghost use Rattle.catalog.specs.Catalog.{table_index};
 ghost use Rattle.catalog.specs.Checks.{first_refusal, unless, Checked};
 ghost use Rattle.catalog.specs.DropPolicy.{after_drop_policy, checks_drop_policy};
 ghost use Rattle.catalog.specs.Changes.{IsExactChange};
@@ -18,10 +18,10 @@ fn check_drop_policy<A: Heap>(
     name: &str,
     table: &str,
 ) -> Result<usize, Refusal>
-    ensures checked { Checked result (first_refusal (checks_drop_policy catalog.now actor.now name.now table.now)) (table_place table.now catalog.now) }
-    ensures within { IfOk result (λ place. place < length catalog.now.tables) }
+    ensures checked { Checked result (first_refusal (checks_drop_policy catalog.now actor.now name.now table.now)) (table_index table.now catalog.now) }
+    ensures within { IfOk result (λ index. index < length catalog.now.tables) }
 {
-    let Some((place, table)) = catalog.find_table(table) else {
+    let Some((index, table)) = catalog.find_table(table) else {
         return Err(Refusal::UndefinedTable);
     };
     if !catalog.owns(actor, table) {
@@ -29,16 +29,16 @@ fn check_drop_policy<A: Heap>(
     } else if !has_policy(table.policies(), name) {
         Err(Refusal::UndefinedObject)
     } else {
-        Ok(place)
+        Ok(index)
     }
 }
 
 impl<A: Heap> Catalog<A> {
-    fn drop_policy_at(&mut self, place: usize, name: &str)
-        requires { place < length self.old.tables }
-        ensures { self.new ≡ record self.old { tables = changed_at place (without_policy_named name.now) self.old.tables } }
+    fn drop_policy_at(&mut self, index: usize, name: &str)
+        requires { index < length self.old.tables }
+        ensures { self.new ≡ record self.old { tables = changed_at index (without_policy_named name.now) self.old.tables } }
     {
-        drop_policy(self.alloc, &mut self.tables, place, name);
+        drop_policy(self.alloc, &mut self.tables, index, name);
     }
 
     /// Takes a policy from a table, if no check refuses it. It takes no memory.
@@ -52,8 +52,8 @@ impl<A: Heap> Catalog<A> {
     {
         match check_drop_policy(self, actor, name, table) {
             Err(why) => Err(why),
-            Ok(place) => {
-                self.drop_policy_at(place, name);
+            Ok(index) => {
+                self.drop_policy_at(index, name);
                 Ok(())
             }
         }

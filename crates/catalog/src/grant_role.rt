@@ -45,7 +45,7 @@ impl<A: Heap> Catalog<A> {
         add_membership(self.alloc, &mut self.memberships, group, member)
     }
 
-    /// Makes a role a member of a group, if no check refuses it. What is a member already stays as it is.
+    /// Makes a role a member of a group, if no check refuses it. One that is a member already stays so.
     pub(crate) fn grant_role(
         &mut self,
         actor: &str,

@@ -1,19 +1,20 @@
-//! What follows from the definitions.
+//! Laws of schema statements.
 
 ghost use Rattle.std.specs.Prelude.{List};
-ghost use Rattle.row_ast.specs.Ast.{Name};
+ghost use Rattle.value.specs.Names.{Name};
 ghost use Rattle.row_ast.specs.Statements.{Statement};
 ghost use Rattle.memberships.specs.Memberships.{HasNoLoop};
 ghost use Rattle.catalog.specs.Catalog.{at_first};
 ghost use Rattle.catalog.specs.Granted.{GrantedAgain, IsGranted, RevokedColumns, RevokedTable};
 ghost use Rattle.catalog.specs.Run.{run};
+ghost use Rattle.catalog.specs.TableColumns.{KeepsColumns};
 
 /// No catalogue that statements make has a loop of memberships.
 pub fn law_no_loop()
     ensures { (statements : List (Name × Statement)) → HasNoLoop (run statements at_first).memberships }
 {}
 
-/// After a GRANT its roles hold what it grants, and granting what is granted already leaves the catalogue as it is.
+/// After a GRANT its roles hold the granted privileges, and granting them again leaves the catalogue as it is.
 pub fn law_granted_again()
     ensures granted { IsGranted }
     ensures again { GrantedAgain }
@@ -24,4 +25,9 @@ pub fn law_granted_again()
 pub fn law_revoked()
     ensures table { RevokedTable }
     ensures columns { RevokedColumns }
+{}
+
+/// A statement changes no name and no column of a table that is there, and only a CREATE TABLE adds one, at the end.
+pub fn law_tables_keep_their_columns()
+    ensures { KeepsColumns }
 {}

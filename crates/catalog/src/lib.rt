@@ -11,6 +11,7 @@ mod drop_policy;
 mod grant_role;
 mod grant_select;
 mod laws;
+mod predicate;
 mod revoke_role;
 mod revoke_select;
 mod row_security;
@@ -18,6 +19,6 @@ mod set_owner;
 
 pub use catalog::Catalog;
 pub use create_table::{MOST_COLUMNS, MOST_TABLES};
-pub use laws::{law_granted_again, law_no_loop, law_revoked};
+pub use laws::{law_granted_again, law_no_loop, law_revoked, law_tables_keep_their_columns};
 pub use memberships::MOST_ROLES;
-pub use row_objects::{MOST_POLICIES, is_qualified, place};
+pub use row_objects::{MOST_POLICIES, column_index, is_qualified};

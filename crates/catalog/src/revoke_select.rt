@@ -16,11 +16,11 @@ use row_objects::revoke_select;
 use value::Refusal;
 
 impl<A: Heap> Catalog<A> {
-    fn revoke_at(&mut self, place: usize, grant: &Grant<A>)
-        requires { place < length self.old.tables }
-        ensures { self.new ≡ record self.old { tables = changed_at place (without_grants_to (grant_of grant.now)) self.old.tables } }
+    fn revoke_at(&mut self, index: usize, grant: &Grant<A>)
+        requires { index < length self.old.tables }
+        ensures { self.new ≡ record self.old { tables = changed_at index (without_grants_to (grant_of grant.now)) self.old.tables } }
     {
-        revoke_select(self.alloc, &mut self.tables, place, grant);
+        revoke_select(self.alloc, &mut self.tables, index, grant);
     }
 
     /// Revokes SELECT on a table and on each of its columns, or on columns alone, from roles, if no check refuses it. It takes
@@ -30,8 +30,8 @@ impl<A: Heap> Catalog<A> {
     {
         match check_select(self, actor, grant) {
             Err(why) => Err(why),
-            Ok(place) => {
-                self.revoke_at(place, grant);
+            Ok(index) => {
+                self.revoke_at(index, grant);
                 Ok(())
             }
         }

@@ -2,7 +2,7 @@
 
 ghost use Rattle.std.specs.Prelude.{◌≡◌, ◌<◌, IfOk, length};
 ghost use Rattle.row_objects.specs.TableChanges.{changed_at, with_row_security};
-ghost use Rattle.catalog.specs.Catalog.{table_place};
+ghost use Rattle.catalog.specs.Catalog.{table_index};
 ghost use Rattle.catalog.specs.Checks.{first_refusal, unless, Checked};
 ghost use Rattle.catalog.specs.RowSecurity.{after_row_security, checks_row_security};
 ghost use Rattle.catalog.specs.Changes.{IsExactChange};
@@ -18,25 +18,25 @@ fn check_row_security<A: Heap>(
     actor: &str,
     table: &str,
 ) -> Result<usize, Refusal>
-    ensures checked { Checked result (first_refusal (checks_row_security catalog.now actor.now table.now)) (table_place table.now catalog.now) }
-    ensures within { IfOk result (λ place. place < length catalog.now.tables) }
+    ensures checked { Checked result (first_refusal (checks_row_security catalog.now actor.now table.now)) (table_index table.now catalog.now) }
+    ensures within { IfOk result (λ index. index < length catalog.now.tables) }
 {
-    let Some((place, table)) = catalog.find_table(table) else {
+    let Some((index, table)) = catalog.find_table(table) else {
         return Err(Refusal::UndefinedTable);
     };
     if !catalog.owns(actor, table) {
         Err(Refusal::InsufficientPrivilege)
     } else {
-        Ok(place)
+        Ok(index)
     }
 }
 
 impl<A: Heap> Catalog<A> {
-    fn set_row_security_at(&mut self, place: usize, setting: RowSecurity)
-        requires { place < length self.old.tables }
-        ensures { self.new ≡ record self.old { tables = changed_at place (with_row_security setting) self.old.tables } }
+    fn set_row_security_at(&mut self, index: usize, setting: RowSecurity)
+        requires { index < length self.old.tables }
+        ensures { self.new ≡ record self.old { tables = changed_at index (with_row_security setting) self.old.tables } }
     {
-        set_row_security(&mut self.tables, place, setting);
+        set_row_security(&mut self.tables, index, setting);
     }
 
     /// Sets row security, if no check refuses it. It takes no memory.
@@ -50,8 +50,8 @@ impl<A: Heap> Catalog<A> {
     {
         match check_row_security(self, actor, table) {
             Err(why) => Err(why),
-            Ok(place) => {
-                self.set_row_security_at(place, setting);
+            Ok(index) => {
+                self.set_row_security_at(index, setting);
                 Ok(())
             }
         }

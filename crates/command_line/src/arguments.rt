@@ -9,9 +9,9 @@ use std::alloc::{AllocError, Global};
 const VERSION: &str = "0.1.0";
 
 const EXAMPLE: &str =
-    "Example, in crates/rowplan:\n  out/rowplan query --schema ../../examples/deals/schema.sql --dir ../../examples/deals --role alice 'SELECT id FROM deal'\n\nExit status: 0 answer, 2 command line, 3 refused text, 4 denial, 5 fault, 6 schema, rows or unknown role, 7 memory, 8 input or output";
+    "Example, at the top of the repository:\n  rowplan query --schema examples/sales/schema.sql --dir examples/sales --role alice 'SELECT count(*) AS deals FROM deal'\n\nExit status: 0 answer, 2 command line, 3 refused text, 4 denial, 5 fault, 6 schema, rows or unknown role, 7 memory, 8 input or output";
 
-/// Where the text of a query comes from.
+/// The source of the text of a query.
 #[derive(Clone, Copy)]
 pub enum QueryText<'a> {
     /// It is given as a word.
@@ -31,11 +31,11 @@ pub struct QueryArguments<'a> {
     pub role: &'a str,
     /// The query.
     pub text: QueryText<'a>,
-    /// Whether a refusal or a denial is explained on standard error.
+    /// True where the diagnostics of a refusal or a denial go to standard error.
     pub explain_refusal: bool,
 }
 
-/// What a command line asks for.
+/// The request of a command line.
 #[derive(Clone, Copy)]
 pub enum Request<'a> {
     /// The reply to a query.
@@ -121,7 +121,7 @@ fn query_text<'a>(found: &ArgMatches<'a>) -> Option<QueryText<'a>> {
     }
 }
 
-// What is required is there, or memory ran out.
+// The required arguments of a query, or memory ran out.
 fn query_arguments<'a>(found: &ArgMatches<'a>) -> Option<QueryArguments<'a>> {
     let (Some(schema), Some(dir)) = (found.get_str("schema"), found.get_str("dir")) else {
         return None;
@@ -151,7 +151,7 @@ fn is_input_twice(request: &Request<'_>) -> bool {
     }
 }
 
-// What the words ask for, or nothing where memory ran out.
+// The request of the words, or nothing where memory ran out.
 fn request_of<'a>(matches: &ArgMatches<'a>) -> Option<Request<'a>> {
     if let Some(_) = matches.subcommand_matches("codes") {
         return Some(Request::Codes);

@@ -1,13 +1,13 @@
-//! What a command line gives that asks for no request.
+//! The errors of a command line, and its help.
 
 use clap::Error;
 use clap::error::ErrorKind;
 use std::alloc::{AllocError, AllocFailed};
 
-/// Why there is no request.
+/// The result of a command line without a request.
 #[derive(Drop)]
 pub enum CommandLineError {
-    /// The words are no command line; the text says why.
+    /// A usage error, with its text.
     Usage(Error),
     /// Help or the version was asked for, which is the text.
     Help(Error),

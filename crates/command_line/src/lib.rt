@@ -1,4 +1,4 @@
-//! The command line of `rowplan`: what its words ask for, and the help.
+//! The command line of `rowplan`: the request of its words, and the help.
 #![tactic(auto)]
 
 mod arguments;

@@ -12,7 +12,7 @@ use Rattle.csv_records.specs.declared.RecordError.{RecordError}
 use Rattle.csv_records.specs.declared.Records.TheInside.{Inside}
 use Rattle.csv_records.specs.Left.{FirstHasOther, Fits_length, TakesFirst, IsPlain, KeepsFailure, TailIsLeft, records_after}
 
--- what is left after a record is shorter, or the text was at its end
+-- the rest after a record is shorter, or the text was at its end
 abbrev Falls : List ℕ → Option Read → Type 0
 Falls xs None = Unit {0}
 Falls xs (Some p) = (length p.2 < length xs) ⊎ ((p.1 ≡ st.StartRecord) × (p.2 ≡ []))
@@ -66,7 +66,7 @@ records_after-some s xs p e =
     let f : Falls xs (Some p) = rw e at (falls default_config s [] [] xs) in
     rw (add-one, e) (ap (λ rs. p.0 ∷ rs) (after_some xs p f))
 
--- what a read shows of the list
+-- the part of the list that a read shows
 shows_next : (xs ys : List ℕ) (s t : State) (found : Bool) (fields : List (List ℕ)) (o : Option Read) → next_record default_config s [] [] xs ≡ o → NextIs o found fields t ys
     → TakesFirst (Some (records_after s xs)) (Some (records_after t ys)) found fields
 shows_next xs ys s t found fields None e h = rw (records_after-none s xs e) h
@@ -78,7 +78,7 @@ shows_read None after s t found fields h = tt
 shows_read (Some xs) None s t found fields h = absurd h
 shows_read (Some xs) (Some ys) s t found fields h = shows_next xs ys s t found fields _ refl h
 
--- what a read of a plain reader shows
+-- the part of the records that a read of a plain reader shows
 pub gives_record : {R : Type 0} (rem : R → Option (List ℕ)) (a b : Reader R) (found : Bool) (fields : List (List ℕ)) → IsPlain a → ReadRecord rem a b found fields
     → TakesFirst (option_map (records_after a.state) (source_of rem a)) (option_map (records_after b.state) (source_of rem b)) found fields
 gives_record rem a b found fields (config, trims, flexible, ready) r =

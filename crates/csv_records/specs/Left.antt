@@ -9,15 +9,15 @@ use Rattle.csv.specs.declared.reader.Trim.TheVariants as trim
 use Rattle.csv_records.specs.declared.RecordError.{RecordError}
 use Rattle.csv_records.specs.declared.RecordError.TheVariants.{Uneven, Failed}
 use Rattle.memory.specs.declared.failure.Failure.{Failure}
-use Rattle.memory.specs.declared.failure.Failure.TheVariants.{Fault, OutOfMemory}
+use Rattle.memory.specs.declared.failure.Failure.TheVariants.{Error, OutOfMemory}
 use Rattle.csv_records.specs.declared.Records.TheInside.{Inside}
 
 -- the records of a text; a byte order mark at its start is no part of them
 abbrev pub records_of : List ℕ → List (List (List ℕ))
 records_of bytes = records default_config (strip_bom bytes)
 
--- the records that are left, where they are known, the number of fields that each must have, once there was one, how
--- many were given, and why a read failed, if one did
+-- the records that are left, where they are known, the number of fields that each must have, once there was one, the
+-- number of records given, and the failure of a read, if there was one
 pub record Left : Type 0 where
   pub records : Option (List (List (List ℕ)))
   pub expected : Option ℕ
@@ -28,7 +28,7 @@ pub record Left : Type 0 where
 abbrev pub records_after : State → List ℕ → List (List (List ℕ))
 records_after s xs = records_from default_config (length xs + 1) s xs
 
--- what a reader has left
+-- the records that a reader has left
 abbrev pub left_of : {R : Type 0} → (R → Option (List ℕ)) → Inside R → Left
 left_of remaining a = record { records = option_map (records_after a.inner.state) (source_of remaining a.inner); expected = a.expected; given = a.given; failure = a.failure }
 
@@ -40,19 +40,19 @@ IsPlain a = (a.config ≡ default_config) × (a.trim ≡ trim.None) × (a.flexib
 abbrev pub KeepsFailure : {R : Type 0} → Inside R → Type 0
 KeepsFailure a = MatchOption a.failure ((has_failed a.inner ≡ false) × IsPlain a.inner) (λ why. has_failed a.inner ≡ true)
 
--- why a read failed: out of memory, or else the reader underneath
+-- the failure of a read: out of memory, or else the reader underneath
 abbrev pub reason_of : ErrorKind → Failure RecordError
 reason_of kind.OutOfMemory = OutOfMemory
-reason_of (kind.Io e) = Fault Failed
-reason_of (kind.UnequalLengths pos expected len) = Fault Failed
-reason_of (kind.Utf8 pos err) = Fault Failed
-reason_of (kind.Serialize text) = Fault Failed
-reason_of (kind.Deserialize pos err) = Fault Failed
+reason_of (kind.Io e) = Error Failed
+reason_of (kind.UnequalLengths pos expected len) = Error Failed
+reason_of (kind.Utf8 pos err) = Error Failed
+reason_of (kind.Serialize text) = Error Failed
+reason_of (kind.Deserialize pos err) = Error Failed
 
 -- the failure that is kept after an error: a record of another length is none
 abbrev pub failure_after : Failure RecordError → Option (Failure RecordError)
-failure_after (Fault Uneven) = None
-failure_after (Fault Failed) = Some (Fault Failed)
+failure_after (Error Uneven) = None
+failure_after (Error Failed) = Some (Error Failed)
 failure_after OutOfMemory = Some OutOfMemory
 
 -- the number of fields is the expected one, if one is
@@ -70,7 +70,7 @@ abbrev pub TakesNext : Left → Left → Bool → List (List ℕ) → Type 0
 TakesNext old new found fields = TakesFirst old.records new.records found fields
     × (found ≡ true → Fits_length old.expected (length fields) × (new.expected ≡ Some (length fields)))
 
--- how many records were given, after a read that gave one or found none; it stays at the greatest number of 64 bits
+-- the number of records given, after a read that gave one or found none; it stays at the greatest number of 64 bits
 abbrev pub counted : Bool → ℕ → ℕ
 counted found n = if found then min (n + 1) (2 ^ 64 - 1) else n
 

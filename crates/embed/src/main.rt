@@ -1,15 +1,15 @@
 //! A program that embeds the engine; docs/LIBRARY.md goes through it.
 #![tactic(auto)]
 
-use engine::{Store, ask, serve};
-use memory::{Failure, Heap};
+use engine::{ask, serve};
+use memory::{Failure, Heap, Text};
 use output::Output;
 use replies::{Reply, reply_status};
-use setup::{Fault, Folder, open_store, report};
+use setup::{Folder, SetupError, open_store, report};
 use std::alloc::Global;
 use std::io::{Write, writer};
 use std::process::ExitCode;
-use text::Text;
+use store::Store;
 
 // The members of sales may read the deals, and each sees the own alone.
 const SCHEMA: &str = "CREATE ROLE sales; CREATE ROLE alice; CREATE ROLE bob; GRANT sales TO alice;
@@ -20,7 +20,7 @@ CREATE TABLE region (id bigint, name text); GRANT SELECT ON region TO PUBLIC;";
 
 const QUERY: &str = "SELECT d.id, r.name FROM deal d JOIN region r ON d.region = r.id";
 
-/// The texts of the tables, in memory. A reader of any kind may stand in their place.
+/// The texts of the tables, in memory. A reader of any kind may replace them.
 struct Tables;
 
 impl<A: Heap> Folder<A> for Tables {
@@ -28,12 +28,12 @@ impl<A: Heap> Folder<A> for Tables {
 
     ghost path = { λ _ table. table };
 
-    // The text of a table of the schema, or a fault with its name.
-    fn open(&self, alloc: A, table: &str) -> Result<&'static [u8], Failure<Fault<A>>> {
+    // The text of a table of the schema, or an error with its name.
+    fn open(&self, alloc: A, table: &str) -> Result<&'static [u8], Failure<SetupError<A>>> {
         match table {
             "deal" => Ok("id,owner,region\n1,alice,1\n2,alice,2\n3,bob,1\n4,bob,\\N\n".as_bytes()),
             "region" => Ok("id,name\n1,north\n2,south\n".as_bytes()),
-            _ => Err(Failure::Fault(Fault::Input {
+            _ => Err(Failure::Error(SetupError::Input {
                 path: Text::new(alloc, table)?,
             })),
         }
@@ -63,14 +63,14 @@ fn add_deals(rt: &HostRuntime, store: &mut Store<Global>) -> Result<(), u8> {
     match store.load("deal", "id,owner,region\n5,bob,2\n".as_bytes()) {
         Ok(()) => Ok(()),
         Err(Failure::OutOfMemory) => Err(7),
-        Err(Failure::Fault(error)) => match eprintln!(rt; "deal: {error}") {
+        Err(Failure::Error(error)) => match eprintln!(rt; "deal: {error}") {
             Ok(()) => Err(6),
             Err(_) => Err(8),
         },
     }
 }
 
-// Prints which reply it is; `replies::reply_text` is the text that `serve` writes of it.
+// Prints the kind of a reply; `replies::reply_text` is the text that `serve` writes of it.
 fn print_kind(rt: &HostRuntime, reply: &Reply<Global>) -> Result<(), u8> {
     let printed = match reply {
         Reply::Rows { rows, .. } => println!(rt; "{} rows", rows.len()),

@@ -1,4 +1,5 @@
-pub mod Steps
+pub mod Admitted
 pub mod HiddenRows
 pub mod Statuses
-pub mod Admitted
+pub mod Steps
+pub mod Tables

@@ -1,18 +1,18 @@
--- The tables of a world are what the role sees of each entry.
+-- The tables of a world are the rows that the role sees of each entry.
 use Rattle.std.proofs.Common.{◌≡◌, ◌⊎◌, inl, inr, Bool, cond, List, [], ◌∷◌, ◌++◌, map, filter, refl, sym, ap, ap₂, ◌∙◌, append_assoc, append-nil}
 use Rattle.std.proofs.lemmas.List.{map-append}
 use Rattle.value.specs.Datum.{Row}
-use Rattle.row_ast.specs.Ast.{Name}
+use Rattle.value.specs.Names.{Name}
 use Rattle.scope.specs.Entry.{Entry}
 use Rattle.catalog.specs.Catalog.{Catalog}
 use Rattle.access.specs.Access.{sees}
-use Rattle.access.specs.Guards.{Guard, shows}
-use Rattle.operators.specs.World.{GuardedTable, seen_rows}
+use Rattle.tuples.specs.Guards.{Guard, shows}
+use Rattle.tuples.specs.World.{GuardedTable, seen_rows}
 use Rattle.store.specs.Database.{Rows}
 use Rattle.engine.specs.Answer.{seen}
 use Rattle.engine.specs.Guarded.{guarded_tables}
 
--- what is kept by a test is what is kept by one that is the same
+-- tests that are the same keep the same
 filter_same : {X : Type 0} (p q : X → Bool) → ((x : X) → p x ≡ q x) → (xs : List X) → filter p xs ≡ filter q xs
 filter_same p q same [] = refl
 filter_same p q same (x ∷ xs) = ap (λ b. cond b (x ∷ filter p xs) (filter p xs)) (same x) ∙ ap (λ l. cond (q x) (x ∷ l) l) (filter_same p q same xs)
@@ -26,7 +26,7 @@ first_is b c bs cs e = cc
 others_are : (b c : Bool) (bs cs : List Bool) → b ∷ bs ≡ c ∷ cs → bs ≡ cs
 others_are b c bs cs e = cc
 
--- guards that show what the role sees of each entry leave the rows that it sees
+-- guards that show the rows that the role sees of each entry leave those rows
 module _ {E G : Type 0} (entry : E → Entry) (guard : G → Guard) (cat : Catalog) (rows : Rows) (role : Name) where
   pub seen_are : (es : List E) (gs : List G) → ((row : Row) → map (λ g. shows role (guard g) row) gs ≡ map (λ e. sees cat role (entry e).table row) es) →
       map (seen_rows role) (guarded_tables rows (map entry es) (map guard gs)) ≡ seen cat rows role (map entry es)

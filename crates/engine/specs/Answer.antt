@@ -1,10 +1,10 @@
--- What is answered.
-use Rattle.std.specs.Prelude.{ℕ, List, map, Result, Ok, Err}
+-- The reply to a role's text.
+use Rattle.std.specs.Prelude.{◌≡◌, ◌⊎◌, ℕ, List, map, Result, Ok, Err}
 use Rattle.value.specs.Datum.{Row}
 use Rattle.value.specs.declared.faults.Fault.{Fault}
-use Rattle.row_ast.specs.Ast.{Name}
+use Rattle.value.specs.Names.{Name}
 use Rattle.scope.specs.Entry.{Entry}
-use Rattle.scope.specs.BoundQuery.{BoundItem}
+use Rattle.expr.specs.BoundQuery.{BoundItem}
 use Rattle.catalog.specs.Catalog.{Catalog}
 use Rattle.access.specs.Access.{visible}
 use Rattle.resolve.specs.Resolved.{Bound}
@@ -12,7 +12,7 @@ use Rattle.report.specs.Answer.{answer_over}
 use Rattle.replies.specs.Reply as reply
 use Rattle.replies.specs.Reply.{Reply}
 use Rattle.store.specs.Database.{Rows}
-use Rattle.admission.specs.Admission.{admitted}
+use Rattle.analysis.specs.Analysis.{admitted}
 
 -- ---- rows
 
@@ -43,3 +43,7 @@ admitted_reply cat rows role (Ok b) = answer_reply cat rows role b
 -- the reply to a role's text: its refusal or denial, which no row decides, or else the rows or the first fault of its evaluation
 abbrev pub reply_to : Catalog → Rows → Name → List ℕ → Reply
 reply_to cat rows role text = admitted_reply cat rows role (admitted cat role text)
+
+-- it is rows, or the fault of an evaluation
+abbrev pub IsAnswer : Reply → Type 0
+IsAnswer given = ((columns : List Name) × (rows : List Row) × given ≡ reply.Rows columns rows) ⊎ ((fault : Fault) × given ≡ reply.Faulted fault)

@@ -1,8 +1,8 @@
 -- The table of each entry with its guard.
 use Rattle.std.specs.Prelude.{List, [], ◌∷◌}
 use Rattle.scope.specs.Entry.{Entry}
-use Rattle.access.specs.Guards.{Guard}
-use Rattle.operators.specs.World.{GuardedTable}
+use Rattle.tuples.specs.Guards.{Guard}
+use Rattle.tuples.specs.World.{GuardedTable}
 use Rattle.store.specs.Database.{Rows}
 
 abbrev pub guarded_tables : Rows → List Entry → List Guard → List GuardedTable

@@ -1,4 +1,5 @@
 pub mod Answer
-pub mod Serving
-pub mod Hidden
 pub mod Guarded
+pub mod Held
+pub mod Hidden
+pub mod Serving

@@ -1,5 +1,5 @@
--- What is given out.
-use Rattle.std.specs.Prelude.{◌≡◌, ◌⊎◌, ◌<◌, ℕ, List, length, take, Option}
+-- The bytes and the status of a reply that is written.
+use Rattle.std.specs.Prelude.{◌≡◌, ◌⊎◌, ℕ, List, Option}
 use Rattle.std.specs.Io.KnownBytes.{Appends}
 use Rattle.replies.specs.Reply.{Reply, no_memory, reply_status}
 use Rattle.replies.specs.ReplyText.{reply_text}
@@ -11,7 +11,3 @@ IsReply given due = (given ≡ due) ⊎ (given ≡ no_memory)
 -- the text of the reply went out whole, and the status is its
 abbrev pub IsWhole : Option (List ℕ) → Option (List ℕ) → ℕ → Reply → Type 0
 IsWhole before after status due = (status ≡ reply_status due) × Appends before after (reply_text due)
-
--- a beginning of the text went out, and not all of it
-abbrev pub Begins : Option (List ℕ) → Option (List ℕ) → List ℕ → Type 0
-Begins before after text = (n : ℕ) × (n < length text) × Appends before after (take n text)

@@ -1,29 +1,30 @@
 //! Asking.
 
-ghost use Rattle.std.specs.Prelude.{◌≡◌, ℕ, List, Some, IfOk, map};
-ghost use Rattle.row_ast.specs.Ast.{Name};
+ghost use Rattle.std.specs.Prelude.{◌≡◌, ℕ, List, None, Some, IfOk, map};
+ghost use Rattle.value.specs.Names.{Name};
 ghost use Rattle.row_ast.specs.View.{query_of};
-ghost use Rattle.scope.specs.View.{bound_item_of};
+ghost use Rattle.expr.specs.View.{bound_item_of};
+ghost use Rattle.resolve.specs.EntryTables.{AreTables};
 ghost use Rattle.resolve.specs.View.{bound_of};
 ghost use Rattle.catalog.specs.Catalog.{Catalog};
 ghost use Rattle.replies.specs.Reply as report;
 ghost use Rattle.replies.specs.View.{reply_of};
-ghost use Rattle.admission.specs.Admission.{admitted_query, refusal_to};
+ghost use Rattle.analysis.specs.Analysis.{admitted_query, refusal_to};
 ghost use Rattle.store.specs.Database.{Rows, rows_of};
 ghost use Rattle.engine.specs.Answer as spec;
-ghost use Rattle.engine.specs.Answer.{admitted_reply, answer_reply, reply_to};
+ghost use Rattle.engine.specs.Answer.{IsAnswer, admitted_reply, answer_reply, reply_to};
+ghost use Rattle.engine.specs.Held.{HoldsEachTable};
 ghost use Rattle.engine.specs.Serving.{IsReply};
 
 use crate::answer::answer_rows;
-use admission::{admit, read_query};
-use memory::{Failure, Heap};
+use analysis::{admit, read_query};
+use expr::BoundItem;
+use memory::{Failure, Heap, Items, Text};
 use replies::Reply;
 use resolve::Bound;
 use row_ast::Query;
-use scope::BoundItem;
 use std::alloc::AllocError;
 use store::Store;
-use text::{Items, Text};
 use value::Refusal;
 
 fn headings<A: Heap>(alloc: A, items: &[BoundItem<A>]) -> Result<Items<Text<A>, A>, AllocError>
@@ -43,6 +44,7 @@ fn answer_bound<A: Heap>(
     role: &str,
     bound: &Bound<'_, A>,
 ) -> Result<Reply<A>, AllocError>
+    requires { AreTables store.now.catalog (bound_of bound.now).entries }
     ensures { IfOk result (λ reply. reply_of reply ≡ answer_reply store.now.catalog (rows_of store.now) role.now (bound_of bound.now)) }
 {
     match answer_rows(alloc, store, role, bound) {
@@ -50,7 +52,7 @@ fn answer_bound<A: Heap>(
             let headings = headings(alloc, bound.query.items.as_slice())?;
             Ok(Reply::Rows { headings, rows })
         }
-        Err(Failure::Fault(fault)) => Ok(Reply::Faulted { fault }),
+        Err(Failure::Error(fault)) => Ok(Reply::Faulted { fault }),
         Err(Failure::OutOfMemory) => Err(AllocError),
     }
 }
@@ -102,8 +104,14 @@ pub fn ask<A: Heap>(alloc: A, store: &Store<A>, role: &str, text: &str) -> Reply
     }
 }
 
-/// A refusal or denial is the reply, whatever the rows.
-#[tactic(auto, using(crate::proofs::Admitted::refusal_is_reply))]
+/// A refusal or denial is the reply, whatever the rows; without one the reply is rows or a fault.
 pub fn law_refusals_read_no_row()
-    ensures { (catalog : Catalog) (rows : Rows) (role : Name) (text : List ℕ) (reply : report.Reply) → refusal_to catalog role text ≡ Some reply → reply_to catalog rows role text ≡ reply }
+    ensures refused { (catalog : Catalog) (rows : Rows) (role : Name) (text : List ℕ) (reply : report.Reply) → refusal_to catalog role text ≡ Some reply → reply_to catalog rows role text ≡ reply }
+    ensures otherwise { (catalog : Catalog) (rows : Rows) (role : Name) (text : List ℕ) → refusal_to catalog role text ≡ None → IsAnswer (reply_to catalog rows role text) }
+{}
+
+/// Each table of a query that is answered has its contents in the store, with the columns of the catalogue: that a table is
+/// missing, whose rows would be none, never comes up.
+pub fn law_each_table_is_held()
+    ensures { HoldsEachTable }
 {}

@@ -16,7 +16,7 @@ mod answer;
 mod asking;
 mod writing;
 
-pub use admission::refusal;
-pub use asking::{ask, law_refusals_read_no_row};
+pub use analysis::refusal;
+pub use asking::{ask, law_each_table_is_held, law_refusals_read_no_row};
 pub use store::{Store, StoreError};
 pub use writing::{law_hidden_rows, serve};

@@ -2,14 +2,14 @@
 
 ghost use Rattle.std.specs.Prelude.{◌≡◌, ◌≢◌, ◌⊎◌, ◌<◌, ℕ, List};
 ghost use Rattle.std.specs.Io.KnownBytes.{Appends};
-ghost use Rattle.output.specs.Taken.{one_more};
-ghost use Rattle.row_ast.specs.Ast.{Name};
+ghost use Rattle.output.specs.Taken.{Begins, one_more};
+ghost use Rattle.value.specs.Names.{Name};
 ghost use Rattle.catalog.specs.Catalog.{Catalog};
 ghost use Rattle.replies.specs.Reply.{no_memory};
 ghost use Rattle.replies.specs.ReplyText.{reply_text};
 ghost use Rattle.store.specs.Database.{Rows, rows_of};
 ghost use Rattle.engine.specs.Answer.{reply_to};
-ghost use Rattle.engine.specs.Serving.{IsWhole, Begins};
+ghost use Rattle.engine.specs.Serving.{IsWhole};
 ghost use Rattle.engine.specs.Hidden.{SeesSame};
 
 use crate::asking::ask;

@@ -1,6 +1,7 @@
--- How conditions that are known continue to all of them.
+-- The steps from the conditions that are known to all of them.
 use Rattle.std.proofs.Common.{◌≡◌, ◌≢◌, ℕ, ◌<◌, ◌≤◌, ◌+◌, List, length, get_or, drop, Option, Some, None, Result, Ok, Err, IsOk, IsErrAnd, Vec, Box, true, refl, sym, ap, ◌∙◌, rules, arith}
 use Rattle.std.proofs.lemmas.Grind.{common_steps}
+use Rattle.memory.proofs.Cases.{exits}
 use denote.Enum.Bare.{sameb, same_true}
 use Rattle.memory.specs.declared.failure.Failure.{Failure}
 use Rattle.memory.specs.declared.failure.Failure.TheVariants as failure
@@ -49,7 +50,7 @@ module _ (cells : Cells) (role : List ℕ) {A : Type 0} (es : List (BoundExpr A)
 
     module _ (e : BoundExpr A) (more : k < length es) (is : e ≡ get_or es k e) where
       pub and_fails : (f : Failure Fault) → IsFailure f (condition (meaning cells role (bound_expr_of e))) → IsFailure f (conjunction cells role (bound_exprs es))
-      and_fails (failure.Fault f) h = sym so_far ∙ ap (λ x. with_least known (conjunction cells role x)) (exprs_step es k e more is) ∙ ap (λ x. with_least known (unless_false x (conjunction cells role (bound_exprs (drop (k + 1) es))))) h
+      and_fails (failure.Error f) h = sym so_far ∙ ap (λ x. with_least known (conjunction cells role x)) (exprs_step es k e more is) ∙ ap (λ x. with_least known (unless_false x (conjunction cells role (bound_exprs (drop (k + 1) es))))) h
       and_fails failure.OutOfMemory h = tt
 
       pub and_ends : (t new : Truth) → condition (meaning cells role (bound_expr_of e)) ≡ Ok t → new ≡ least known t → known ≢ False → new ≡ False → conjunction cells role (bound_exprs es) ≡ Ok False
@@ -64,7 +65,7 @@ module _ (cells : Cells) (role : List ℕ) {A : Type 0} (es : List (BoundExpr A)
 
     module _ (e : BoundExpr A) (more : k < length es) (is : e ≡ get_or es k e) where
       pub or_fails : (f : Failure Fault) → IsFailure f (condition (meaning cells role (bound_expr_of e))) → IsFailure f (disjunction cells role (bound_exprs es))
-      or_fails (failure.Fault f) h = sym so_far ∙ ap (λ x. with_greatest known (disjunction cells role x)) (exprs_step es k e more is) ∙ ap (λ x. with_greatest known (unless_true x (disjunction cells role (bound_exprs (drop (k + 1) es))))) h
+      or_fails (failure.Error f) h = sym so_far ∙ ap (λ x. with_greatest known (disjunction cells role x)) (exprs_step es k e more is) ∙ ap (λ x. with_greatest known (unless_true x (disjunction cells role (bound_exprs (drop (k + 1) es))))) h
       or_fails failure.OutOfMemory h = tt
 
       pub or_ends : (t new : Truth) → condition (meaning cells role (bound_expr_of e)) ≡ Ok t → new ≡ greatest known t → known ≢ True → new ≡ True → disjunction cells role (bound_exprs es) ≡ Ok True
@@ -84,7 +85,7 @@ module _ (cells : Cells) (role : List ℕ) {A : Type 0} (as_ : List (BoundArm A)
     case_at = sym so_far ∙ ap (λ x. chosen cells role x rest) (arms_step as_ k a more is)
 
     pub when_fails : (f : Failure Fault) → IsFailure f (condition (meaning cells role (bound_expr_of a.when))) → IsFailure f (chosen cells role (bound_arms as_) rest)
-    when_fails (failure.Fault f) h = case_at ∙ ap (λ x. when_true x (meaning cells role (bound_expr_of a.result)) (chosen cells role (bound_arms (drop (k + 1) as_)) rest)) h
+    when_fails (failure.Error f) h = case_at ∙ ap (λ x. when_true x (meaning cells role (bound_expr_of a.result)) (chosen cells role (bound_arms (drop (k + 1) as_)) rest)) h
     when_fails failure.OutOfMemory h = tt
 
     pub case_gives : (t : Truth) → condition (meaning cells role (bound_expr_of a.when)) ≡ Ok t → t ≡ True → chosen cells role (bound_arms as_) rest ≡ meaning cells role (bound_expr_of a.result)
@@ -106,12 +107,8 @@ module _ (cells : Cells) (role : List ℕ) {A : Type 0} (o : Option (Box (BoundE
   pub else_null : o ≡ None → otherwise cells role (otherwise_of o) ≡ Ok null
   else_null n = ap (λ p. otherwise cells role (otherwise_of p)) n
 
--- ---- what `?` returns
-
-pub exits : {X Y : Type 0} (view : X → Y) (r : Result X (Failure Fault)) (f : Failure Fault) (m : Result Y Fault) → IsErrAnd r (λ e. e ≡ f) → IsFailure f m → Gives view r m
-exits view (Ok x) f m is h = absurd is
-exits view (Err e) f m is h = rw is h
+-- ---- the result of `?`
 
 pub never_fails : (f : Failure Fault) (m : Outcome) → IsFailure f m → IsOk m → f ≢ failure.OutOfMemory → ⊥
-never_fails (failure.Fault x) m h ok n = absurd (cc)
+never_fails (failure.Error x) m h ok n = absurd (cc)
 never_fails failure.OutOfMemory m h ok n = n refl

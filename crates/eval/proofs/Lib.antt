@@ -1,7 +1,9 @@
-pub mod Conditions
-pub mod Movables
-pub mod Faultless
-pub mod Members
+pub mod AggregateAgreement
 pub mod Agreement
-pub mod Operands
+pub mod Conditions
+pub mod Faultless
 pub mod Measures
+pub mod Members
+pub mod Memory
+pub mod Movables
+pub mod Operands

@@ -1,4 +1,4 @@
--- How IN continues over its values.
+-- The steps of IN over its values.
 use Rattle.std.proofs.Common.{◌≡◌, ℕ, suc, ◌+◌, ◌<◌, ◌≤◌, List, [], length, get_or, drop, drop-cons, map, refl, sym, ap, ◌∙◌, arith}
 use Rattle.std.proofs.Math.ListN.{drop_of_length-le}
 use Rattle.value.specs.declared.order.Truth.{Truth}

@@ -1,3 +1,4 @@
-pub mod Operators
-pub mod Meaning
 pub mod Laws
+pub mod Meaning
+pub mod Memory
+pub mod Operators

@@ -17,12 +17,13 @@ use Rattle.expr.specs.declared.bound.ColumnId.{ColumnId}
 use Rattle.expr.specs.Bound.{BoundExpr, Column, Literal, CurrentUser, Negate, Arithmetic, Comparison, Between, In, IsNull, Not, And, Or, Cast, Case, CountStar, Call, BoundExprs, no_expr, one_expr, BoundArms, no_arm, one_arm, BoundOtherwise, Nothing, Value}
 use Rattle.eval.specs.Operators.{arithmetic_of, comparison_of, between_of, in_of, null_test, negated_if}
 
--- what an expression reads: the cell in a column, and the value of the aggregate whose name starts at an offset of the text
+-- the values that an expression reads: the cell in a column, and the value of the aggregate whose name is at an offset
+-- of the text
 pub record Cells : Type 0 where
   pub column : ColumnId → Datum
   pub aggregate : ℕ → Datum
 
--- a row has no aggregates, and no expression that is evaluated on one has; so null is never in place of one
+-- a row has no aggregates, and no expression that is evaluated on one has; so null never replaces one
 abbrev pub no_aggregate : ℕ → Datum
 no_aggregate offset = null
 
@@ -30,7 +31,7 @@ no_aggregate offset = null
 abbrev pub Outcome : Type 0
 Outcome = Result Datum Fault
 
--- the first fault, or what the value leads to
+-- the first fault, or the next outcome by the value
 infixl 10 ◌>>=◌
 abbrev pub ◌>>=◌ : {A B : Type 0} → Result A Fault → (A → Result B Fault) → Result B Fault
 (Ok x) >>= f = f x

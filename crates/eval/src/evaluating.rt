@@ -4,9 +4,10 @@ ghost use Rattle.std.specs.Prelude.{◌≡◌, ◌≢◌, Err, true};
 ghost use Rattle.memory.specs.Gives.{Gives};
 ghost use Rattle.value.specs.Datum.{datum_of};
 ghost use Rattle.expr.specs.View.{bound_arms, bound_expr_of, bound_exprs, otherwise_of};
-ghost use Rattle.expr.specs.Movable.{movable, all_movable, arms_movable, otherwise_movable};
+ghost use Rattle.expr.specs.Movable.{movable};
 ghost use Rattle.eval.specs.Meaning as spec;
 ghost use Rattle.eval.specs.Meaning.{meaning};
+ghost use Rattle.eval.specs.Memory.{takes_no_memory, all_take_no_memory, arms_take_no_memory, otherwise_takes_no_memory};
 
 use crate::outcomes::{
     arithmetic, as_value, between, cast_at, comparison, condition, logical_not, membership,
@@ -25,6 +26,7 @@ struct Role<'a> {
 }
 
 /// The value on a row or on a group, for a role, or the first fault from left to right.
+#[tactic(auto, using(crate::proofs::Movables::takes_none))]
 pub fn eval<'a, A: Heap, R: Row<A>>(
     alloc: A,
     expression: &'a BoundExpr<A>,
@@ -32,7 +34,9 @@ pub fn eval<'a, A: Heap, R: Row<A>>(
     role: &'a str,
 ) -> Result<Val<'a, A>, Failure<Fault>>
     ensures value { Gives datum_of result (meaning (R.cells row.now) role.now (bound_expr_of expression.now)) }
-    // Only a cast takes memory, and a cast is not movable.
+    // Only a cast to text takes memory.
+    ensures exact { takes_no_memory (bound_expr_of expression.now) ≡ true → result ≢ Err Failure.OutOfMemory }
+    // A cast is not movable.
     ensures memory { movable (bound_expr_of expression.now) ≡ true → result ≢ Err Failure.OutOfMemory }
 {
     evaluate(alloc, expression, row, &Role { name: role })
@@ -47,7 +51,7 @@ fn evaluate<'a, A: Heap, R: Row<A>>(
     role: &Role<'a>,
 ) -> Result<Val<'a, A>, Failure<Fault>>
     ensures value { Gives datum_of result (meaning (R.cells row.now) role.now.name.now (bound_expr_of expression.now)) }
-    ensures memory { movable (bound_expr_of expression.now) ≡ true → result ≢ Err Failure.OutOfMemory }
+    ensures memory { takes_no_memory (bound_expr_of expression.now) ≡ true → result ≢ Err Failure.OutOfMemory }
 {
     match expression {
         BoundExpr::Column(id) => Ok(row.cell(*id)),
@@ -131,7 +135,7 @@ fn conjunction<A: Heap, R: Row<A>>(
     role: &Role<'_>,
 ) -> Result<Truth, Failure<Fault>>
     ensures value { Gives (λ t. t) result (spec.conjunction (R.cells row.now) role.now.name.now (bound_exprs members.now)) }
-    ensures memory { all_movable (bound_exprs members.now) ≡ true → result ≢ Err Failure.OutOfMemory }
+    ensures memory { all_take_no_memory (bound_exprs members.now) ≡ true → result ≢ Err Failure.OutOfMemory }
 {
     let mut known = Truth::True;
     for member in members {
@@ -152,7 +156,7 @@ fn disjunction<A: Heap, R: Row<A>>(
     role: &Role<'_>,
 ) -> Result<Truth, Failure<Fault>>
     ensures value { Gives (λ t. t) result (spec.disjunction (R.cells row.now) role.now.name.now (bound_exprs members.now)) }
-    ensures memory { all_movable (bound_exprs members.now) ≡ true → result ≢ Err Failure.OutOfMemory }
+    ensures memory { all_take_no_memory (bound_exprs members.now) ≡ true → result ≢ Err Failure.OutOfMemory }
 {
     let mut known = Truth::False;
     for member in members {
@@ -174,7 +178,7 @@ fn chosen<'a, A: Heap, R: Row<A>>(
     role: &Role<'a>,
 ) -> Result<Val<'a, A>, Failure<Fault>>
     ensures value { Gives datum_of result (spec.chosen (R.cells row.now) role.now.name.now (bound_arms arms.now) (spec.otherwise (R.cells row.now) role.now.name.now (otherwise_of otherwise.now))) }
-    ensures memory { arms_movable (bound_arms arms.now) ≡ true → otherwise_movable (otherwise_of otherwise.now) ≡ true → result ≢ Err Failure.OutOfMemory }
+    ensures memory { arms_take_no_memory (bound_arms arms.now) ≡ true → otherwise_takes_no_memory (otherwise_of otherwise.now) ≡ true → result ≢ Err Failure.OutOfMemory }
 {
     for arm in arms {
         if condition(evaluate(alloc, &arm.when, row, role))? == Truth::True {

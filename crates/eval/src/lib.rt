@@ -9,6 +9,6 @@ mod outcomes;
 mod row;
 
 pub use evaluating::eval;
-pub use laws::{law_movable_never_faults, law_reads_its_columns};
+pub use laws::{law_movable_never_faults, law_reads_its_aggregates, law_reads_its_columns};
 pub use movable::{eval_movable, is_true_on};
 pub use row::Row;

@@ -28,14 +28,14 @@ pub fn eval_movable<'a, A: Heap, R: Row<A>>(
     }
 }
 
-// Whether a value is true: neither false nor null.
+// True for a value that is true: neither false nor null.
 fn is_true<A: Heap>(value: &Val<'_, A>) -> bool
     ensures { result ≡ is_true_outcome (Ok (datum_of value.now)) }
 {
     as_condition(value) == Truth::True
 }
 
-/// Whether a movable expression is true on a row, for a role: neither false nor null.
+/// True where a movable expression is true on a row, for a role: neither false nor null.
 pub fn is_true_on<A: Heap, R: Row<A>>(
     alloc: A,
     expression: &BoundExpr<A>,

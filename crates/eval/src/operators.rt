@@ -60,7 +60,7 @@ fn equals<A: Heap>(value: &Val<'_, A>, member: &Value<A>) -> Truth
     eq3(value, &member.as_val())
 }
 
-/// Whether a value is among some: the OR of the equalities.
+/// Membership of a value among some: the OR of the equalities.
 pub(crate) fn is_in<A: Heap>(value: &Val<'_, A>, members: &[Value<A>]) -> Truth
     ensures { result ≡ in_of (datum_of value.now) (map datum members.now) }
 {

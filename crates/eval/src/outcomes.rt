@@ -20,11 +20,12 @@ fn located<'a, A: Heap>(
     offset: u32,
     outcome: Result<Val<'a, A>, FaultKind>,
 ) -> Result<Val<'a, A>, Failure<Fault>>
-    ensures { Gives datum_of result (at_offset offset (datums_of outcome.entry)) }
+    ensures value { Gives datum_of result (at_offset offset (datums_of outcome.entry)) }
+    ensures memory { result ≢ Err Failure.OutOfMemory }
 {
     match outcome {
         Ok(value) => Ok(value),
-        Err(kind) => Err(Failure::Fault(Fault { offset, kind })),
+        Err(kind) => Err(Failure::Error(Fault { offset, kind })),
     }
 }
 
@@ -33,7 +34,8 @@ pub(crate) fn negation<'a, A: Heap>(
     offset: u32,
     operand: Result<Val<'a, A>, Failure<Fault>>,
 ) -> Result<Val<'a, A>, Failure<Fault>>
-    ensures { (m : Outcome) → Gives datum_of operand.entry m → Gives datum_of result (spec.negation offset m) }
+    ensures value { (m : Outcome) → Gives datum_of operand.entry m → Gives datum_of result (spec.negation offset m) }
+    ensures memory { operand.entry ≢ Err Failure.OutOfMemory → result ≢ Err Failure.OutOfMemory }
 {
     match operand {
         Ok(x) => located(offset, neg(&x)),
@@ -48,7 +50,8 @@ pub(crate) fn arithmetic<'a, A: Heap>(
     left: Val<'a, A>,
     right: Result<Val<'a, A>, Failure<Fault>>,
 ) -> Result<Val<'a, A>, Failure<Fault>>
-    ensures { (m : Outcome) → Gives datum_of right.entry m → Gives datum_of result (spec.arithmetic operator offset (Ok (datum_of left.entry)) m) }
+    ensures value { (m : Outcome) → Gives datum_of right.entry m → Gives datum_of result (spec.arithmetic operator offset (Ok (datum_of left.entry)) m) }
+    ensures memory { right.entry ≢ Err Failure.OutOfMemory → result ≢ Err Failure.OutOfMemory }
 {
     match right {
         Ok(y) => located(offset, operate(operator, &left, &y)),
@@ -136,12 +139,13 @@ pub(crate) fn cast_at<'a, A: Heap>(
     offset: u32,
     operand: Result<Val<'a, A>, Failure<Fault>>,
 ) -> Result<Val<'a, A>, Failure<Fault>>
-    ensures { (m : Outcome) → Gives datum_of operand.entry m → Gives datum_of result (spec.cast_at to offset m) }
+    ensures value { (m : Outcome) → Gives datum_of operand.entry m → Gives datum_of result (spec.cast_at to offset m) }
+    ensures memory { to ≢ ColType.Text → operand.entry ≢ Err Failure.OutOfMemory → result ≢ Err Failure.OutOfMemory }
 {
     match operand {
         Ok(x) => match cast(alloc, to, x) {
             Ok(value) => Ok(value),
-            Err(Failure::Fault(kind)) => Err(Failure::Fault(Fault { offset, kind })),
+            Err(Failure::Error(kind)) => Err(Failure::Error(Fault { offset, kind })),
             Err(Failure::OutOfMemory) => Err(Failure::OutOfMemory),
         },
         Err(failure) => Err(failure),

@@ -1,4 +1,4 @@
-//! What expressions read.
+//! The rows and groups that expressions read.
 
 ghost use Rattle.std.specs.Prelude.{◌≡◌};
 ghost use Rattle.value.specs.Datum.{datum_of};
@@ -8,7 +8,7 @@ use expr::ColumnId;
 use memory::Heap;
 use value::Val;
 
-/// What an expression is evaluated on: a row of each entry of FROM, or a group of them.
+/// A row that an expression is evaluated on: a row of each entry of FROM, or a group of them.
 pub trait Row<A: Heap> {
     ghost cells: { Self → Cells };
 
@@ -16,7 +16,7 @@ pub trait Row<A: Heap> {
     fn cell(&self, id: ColumnId) -> Val<'_, A>
         ensures { datum_of result ≡ (cells self.now).column id };
 
-    /// The value of the aggregate whose name starts at this byte of the text; null on a row, which has none.
+    /// The value of the aggregate whose name is at this offset; null on a row, which has none.
     fn aggregate(&self, offset: u32) -> Val<'_, A>
         ensures { datum_of result ≡ (cells self.now).aggregate offset };
 }

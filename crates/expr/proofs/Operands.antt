@@ -1,4 +1,4 @@
--- What a node with operands is, and that its operands are lighter.
+-- The views of nodes with operands, and that their operands are lighter.
 use Rattle.std.proofs.Common.{◌≡◌, ℕ, suc, ◌+◌, ◌<◌, Bool, List, map, Box, sym, ap, ◌∙◌, arith}
 use Rattle.value.specs.Datum.{datum}
 use Rattle.value.specs.declared.types.Value.{Value}

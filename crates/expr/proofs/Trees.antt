@@ -1,4 +1,4 @@
--- What bound trees with lists of children are.
+-- The views of bound trees with lists of children.
 use Rattle.std.proofs.Common.{◌≡◌, ◌∙◌, ap, refl, Vec}
 use Rattle.expr.specs.Bound as bound
 use Rattle.expr.specs.View.{bound_expr_of, row_exprs, row_arms, bound_exprs, bound_arms}

@@ -1,4 +1,4 @@
--- How a walk over the members of an expression continues.
+-- The steps of a walk over the members of an expression.
 use Rattle.std.proofs.Common.{◌≡◌, Bool, true, false, ◌&&◌, ℕ, suc, ◌+◌, ◌<◌, ◌≤◌, List, [], ◌∷◌, ◌++◌, append_assoc, append-nil, length, map, get_or, drop, drop-cons, Option, Some, None, Vec, Box, refl, sym, ap, ◌∙◌, arith}
 use Rattle.std.proofs.Math.ListN.{drop_of_length-le}
 use Rattle.std.proofs.lemmas.List.{map-append}
@@ -9,7 +9,7 @@ use Rattle.expr.specs.declared.bound.BoundArm.{BoundArm}
 use Rattle.expr.proofs.Trees.{bound_exprs_hidden, bound_arms_hidden}
 use Rattle.expr.specs.Weights.{weight, all_weight, arms_weight}
 
--- ---- what a node with members is
+-- ---- the views of nodes with members
 
 module _ {A : Type 0} (e : BoundExpr A) (offset : ℕ) where
   module _ (v : Vec (BoundExpr A) A) (es : List (BoundExpr A)) (d : es ≡ v.items) where
@@ -76,10 +76,10 @@ module _ {A : Type 0} (as_ : List (BoundArm A)) (k : ℕ) where
     pub arms_still : arms_weight (bound_arms (drop k as_)) ≤ arms_weight (bound_arms as_) → arms_weight (bound_arms (drop (k + 1) as_)) ≤ arms_weight (bound_arms as_)
     arms_still h = let s = ap arms_weight arms_step in omega arith
 
--- ---- what parts an expression has, in written order, after those that are known
+-- ---- the parts of an expression, in written order, after those that are known
 
 module _ {X : Type 0} (of : bound.BoundExpr → List X) (of_all : bound.BoundExprs → List X) (of_arms : bound.BoundArms → List X) where
-  -- how the parts of members and of arms are those of each
+  -- the parts of members and of arms are those of each
   pub record Gathers : Type 0 where
     pub none : of_all bound.no_expr ≡ []
     pub one : (e : bound.BoundExpr) (es : bound.BoundExprs) → of_all (bound.one_expr e es) ≡ of e ++ of_all es

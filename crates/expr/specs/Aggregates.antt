@@ -4,7 +4,7 @@ use Rattle.value.specs.declared.operators.Aggregate.{Aggregate}
 use Rattle.value.specs.declared.operators.Aggregate.TheVariants.{Count}
 use Rattle.expr.specs.Bound.{BoundExpr, Column, Literal, CurrentUser, Negate, Arithmetic, Comparison, Between, In, IsNull, Not, And, Or, Cast, Case, CountStar, Call, BoundExprs, no_expr, one_expr, BoundArms, no_arm, one_arm, BoundOtherwise, Nothing, Value}
 
--- an aggregate as it is written, and where its name starts; count(*) has no argument
+-- an aggregate as it is written, and the offset of its name; count(*) has no argument
 pub record AggregateCall : Type 0 where
   pub aggregate : Aggregate
   pub offset : ℕ

@@ -1,4 +1,4 @@
--- Expressions whose columns are found, without their place in memory: those of the text in all else.
+-- Expressions whose columns are found, as spec data: those of the text in all else.
 use Rattle.std.specs.Prelude.{ℕ, nat_eq, Bool, ◌&&◌, List, [], ◌∷◌}
 use Rattle.value.specs.Datum.{Datum}
 use Rattle.value.specs.declared.types.ColType.{ColType}

@@ -1,7 +1,10 @@
+pub mod Aggregates
 pub mod Bound
+pub mod BoundQuery
+pub mod Coding
+pub mod Columns
+pub mod Conjuncts
+pub mod Movable
+pub mod NamedColumns
 pub mod View
 pub mod Weights
-pub mod Columns
-pub mod Movable
-pub mod Code
-pub mod Aggregates

@@ -1,4 +1,4 @@
--- What the bound trees of the program are.
+-- The views of the Rust types of bound trees as spec data.
 use Rattle.std.specs.Prelude.{List, Option, Some, None, Box, map, option_map}
 use Rattle.value.specs.Datum.{datum}
 use Rattle.expr.specs.Bound as bound
@@ -6,6 +6,9 @@ use Rattle.expr.specs.declared.bound.BoundExpr.{BoundExpr, Column, Literal, Curr
 use Rattle.expr.specs.declared.bound.BoundArm.{BoundArm}
 use Rattle.expr.specs.declared.aggregates.AggregateCall as call
 use Rattle.expr.specs.Aggregates.{AggregateCall}
+use Rattle.expr.specs.declared.query.BoundItem as item
+use Rattle.expr.specs.declared.query.BoundQuery as query
+use Rattle.expr.specs.BoundQuery.{BoundItem, BoundQuery}
 
 abbrev mutual
   pub bound_expr_of : {A : Type 0} → BoundExpr A → bound.BoundExpr
@@ -57,3 +60,18 @@ aggregate_call_of c = record { aggregate = c.aggregate; offset = c.offset; argum
 
 abbrev pub aggregate_calls_of : {A : Type 0} → List (call.AggregateCall A) → List AggregateCall
 aggregate_calls_of calls = map (λ c. aggregate_call_of c) calls
+
+abbrev pub bound_item_of : {A : Type 0} → item.BoundItem A → BoundItem
+bound_item_of i = record { heading = i.heading; value = bound_expr_of i.value.value }
+
+abbrev pub bound_query_of : {A : Type 0} → query.BoundQuery A → BoundQuery
+bound_query_of q = record {
+  items = map bound_item_of q.items;
+  ons = map (λ o. option_map (λ b. bound_expr_of b.value) o) q.ons;
+  filter = option_map (λ b. bound_expr_of b.value) q.filter;
+  group_by = q.group_by;
+  having = option_map (λ b. bound_expr_of b.value) q.having;
+  is_grouped = q.is_grouped;
+  order_by = q.order_by;
+  limit = q.limit;
+}

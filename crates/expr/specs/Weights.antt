@@ -1,4 +1,4 @@
--- How large an expression is: each part of it is lighter.
+-- The size of an expression: each part of it is lighter.
 use Rattle.std.specs.Prelude.{ℕ, suc, ◌+◌}
 use Rattle.expr.specs.Bound.{BoundExpr, Column, Literal, CurrentUser, Negate, Arithmetic, Comparison, Between, In, IsNull, Not, And, Or, Cast, Case, CountStar, Call, BoundExprs, no_expr, one_expr, BoundArms, no_arm, one_arm, BoundOtherwise, Nothing, Value}
 

@@ -5,19 +5,18 @@ ghost use Rattle.expr.specs.View.{aggregate_calls_of, bound_arms, bound_expr_of,
 ghost use Rattle.expr.specs.Aggregates.{aggregates, all_aggregates, arms_aggregates};
 
 use crate::bound::{BoundArm, BoundExpr};
-use memory::Heap;
+use memory::{Heap, Items};
 use std::alloc::AllocError;
-use text::Items;
 use value::Aggregate;
 
 /// An aggregate as it is written.
 #[derive(Clone, Copy)]
 pub struct AggregateCall<'e, A: Heap> {
-    /// What it computes.
+    /// Its function.
     pub aggregate: Aggregate,
-    /// The byte of the text where its name starts, from 0.
+    /// The offset of its name.
     pub offset: u32,
-    /// What it is computed of; `count(*)` has none.
+    /// Its argument; `count(*)` has none.
     pub argument: Option<&'e BoundExpr<A>>,
 }
 

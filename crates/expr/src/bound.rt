@@ -1,22 +1,21 @@
-//! Expressions whose columns are numbers.
+//! Expressions whose columns are found.
 
 ghost use Rattle.std.specs.Prelude.{◌≡◌};
 ghost use Rattle.expr.specs.Bound as spec;
 
-use memory::Heap;
-use text::Items;
+use memory::{Heap, Items};
 use value::{Aggregate, Arithmetic, ColType, Comparison, Value};
 
-/// A column: the number of its entry in FROM, and its place in the entry's table, each from 0.
+/// A column: the index of its entry in FROM, and its index in the entry's table, each from 0.
 #[derive(Clone, Copy, Debug, PartialEq, Eq)]
 pub struct ColumnId {
-    /// The number of its entry.
+    /// The index of its entry.
     pub entry: usize,
-    /// Its place in the entry's table.
+    /// Its index in the entry's table.
     pub column: usize,
 }
 
-/// Whether two are the same column.
+/// True where two are the same column.
 pub fn is_column(id: ColumnId, other: ColumnId) -> bool
     ensures { result ≡ spec.is_column id other }
 {

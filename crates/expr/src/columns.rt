@@ -5,9 +5,8 @@ ghost use Rattle.expr.specs.View.{bound_arms, bound_expr_of, bound_exprs};
 ghost use Rattle.expr.specs.Columns.{columns, all_columns, arms_columns};
 
 use crate::bound::{BoundArm, BoundExpr, ColumnId};
-use memory::Heap;
+use memory::{Heap, Items};
 use std::alloc::AllocError;
-use text::Items;
 
 /// Adds the columns that an expression names, in written order.
 #[cycle(columns)]

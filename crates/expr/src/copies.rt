@@ -9,9 +9,8 @@ use crate::nodes::{
     disjunction, literal, logical_not, membership, negation, null_check, with_otherwise,
     without_otherwise,
 };
-use memory::{Heap, boxed};
+use memory::{Heap, Items, boxed};
 use std::alloc::AllocError;
-use text::Items;
 
 /// A copy of the expression.
 #[cycle(copy)]

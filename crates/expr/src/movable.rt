@@ -7,7 +7,7 @@ ghost use Rattle.expr.specs.Movable.{movable, all_movable, arms_movable};
 use crate::bound::{BoundArm, BoundExpr};
 use memory::Heap;
 
-/// Whether an expression never faults: it has no arithmetic, no cast and no aggregate.
+/// True where an expression never faults: it has no arithmetic, no cast and no aggregate.
 #[cycle(movable)]
 pub fn is_movable<A: Heap>(expression: &BoundExpr<A>) -> bool
     ensures { result ≡ movable (bound_expr_of expression.now) }

@@ -6,9 +6,8 @@ ghost use Rattle.expr.specs.Bound as bound;
 ghost use Rattle.expr.specs.View.{bound_arm_pair, bound_arms, bound_expr_of, bound_exprs};
 
 use crate::bound::{BoundArm, BoundExpr};
-use memory::{Heap, boxed};
+use memory::{Heap, Items, boxed};
 use std::alloc::AllocError;
-use text::Items;
 use value::{Aggregate, Arithmetic, ColType, Comparison, Value};
 
 pub(crate) type Copied<A> = Result<Box<BoundExpr<A>, A>, AllocError>;

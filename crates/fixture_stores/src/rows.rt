@@ -1,19 +1,19 @@
-//! What a role is answered, compared with what it is to be.
+//! The reply to a role, compared with the wanted one.
 
-use crate::stores::{StoreFault, served};
-use engine::Store;
+use crate::stores::{FixtureError, served};
 use memory::{Failure, Heap};
+use store::Store;
 
 /// A name, a role, its query, and the answer with its status.
 pub type Asked<'q> = (&'q str, &'q str, &'q str, &'q str, u8);
 
-/// Why a row fails, with its name.
+/// The failure of a row, with its name.
 #[derive(Debug, Drop)]
 pub enum Mismatch<'q> {
     /// The store is not made, or does not take a step.
     Refused {
         row: &'q str,
-        fault: StoreFault,
+        fault: FixtureError,
     },
     /// A record of a script is none.
     Unreadable {
@@ -34,16 +34,16 @@ pub enum Mismatch<'q> {
 /// The same with the row that it is of.
 pub fn in_row<'q, T: Drop>(
     row: &'q str,
-    done: Result<T, Failure<StoreFault>>,
+    done: Result<T, Failure<FixtureError>>,
 ) -> Result<T, Failure<Mismatch<'q>>> {
     match done {
         Ok(done) => Ok(done),
-        Err(Failure::Fault(fault)) => Err(Failure::Fault(Mismatch::Refused { row, fault })),
+        Err(Failure::Error(fault)) => Err(Failure::Error(Mismatch::Refused { row, fault })),
         Err(Failure::OutOfMemory) => Err(Failure::OutOfMemory),
     }
 }
 
-/// Whether a store answers a query as it has to.
+/// Tests that a store answers a query as it has to.
 pub fn answered<'q, A: Heap>(
     alloc: A,
     store: &Store<A>,
@@ -55,7 +55,7 @@ pub fn answered<'q, A: Heap>(
     if status == want_status && out.inner.as_slice() == want.as_bytes() && failed == 0 {
         return Ok(());
     }
-    Err(Failure::Fault(Mismatch::Answered {
+    Err(Failure::Error(Mismatch::Answered {
         row,
         role,
         query,

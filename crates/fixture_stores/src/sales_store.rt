@@ -1,8 +1,8 @@
 //! The store of crates/rowplan/data/sales.
 
-use crate::stores::{StoreFault, load, store_of};
-use engine::Store;
+use crate::stores::{FixtureError, load, store_of};
 use memory::{Failure, Heap};
+use store::Store;
 
 /// The text of schema.sql there.
 pub const SALES: &str = "CREATE ROLE boss; CREATE ROLE audit BYPASSRLS; CREATE ROLE sales;
@@ -22,7 +22,7 @@ pub const SALES_DEALS: &str =
 pub const SALES_REGIONS: &str = "id,name\n1,north\n2,south\n\\N,none\n";
 
 /// The store of the worked rows of sales.
-pub fn sales<A: Heap>(alloc: A) -> Result<Box<Store<A>, A>, Failure<StoreFault>> {
+pub fn sales<A: Heap>(alloc: A) -> Result<Box<Store<A>, A>, Failure<FixtureError>> {
     let mut store = store_of(alloc, SALES)?;
     load(&mut store, "deal", SALES_DEALS)?;
     load(&mut store, "region", SALES_REGIONS)?;

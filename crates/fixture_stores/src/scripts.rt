@@ -1,23 +1,23 @@
-//! Scripts of worked rows, and how they are run.
+//! Scripts of worked rows, and their runs.
 //!
 //! A script is a text of records, with an empty line between two. A line `-- NAME` at the head of a record names the row
 //! that starts there. The rest of a record is one of
 //!
 //! - `ROLE: QUERY`, a line with the status, and the answer to the byte;
-//! - `schema`, and the text of one: a new store of it takes the place of the store;
+//! - `schema`, and the text of one: a new store of it replaces the store;
 //! - `apply`, and the text of a schema: root applies it to the store;
 //! - `load TABLE`, and the rows to add to the table.
 //!
-//! The name of a known text may stand on the first line in place of the text, as in `schema sales` and `load deal deals`.
+//! The first line may have the name of a known text instead of the text, as in `schema sales` and `load deal deals`.
 //! A script starts with the store of `sales`.
 
 use crate::rows::{Mismatch, answered, in_row};
 use crate::sales_store::{SALES, SALES_DEALS, SALES_REGIONS, sales};
 use crate::stores::{DEALS, FLAGS, OPEN, SCHEMA, apply, load, store_of};
-use engine::Store;
 use memory::{Failure, Heap};
+use store::Store;
 
-// What a record says.
+// The step of a record.
 #[derive(Clone, Copy)]
 enum Step<'q> {
     Schema(&'q str),
@@ -99,7 +99,7 @@ fn take<'q, A: Heap>(
         Some(Step::Ask(role, query, answer, status)) => {
             answered(alloc, store, (row, role, query, answer, status))
         }
-        None => Err(Failure::Fault(Mismatch::Unreadable { row, record })),
+        None => Err(Failure::Error(Mismatch::Unreadable { row, record })),
     }
 }
 
@@ -108,7 +108,7 @@ pub fn run_script<'q, A: Heap>(alloc: A, script: &'q str) -> Result<(), Failure<
     let mut row = "sales";
     let mut store = in_row(row, sales(alloc))?;
     if script.is_empty() {
-        return Err(Failure::Fault(Mismatch::Unreadable {
+        return Err(Failure::Error(Mismatch::Unreadable {
             row,
             record: script,
         }));

@@ -1,9 +1,10 @@
-//! The store of the worked rows, and how stores are made and asked.
+//! The store of the worked rows, and the making and asking of stores.
 
-use engine::{Store, StoreError, serve};
+use engine::serve;
 use memory::{Failure, Heap, boxed};
 use output::Output;
 use row_ast::Statement;
+use store::{Store, StoreError};
 use syntax::{ParseError, parse_schema};
 use value::Refusal;
 
@@ -26,9 +27,9 @@ pub const FLAGS: &str =
 /// Rows of the flags: true, false and null.
 pub const OPEN: &str = "id,open,note\n1,t,a\n2,f,b\n3,\\N,c\n";
 
-/// Why a store is not made.
+/// An error of a store that is not made.
 #[derive(Clone, Copy, Debug, Drop, PartialEq, Eq)]
-pub enum StoreFault {
+pub enum FixtureError {
     Parse(ParseError),
     Statement(Refusal),
     Data(StoreError),
@@ -39,11 +40,11 @@ fn change<A: Heap>(
     store: &mut Store<A>,
     actor: &str,
     statements: &[Statement<A>],
-) -> Result<(), Failure<StoreFault>> {
+) -> Result<(), Failure<FixtureError>> {
     for statement in statements {
         match store.change(actor, statement) {
             Ok(()) => {}
-            Err(code) => return Err(Failure::Fault(StoreFault::Statement(code))),
+            Err(code) => return Err(Failure::Error(FixtureError::Statement(code))),
         }
     }
     Ok(())
@@ -55,17 +56,20 @@ pub fn apply<A: Heap>(
     store: &mut Store<A>,
     actor: &str,
     schema: &str,
-) -> Result<(), Failure<StoreFault>> {
+) -> Result<(), Failure<FixtureError>> {
     match parse_schema(alloc, schema) {
         Ok(statements) => change(store, actor, statements.as_slice()),
-        Err(Failure::Fault(error)) => Err(Failure::Fault(StoreFault::Parse(error))),
+        Err(Failure::Error(error)) => Err(Failure::Error(FixtureError::Parse(error))),
         Err(Failure::OutOfMemory) => Err(Failure::OutOfMemory),
     }
 }
 
 /// The store of a schema text. It is boxed, since the whole drop of a store is part of the proof of each function that
 /// has one.
-pub fn store_of<A: Heap>(alloc: A, schema: &str) -> Result<Box<Store<A>, A>, Failure<StoreFault>> {
+pub fn store_of<A: Heap>(
+    alloc: A,
+    schema: &str,
+) -> Result<Box<Store<A>, A>, Failure<FixtureError>> {
     let mut store = boxed(alloc, Store::new(alloc)?)?;
     apply(alloc, &mut store, "root", schema)?;
     Ok(store)
@@ -76,22 +80,22 @@ pub fn load<A: Heap>(
     store: &mut Store<A>,
     table: &str,
     text: &str,
-) -> Result<(), Failure<StoreFault>> {
+) -> Result<(), Failure<FixtureError>> {
     match store.load(table, text.as_bytes()) {
         Ok(()) => Ok(()),
-        Err(Failure::Fault(error)) => Err(Failure::Fault(StoreFault::Data(error))),
+        Err(Failure::Error(error)) => Err(Failure::Error(FixtureError::Data(error))),
         Err(Failure::OutOfMemory) => Err(Failure::OutOfMemory),
     }
 }
 
 /// The store of the worked rows.
-pub fn deals<A: Heap>(alloc: A) -> Result<Box<Store<A>, A>, Failure<StoreFault>> {
+pub fn deals<A: Heap>(alloc: A) -> Result<Box<Store<A>, A>, Failure<FixtureError>> {
     let mut store = store_of(alloc, SCHEMA)?;
     load(&mut store, "deal", DEALS)?;
     Ok(store)
 }
 
-/// The status of the reply to a role's text, and what was written.
+/// The status of the reply to a role's text, and the bytes that were written.
 pub fn served<A: Heap>(
     alloc: A,
     store: &Store<A>,

@@ -86,7 +86,7 @@ module _ {A : Type 0} where
   abbrev pub key_cmp : Key A → Key A → Ordering
   key_cmp k l = row_cmp (key_of k) (key_of l)
 
-  -- where a list follows the key in the map, and is followed by one more
+  -- a list follows the key in the map, and is followed by one more
   pub put_entry : (es : List (Key A × List (List (Value A)))) (k : Key A) (values : List (Value A)) (before : Option (List (List (Value A)))) → IsStrictlySortedBy key_cmp (keys_of es) → before ≡ lookup (is_at (key_cmp k)) es →
       groups_in (insert_entry key_cmp es k (unwrap_or before [] ++ values ∷ [])) ≡ put (record { key = key_of k; arguments = row_of values }) (groups_in es)
   put_entry [] k values before up is = ap (λ o. groups_in ((k, unwrap_or o [] ++ values ∷ []) ∷ [])) is

@@ -50,7 +50,7 @@ each_rises ms = keys_rise (sorted_by row_cmp (keys ms)) (ascends-sorted_by row_c
 
 -- ---- one more key
 
--- in its place, unless it is there
+-- one more key in the order, unless it is there
 abbrev pub put_key : Row → List Row → List Row
 put_key k [] = k ∷ []
 put_key k (l ∷ ls) = match_ordering (row_cmp k l) (k ∷ l ∷ ls) (l ∷ ls) (l ∷ put_key k ls)
@@ -81,19 +81,19 @@ after_first k x (y ∷ ys) h = go (row_cmp k y) refl
     apart : row_cmp x y ≡ Less → put_key k (front_once x (y ∷ ys)) ≡ x ∷ put_key k (y ∷ ys)
     apart f = ap (λ o. put_key k (cond (is_eq o) (x ∷ ys) (x ∷ y ∷ ys))) f ∙ passes k x (y ∷ ys) h
 
-    place : (o : Ordering) → row_cmp k y ≡ o → x ∷ put_key k (y ∷ ys) ≡ x ∷ match_ordering o (k ∷ y ∷ ys) (y ∷ ys) (y ∷ put_key k ys)
-    place o e = ap (λ p. x ∷ match_ordering p (k ∷ y ∷ ys) (y ∷ ys) (y ∷ put_key k ys)) e
+    index : (o : Ordering) → row_cmp k y ≡ o → x ∷ put_key k (y ∷ ys) ≡ x ∷ match_ordering o (k ∷ y ∷ ys) (y ∷ ys) (y ∷ put_key k ys)
+    index o e = ap (λ p. x ∷ match_ordering p (k ∷ y ∷ ys) (y ∷ ys) (y ∷ put_key k ys)) e
 
     go : (o : Ordering) → row_cmp k y ≡ o → front_once x (match_ordering (row_cmp k y) (k ∷ y ∷ ys) (y ∷ ys) (y ∷ put_key k ys)) ≡ put_key k (front_once x (y ∷ ys))
     go Less e =
         ap (λ o. front_once x (match_ordering o (k ∷ y ∷ ys) (y ∷ ys) (y ∷ put_key k ys))) e
         ∙ ap (λ o. cond (is_eq o) (x ∷ y ∷ ys) (x ∷ k ∷ y ∷ ys)) less
-        ∙ sym (apart (row_cmp_total.trans x k y less e) ∙ place Less e)
+        ∙ sym (apart (row_cmp_total.trans x k y less e) ∙ index Less e)
     go Equal e =
         let f : row_cmp x y ≡ Less = ap (row_cmp x) (sym (row_cmp_exact k y e)) ∙ less in
         ap (λ o. front_once x (match_ordering o (k ∷ y ∷ ys) (y ∷ ys) (y ∷ put_key k ys))) e
         ∙ ap (λ o. cond (is_eq o) (x ∷ ys) (x ∷ y ∷ ys)) f
-        ∙ sym (apart f ∙ place Equal e)
+        ∙ sym (apart f ∙ index Equal e)
     go Greater e =
         ap (λ o. front_once x (match_ordering o (k ∷ y ∷ ys) (y ∷ ys) (y ∷ put_key k ys))) e
         ∙ elim (is_eq (row_cmp x y)) as (λ b. cond b (x ∷ put_key k ys) (x ∷ y ∷ put_key k ys) ≡ put_key k (cond b (x ∷ ys) (x ∷ y ∷ ys))) [

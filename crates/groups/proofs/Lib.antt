@@ -1,6 +1,6 @@
-mod Totals
+pub mod Cells
+pub mod ClassLaws
+pub mod KeyLaws
+pub mod Parts
 pub mod SameGroups
-mod KeyLaws
-mod ClassLaws
-mod Parts
-mod Cells
+pub mod Totals

@@ -43,7 +43,7 @@ unfolding up down
 parts (pos n) = omega (arith, ints)
 parts (negsuc n) = omega (arith, ints)
 
--- a sum is the sum of what is above zero less that of what is below
+-- a sum is that of the numbers above zero less that of those below
 sum_parts : (ds : List Datum) → exact_sum ds ≡ pos (sum_by (λ d. up (number d)) ds) -ℤ pos (sum_by (λ d. down (number d)) ds)
 sum_parts [] = refl
 sum_parts (d ∷ ds) = omega (arith, ints, sum_parts ds, parts (number d), sum_by-cons (λ d. up (number d)) d ds, sum_by-cons (λ d. down (number d)) d ds)
@@ -60,12 +60,12 @@ same_aggregate Sum offset (x ∷ xs) (y ∷ ys) same = ap (λ z. number_at offse
 same_aggregate Min offset xs ys same = ap (λ o. Ok (or_null o)) (least_same (towards false) (towards_total false) (towards_exact false) xs ys same)
 same_aggregate Max offset xs ys same = ap (λ o. Ok (or_null o)) (least_same (towards true) (towards_total true) (towards_exact true) xs ys same)
 
-same_totals : (calls : List AggregateCall) (place : ℕ) (xs ys : List Row) → SameSums xs ys → totals calls place xs ≡ totals calls place ys
-same_totals [] place xs ys same = refl
-same_totals (c ∷ calls) place xs ys same =
+same_totals : (calls : List AggregateCall) (index : ℕ) (xs ys : List Row) → SameSums xs ys → totals calls index xs ≡ totals calls index ys
+same_totals [] index xs ys same = refl
+same_totals (c ∷ calls) index xs ys same =
     ap₂ first_then
-    (same_aggregate c.aggregate c.offset (values_at place xs) (values_at place ys) (SameSums-filter_map xs ys same (λ arguments. not_null (argument_at arguments place))))
-    (same_totals calls (place + 1) xs ys same)
+    (same_aggregate c.aggregate c.offset (values_at index xs) (values_at index ys) (SameSums-filter_map xs ys same (λ arguments. not_null (argument_at arguments index))))
+    (same_totals calls (index + 1) xs ys same)
 
 -- ---- groups
 

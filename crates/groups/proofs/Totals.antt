@@ -30,13 +30,13 @@ sum_one (int n) ds = refl
 sum_one (text t) ds = refl
 sum_one (bool b) ds = refl
 
-pub sum_next : {A : Type 0} (place : ℕ) (ms : List (List (Value A))) (i : ℕ) (m : List (Value A)) → i < length ms → m ≡ get_or ms i m →
-    exact_sum (values_at place (rows_of (drop i ms))) ≡ number (argument_at (row_of m) place) +ℤ exact_sum (values_at place (rows_of (drop (i + 1) ms)))
-sum_next place ms i m lt is = ap (λ l. exact_sum (values_at place (rows_of l))) (next ms i m lt is) ∙ sum_one (argument_at (row_of m) place) _
+pub sum_next : {A : Type 0} (index : ℕ) (ms : List (List (Value A))) (i : ℕ) (m : List (Value A)) → i < length ms → m ≡ get_or ms i m →
+    exact_sum (values_at index (rows_of (drop i ms))) ≡ number (argument_at (row_of m) index) +ℤ exact_sum (values_at index (rows_of (drop (i + 1) ms)))
+sum_next index ms i m lt is = ap (λ l. exact_sum (values_at index (rows_of l))) (next ms i m lt is) ∙ sum_one (argument_at (row_of m) index) _
 
 -- ---- counts
 
--- how many values one member has
+-- the number of values of one member
 abbrev pub one_value : Option Datum → ℕ
 one_value None = 0
 one_value (Some d) = 1
@@ -45,13 +45,13 @@ count_one : (o : Option Datum) (ds : List Datum) → length (cons_option o ds) �
 count_one None ds = omega arith
 count_one (Some d) ds = omega arith
 
-pub count_step : {A : Type 0} (place : ℕ) (ms : List (List (Value A))) (i : ℕ) (m : List (Value A)) (value : Option Datum) → i < length ms → m ≡ get_or ms i m →
-    value ≡ not_null (argument_at (row_of m) place) →
-    length (values_at place (rows_of (drop i ms))) ≡ one_value value + length (values_at place (rows_of (drop (i + 1) ms)))
-count_step place ms i m value lt is v =
-    ap (λ l. length (values_at place (rows_of l))) (next ms i m lt is)
-    ∙ count_one (not_null (argument_at (row_of m) place)) (values_at place (rows_of (drop (i + 1) ms)))
-    ∙ ap (λ o. one_value o + length (values_at place (rows_of (drop (i + 1) ms)))) (sym v)
+pub count_step : {A : Type 0} (index : ℕ) (ms : List (List (Value A))) (i : ℕ) (m : List (Value A)) (value : Option Datum) → i < length ms → m ≡ get_or ms i m →
+    value ≡ not_null (argument_at (row_of m) index) →
+    length (values_at index (rows_of (drop i ms))) ≡ one_value value + length (values_at index (rows_of (drop (i + 1) ms)))
+count_step index ms i m value lt is v =
+    ap (λ l. length (values_at index (rows_of l))) (next ms i m lt is)
+    ∙ count_one (not_null (argument_at (row_of m) index)) (values_at index (rows_of (drop (i + 1) ms)))
+    ∙ ap (λ o. one_value o + length (values_at index (rows_of (drop (i + 1) ms)))) (sym v)
 
 -- ---- extremes
 
@@ -67,14 +67,14 @@ least_one : (d : Bool) (o : Option Datum) (ds : List Datum) → least (towards d
 least_one d None ds = refl
 least_one d (Some x) ds = refl
 
-pub best_step : {A : Type 0} (d : Bool) (place : ℕ) (ms : List (List (Value A))) (i : ℕ) (m : List (Value A)) (value best after whole : Option Datum) → i < length ms → m ≡ get_or ms i m →
-    value ≡ not_null (argument_at (row_of m) place) → after ≡ lesser (towards d) best value →
-    lesser (towards d) best (least (towards d) (values_at place (rows_of (drop i ms)))) ≡ whole → lesser (towards d) after (least (towards d) (values_at place (rows_of (drop (i + 1) ms)))) ≡ whole
-best_step d place ms i m value best after whole lt is v b so_far =
-    let rest = least (towards d) (values_at place (rows_of (drop (i + 1) ms))) in
+pub best_step : {A : Type 0} (d : Bool) (index : ℕ) (ms : List (List (Value A))) (i : ℕ) (m : List (Value A)) (value best after whole : Option Datum) → i < length ms → m ≡ get_or ms i m →
+    value ≡ not_null (argument_at (row_of m) index) → after ≡ lesser (towards d) best value →
+    lesser (towards d) best (least (towards d) (values_at index (rows_of (drop i ms)))) ≡ whole → lesser (towards d) after (least (towards d) (values_at index (rows_of (drop (i + 1) ms)))) ≡ whole
+best_step d index ms i m value best after whole lt is v b so_far =
+    let rest = least (towards d) (values_at index (rows_of (drop (i + 1) ms))) in
     ap (λ o. lesser (towards d) o rest) b
     ∙ lesser_assoc (towards d) (towards_total d) best value rest
     ∙ ap (λ o. lesser (towards d) best (lesser (towards d) o rest)) v
-    ∙ ap (lesser (towards d) best) (sym (least_one d (not_null (argument_at (row_of m) place)) (values_at place (rows_of (drop (i + 1) ms)))))
-    ∙ ap (λ l. lesser (towards d) best (least (towards d) (values_at place (rows_of l)))) (sym (next ms i m lt is))
+    ∙ ap (lesser (towards d) best) (sym (least_one d (not_null (argument_at (row_of m) index)) (values_at index (rows_of (drop (i + 1) ms)))))
+    ∙ ap (λ l. lesser (towards d) best (least (towards d) (values_at index (rows_of l)))) (sym (next ms i m lt is))
     ∙ so_far

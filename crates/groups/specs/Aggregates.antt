@@ -21,13 +21,13 @@ not_null (int n) = Some (int n)
 not_null (text t) = Some (text t)
 not_null (bool b) = Some (bool b)
 
--- a member has an argument for each aggregate, so that null is never in place of one
+-- a member has an argument for each aggregate, so that null never replaces one
 abbrev pub argument_at : Row → ℕ → Datum
-argument_at arguments place = slice_index_or arguments place null
+argument_at arguments index = slice_index_or arguments index null
 
 -- on the members, nulls left out
 abbrev pub values_at : ℕ → List Row → List Datum
-values_at place members = filter_map (λ arguments. not_null (argument_at arguments place)) members
+values_at index members = filter_map (λ arguments. not_null (argument_at arguments index)) members
 
 -- ---- the value of an aggregate
 
@@ -61,7 +61,7 @@ aggregate_of Sum offset (d ∷ ds) = number_at offset (in_range (exact_sum (d �
 aggregate_of Min offset ds = Ok (or_null (least datum_cmp ds))
 aggregate_of Max offset ds = Ok (or_null (least descending_cmp ds))
 
--- of all aggregates, in written order, or the first fault; the first has its arguments at a place
+-- of all aggregates, in written order, or the first fault; the first has its arguments at an index
 abbrev pub totals : List AggregateCall → ℕ → List Row → Result Row Fault
-totals [] place members = Ok []
-totals (c ∷ calls) place members = first_then (aggregate_of c.aggregate c.offset (values_at place members)) (totals calls (place + 1) members)
+totals [] index members = Ok []
+totals (c ∷ calls) index members = first_then (aggregate_of c.aggregate c.offset (values_at index members)) (totals calls (index + 1) members)

@@ -9,7 +9,7 @@ use Rattle.groups.specs.Groups.{Group}
 abbrev pub grouped : Row → List Row → Group
 grouped key members = record { key = key; members = members }
 
--- at the end of the group of its key, or a group by itself in front of the first with a greater key
+-- at the end of the group of its key, or a group by itself before the first with a greater key
 abbrev pub put : Member → List Group → List Group
 put m [] = grouped m.key (m.arguments ∷ []) ∷ []
 put m (g ∷ gs) = match_ordering (row_cmp m.key g.key) (grouped m.key (m.arguments ∷ []) ∷ g ∷ gs) (grouped g.key (g.members ++ m.arguments ∷ []) ∷ gs) (g ∷ put m gs)

@@ -27,15 +27,15 @@ group_row calls g = with_totals g.key (totals calls 0 g.members)
 abbrev pub group_rows : List ColumnId → List AggregateCall → List Member → Result (List GroupRow) Fault
 group_rows columns calls members = stage (map (λ g. gives (group_row calls g)) (groups_of columns members))
 
--- ---- what is read of it
+-- ---- its cells and aggregates
 
--- the value of a GROUP BY column; outside aggregates no other is named, so that null is never in place of one
+-- the value of a GROUP BY column; outside aggregates no other is named, so that null never replaces one
 abbrev pub key_cell : List ColumnId → Row → ColumnId → Datum
 key_cell [] key id = null
 key_cell (column ∷ columns) [] id = null
 key_cell (column ∷ columns) (d ∷ ds) id = if is_column column id then d else key_cell columns ds id
 
--- the value of the aggregate whose name starts at an offset
+-- the value of the aggregate whose name is at an offset
 abbrev pub total_at : List AggregateCall → Row → ℕ → Datum
 total_at [] totals offset = null
 total_at (c ∷ calls) [] offset = null

@@ -10,7 +10,7 @@ use Rattle.groups.specs.Members.{Member}
 abbrev pub same_key : Row → Row → Bool
 same_key k l = is_eq (row_cmp k l)
 
--- a key in front, unless it is the first already
+-- a key before others, unless it is the first already
 abbrev pub front_once : Row → List Row → List Row
 front_once k [] = k ∷ []
 front_once k (l ∷ ls) = if same_key k l then k ∷ ls else k ∷ l ∷ ls

@@ -1,6 +1,6 @@
-pub mod Members
-pub mod Groups
-pub mod Classes
 pub mod Aggregates
+pub mod Classes
 pub mod GroupRow
+pub mod Groups
+pub mod Members
 pub mod View

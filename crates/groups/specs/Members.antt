@@ -1,8 +1,8 @@
--- What a row brings to its group.
+-- A row's group key and aggregate arguments.
 use Rattle.std.specs.Prelude.{true, List, [], ◌∷◌, map, Option, Some, None, Result, Ok, Err}
 use Rattle.value.specs.Datum.{bool, Row}
 use Rattle.value.specs.declared.faults.Fault.{Fault}
-use Rattle.row_ast.specs.Ast.{Name}
+use Rattle.value.specs.Names.{Name}
 use Rattle.expr.specs.declared.bound.ColumnId.{ColumnId}
 use Rattle.expr.specs.Bound.{BoundExpr}
 use Rattle.expr.specs.Aggregates.{AggregateCall}
@@ -15,7 +15,7 @@ pub record Member : Type 0 where
   pub arguments : Row
 
 module _ (cells : Cells) (role : Name) where
-  -- count(*) counts what is never null
+  -- count(*) counts a value that is never null
   abbrev pub argument : Option BoundExpr → Outcome
   argument None = Ok (bool true)
   argument (Some e) = meaning cells role e

@@ -1,4 +1,4 @@
--- What the members, the groups and the rows of groups of the program are.
+-- The views of the Rust types of members, groups and their rows as spec data.
 use Rattle.std.specs.Prelude.{List, map}
 use Rattle.value.specs.Datum.{Row, row_of}
 use Rattle.value.specs.declared.types.Value.{Value}

@@ -12,54 +12,53 @@ ghost use Rattle.groups.specs.Aggregates.{argument_at, not_null, values_at, towa
 ghost use Rattle.groups.specs.View.{rows_of};
 
 use expr::AggregateCall;
-use memory::{Failure, Heap};
+use memory::{Failure, Heap, Items};
 use std::alloc::AllocError;
 use std::cmp::Ordering;
-use text::Items;
 use value::{Aggregate, Fault, FaultKind, Value, cmp_values};
 
-// The argument at a place, unless it is null.
-fn value_at<A: Heap>(arguments: &[Value<A>], place: usize) -> Option<&Value<A>>
-    ensures { option_map (λ v. datum v.now) result ≡ not_null (argument_at (row_of arguments.now) place) }
+// The argument at an index, unless it is null.
+fn value_at<A: Heap>(arguments: &[Value<A>], index: usize) -> Option<&Value<A>>
+    ensures { option_map (λ v. datum v.now) result ≡ not_null (argument_at (row_of arguments.now) index) }
 {
-    match arguments.get(place) {
+    match arguments.get(index) {
         None => None,
         Some(Value::Null) => None,
         Some(value) => Some(value),
     }
 }
 
-// How many arguments at a place are not null.
-fn count<A: Heap>(members: &[Items<Value<A>, A>], place: usize) -> usize
-    ensures { result ≡ length (values_at place (rows_of members.now)) }
+// The number of arguments at an index that are not null.
+fn count<A: Heap>(members: &[Items<Value<A>, A>], index: usize) -> usize
+    ensures { result ≡ length (values_at index (rows_of members.now)) }
 {
     let mut count = 0;
     for member in members {
-        if let Some(_) = value_at(member.as_slice(), place) {
+        if let Some(_) = value_at(member.as_slice(), index) {
             count += 1;
         }
     }
     count
 }
 
-// The number at a place, 0 where it is null.
-fn number<A: Heap>(arguments: &[Value<A>], place: usize) -> i64
-    ensures { result ≡ orders.number (argument_at (row_of arguments.now) place) }
+// The number at an index, 0 where it is null.
+fn number<A: Heap>(arguments: &[Value<A>], index: usize) -> i64
+    ensures { result ≡ orders.number (argument_at (row_of arguments.now) index) }
 {
-    match arguments.get(place) {
+    match arguments.get(index) {
         Some(Value::Int(n)) => *n,
         Some(_) => 0,
         None => 0,
     }
 }
 
-// The exact sum of the numbers at a place: that of up to 2^64 numbers of 64 bits fits in 128.
-fn exact_sum<A: Heap>(members: &[Items<Value<A>, A>], place: usize) -> i128
-    ensures { result ≡ spec.exact_sum (values_at place (rows_of members.now)) }
+// The exact sum of the numbers at an index: that of up to 2^64 numbers of 64 bits fits in 128.
+fn exact_sum<A: Heap>(members: &[Items<Value<A>, A>], index: usize) -> i128
+    ensures { result ≡ spec.exact_sum (values_at index (rows_of members.now)) }
 {
     let mut sum = 0_i128;
     for member in members {
-        sum += i128::from(number(member.as_slice(), place));
+        sum += i128::from(number(member.as_slice(), index));
     }
     sum
 }
@@ -91,18 +90,18 @@ fn better<'m, A: Heap>(
     }
 }
 
-// The least argument at a place that is not null; where it descends, the greatest.
+// The least argument at an index that is not null; where it descends, the greatest.
 #[tactic(auto, using(crate::proofs::Totals::best_alone))]
 fn extreme<A: Heap>(
     members: &[Items<Value<A>, A>],
-    place: usize,
+    index: usize,
     descends: bool,
 ) -> Option<&Value<A>>
-    ensures { option_map (λ v. datum v.now) result ≡ least (towards descends) (values_at place (rows_of members.now)) }
+    ensures { option_map (λ v. datum v.now) result ≡ least (towards descends) (values_at index (rows_of members.now)) }
 {
     let mut best = None;
     for member in members {
-        if let Some(value) = value_at(member.as_slice(), place) {
+        if let Some(value) = value_at(member.as_slice(), index) {
             best = Some(better(best, value, descends));
         }
     }
@@ -138,7 +137,7 @@ fn number_at<A: Heap>(
 {
     match number {
         Ok(n) => Ok(Value::Int(n)),
-        Err(kind) => Err(Failure::Fault(Fault { offset, kind })),
+        Err(kind) => Err(Failure::Error(Fault { offset, kind })),
     }
 }
 
@@ -152,26 +151,26 @@ fn copy_or_null<A: Heap>(alloc: A, value: Option<&Value<A>>) -> Result<Value<A>,
     }
 }
 
-// The value of an aggregate, whose arguments are at a place.
+// The value of an aggregate, whose arguments are at an index.
 fn aggregate_of<A: Heap>(
     alloc: A,
     call: &AggregateCall<'_, A>,
     members: &[Items<Value<A>, A>],
-    place: usize,
+    index: usize,
 ) -> Result<Value<A>, Failure<Fault>>
-    ensures { Gives (λ v. datum v) result (spec.aggregate_of call.now.aggregate call.now.offset (values_at place (rows_of members.now))) }
+    ensures { Gives (λ v. datum v) result (spec.aggregate_of call.now.aggregate call.now.offset (values_at index (rows_of members.now))) }
 {
     match call.aggregate {
-        Aggregate::Count => number_at(call.offset, counted(count(members, place))),
+        Aggregate::Count => number_at(call.offset, counted(count(members, index))),
         Aggregate::Sum => {
-            if count(members, place) == 0 {
+            if count(members, index) == 0 {
                 Ok(Value::Null)
             } else {
-                number_at(call.offset, in_range(exact_sum(members, place)))
+                number_at(call.offset, in_range(exact_sum(members, index)))
             }
         }
-        Aggregate::Min => Ok(copy_or_null(alloc, extreme(members, place, false))?),
-        Aggregate::Max => Ok(copy_or_null(alloc, extreme(members, place, true))?),
+        Aggregate::Min => Ok(copy_or_null(alloc, extreme(members, index, false))?),
+        Aggregate::Max => Ok(copy_or_null(alloc, extreme(members, index, true))?),
     }
 }
 
@@ -185,8 +184,8 @@ pub fn totals_of<A: Heap>(
     ensures { Gives (λ values. row_of values) result (spec.totals (aggregate_calls_of calls.now) 0 (rows_of members.now)) }
 {
     let mut values = Items::new(alloc);
-    for (place, call) in calls.iter().enumerate() {
-        values.push(aggregate_of(alloc, call, members, place)?)?;
+    for (index, call) in calls.iter().enumerate() {
+        values.push(aggregate_of(alloc, call, members, index)?)?;
     }
     Ok(values)
 }

@@ -7,10 +7,9 @@ ghost use Rattle.groups.specs.View.{arguments_of, groups_in, member_of, rows_of}
 
 use crate::keys::Key;
 use crate::members::Member;
-use memory::Heap;
+use memory::{Heap, Items};
 use std::alloc::AllocError;
 use std::collections::BTreeMap;
-use text::Items;
 use value::Value;
 
 /// The arguments of the members of each key, in the order of the keys.

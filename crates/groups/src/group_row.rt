@@ -11,8 +11,7 @@ ghost use Rattle.groups.specs.View.{group_row_of, rows_of};
 use crate::aggregates::totals_of;
 use eval::Row;
 use expr::{AggregateCall, ColumnId, is_column};
-use memory::{Failure, Heap};
-use text::Items;
+use memory::{Failure, Heap, Items};
 use value::{Fault, Val, Value};
 
 /// The key of a group, and the values of its aggregates.
@@ -47,7 +46,7 @@ fn key_cell<'g, A: Heap>(columns: &[ColumnId], key: &'g [Value<A>], id: ColumnId
     Val::Null
 }
 
-// The value of the aggregate whose name starts at an offset.
+// The value of the aggregate whose name is at an offset.
 fn total_at<'g, A: Heap>(
     calls: &[AggregateCall<'_, A>],
     totals: &'g [Value<A>],

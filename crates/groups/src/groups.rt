@@ -12,9 +12,8 @@ use crate::classes::{Classes, arguments_of, classes_of};
 use crate::group_row::{GroupRow, row_of_group};
 use crate::members::Member;
 use expr::{AggregateCall, ColumnId};
-use memory::{Failure, Heap};
+use memory::{Failure, Heap, Items};
 use stages::{Stage, gives};
-use text::Items;
 use value::{Fault, Value};
 
 // The row of each group of the members by key, or the least fault.

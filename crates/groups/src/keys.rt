@@ -7,9 +7,8 @@ ghost use Rattle.value.proofs.DatumOrder.{row_cmp_total};
 ghost use Rattle.groups.specs.Groups.{same_key};
 ghost use Rattle.groups.specs.View.{key_of};
 
-use memory::Heap;
+use memory::{Heap, Items};
 use std::cmp::Ordering;
-use text::Items;
 use value::{Value, cmp_rows};
 
 /// The values of the GROUP BY columns.

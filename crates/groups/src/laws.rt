@@ -1,4 +1,4 @@
-//! What groups depend on, and what they are.
+//! Laws of groups.
 
 ghost use Rattle.std.specs.Prelude.{◌≡◌, List, map, IsPermutation};
 ghost use Rattle.std.specs.List.{flat_map, IsDistinct};

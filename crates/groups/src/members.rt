@@ -1,4 +1,4 @@
-//! What rows bring to their groups.
+//! The members of groups.
 
 ghost use Rattle.std.specs.Prelude.{◌≡◌, IfOk, option_map};
 ghost use Rattle.memory.specs.Gives.{Gives};
@@ -9,12 +9,11 @@ ghost use Rattle.groups.specs.View.{member_of};
 
 use eval::{Row, eval};
 use expr::{AggregateCall, BoundExpr, ColumnId};
-use memory::{Failure, Heap};
+use memory::{Failure, Heap, Items};
 use std::alloc::AllocError;
-use text::Items;
 use value::{Fault, Value};
 
-/// What a row brings to its group.
+/// A row's group key and aggregate arguments.
 #[derive(Drop)]
 pub struct Member<A: Heap> {
     /// The values of the GROUP BY columns.
@@ -73,7 +72,7 @@ fn arguments_on<A: Heap, R: Row<A>>(
     Ok(values)
 }
 
-/// What a row brings to its group, or the first fault of the arguments.
+/// A row's group key and aggregate arguments, or the first fault of the arguments.
 pub fn member_on<A: Heap, R: Row<A>>(
     alloc: A,
     columns: &[ColumnId],

@@ -1,4 +1,3 @@
-pub mod Entries
-pub mod Paths
-pub mod Marks
 pub mod Loops
+pub mod Marks
+pub mod Paths

@@ -1,4 +1,4 @@
--- No loop comes where each new membership is of a group that its member is not reached from.
+-- No loop comes if each new membership is of a group that its member is not reached from.
 use Rattle.std.proofs.Common.{◌≡◌, zero, suc, true, false, List, [], ◌∷◌, ◌++◌, refl, sym, ◌∙◌, subst, arith, Contains, ⊎_elim, true≢false}
 use Rattle.std.proofs.lemmas.List.Elements.{Contains-append_cases, Contains-append_left, Contains-append_right}
 use Rattle.memberships.specs.Memberships.{Membership, belongs_by, Leads, HasNoLoop}

@@ -5,25 +5,17 @@ use Rattle.std.proofs.lemmas.List.{get_or-set_same, get_or-set_other}
 use Rattle.std.proofs.lemmas.List.Sums.{sum_by-set}
 use Rattle.std.specs.Cmp.{both_ways}
 use Rattle.std.specs.List.{list_all, position_from, count_by}
-use Rattle.memberships.specs.Named.{place_named}
-use Rattle.row_ast.specs.Ast.{Name}
+use Rattle.memory.proofs.Cases.{some_is, none_is_not, some_is_not}
+use Rattle.named.specs.Named.{index_named}
+use Rattle.value.specs.Names.{Name}
 use Rattle.memberships.specs.Memberships.{Membership, belongs_by, Leads}
 use Rattle.memberships.specs.Reached.{mark_at, is_marked, next_group, is_of_roles}
 use Rattle.memberships.proofs.Paths.{text_same, same_text, itself, joined, step, reached}
 
-some_is : (i j : ℕ) → ◌≡◌ {A = Option ℕ} (Some i) (Some j) → i ≡ j
-some_is i j e = cc
-
-none_is_not : (i : ℕ) → ◌≡◌ {A = Option ℕ} None (Some i) → ⊥
-none_is_not i e = cc
-
-some_is_not : (i : ℕ) → ◌≡◌ {A = Option ℕ} (Some i) None → ⊥
-some_is_not i e = cc
-
--- ---- places
+-- ---- indices
 
 module _ {E : Type 0} (p : E → Bool) where
-  -- a place is counted from the first number on
+  -- an index is counted from the first number on
   at_least : (es : List E) (k i : ℕ) → position_from p k es ≡ Some i → k ≤ i
   at_least [] k i h = absurd (none_is_not i h)
   at_least (e ∷ es) k i h = go (p e) h (at_least es (k + 1) i)
@@ -61,27 +53,27 @@ false_is_not : {X : Type 0} → false ≡ true → X
 false_is_not h = absurd (true≢false (sym h))
 
 module _ {V : Type 0} (roles : List (Name × V)) where
-  pub place_within : (name : Name) (i : ℕ) → place_named name roles ≡ Some i → i < length roles
-  place_within name i h = let q = within (λ e. bytes_eq name e.0) roles 0 i h in omega arith
+  pub index_within : (name : Name) (i : ℕ) → index_named name roles ≡ Some i → i < length roles
+  index_within name i h = let q = within (λ e. bytes_eq name e.0) roles 0 i h in omega arith
 
-  -- ---- what is marked is reached
+  -- ---- a marked role is reached
 
   module _ (ms : List Membership) (r : Name) where
     abbrev pub IsSound : List Bool → Type 0
     IsSound marks = (n : Name) → is_marked roles marks n ≡ true → belongs_by ms r n ≡ true
 
     none_sound : (k : ℕ) → IsSound (replicate k false)
-    none_sound k n h = go (place_named n roles) h
+    none_sound k n h = go (index_named n roles) h
       where
         go : (o : Option ℕ) → mark_at (replicate k false) o ≡ true → belongs_by ms r n ≡ true
         go None h = false_is_not h
         go (Some i) h = false_is_not (sym (no_mark k i) ∙ h)
 
     -- one more that is reached
-    sound_more : (marks : List Bool) (g : Name) (j : ℕ) → IsSound marks → belongs_by ms r g ≡ true → place_named g roles ≡ Some j → IsSound (set marks j true)
-    sound_more marks g j sound there at n h = go (place_named n roles) refl h (sound n)
+    sound_more : (marks : List Bool) (g : Name) (j : ℕ) → IsSound marks → belongs_by ms r g ≡ true → index_named g roles ≡ Some j → IsSound (set marks j true)
+    sound_more marks g j sound there at n h = go (index_named n roles) refl h (sound n)
       where
-        go : (o : Option ℕ) → place_named n roles ≡ o → mark_at (set marks j true) o ≡ true → (mark_at marks o ≡ true → belongs_by ms r n ≡ true) → belongs_by ms r n ≡ true
+        go : (o : Option ℕ) → index_named n roles ≡ o → mark_at (set marks j true) o ≡ true → (mark_at marks o ≡ true → belongs_by ms r n ≡ true) → belongs_by ms r n ≡ true
         go None e h old = false_is_not h
         go (Some i) e h old = ⊎_elim
             (λ same. subst (λ m. belongs_by ms r m ≡ true) (same_from g n roles 0 i (at ∙ ap (λ (k : ℕ). let o : Option ℕ = Some k in o) (sym same)) e) there)
@@ -89,15 +81,15 @@ module _ {V : Type 0} (roles : List (Name × V)) where
             (cases_eq i j)
 
     -- the role itself
-    pub first_sound : (k j : ℕ) → place_named r roles ≡ Some j → IsSound (set (replicate k false) j true)
+    pub first_sound : (k j : ℕ) → index_named r roles ≡ Some j → IsSound (set (replicate k false) j true)
     first_sound k j at = sound_more (replicate k false) r j (none_sound k) (itself ms r) at
 
-  pub marked_at : (marks : List Bool) (g : Name) (j : ℕ) → place_named g roles ≡ Some j → j < length marks → is_marked roles (set marks j true) g ≡ true
+  pub marked_at : (marks : List Bool) (g : Name) (j : ℕ) → index_named g roles ≡ Some j → j < length marks → is_marked roles (set marks j true) g ≡ true
   marked_at marks g j at l = rw at (get_or-set_same marks j true false l)
 
-  -- what is marked stays so
+  -- a marked role stays so
   pub marked_still : (marks : List Bool) (g : Name) (j : ℕ) → j < length marks → is_marked roles marks g ≡ true → is_marked roles (set marks j true) g ≡ true
-  marked_still marks g j l h = go (place_named g roles) h
+  marked_still marks g j l h = go (index_named g roles) h
     where
       go : (o : Option ℕ) → mark_at marks o ≡ true → mark_at (set marks j true) o ≡ true
       go None h = false_is_not h
@@ -113,7 +105,7 @@ module _ {V : Type 0} (roles : List (Name × V)) where
     among : Contains ms m
     member : is_marked roles marks m.member ≡ true
     group : is_marked roles marks m.group ≡ false
-    at : place_named m.group roles ≡ Some j
+    at : index_named m.group roles ≡ Some j
 
   next_is : (marks : List Bool) (ms : List Membership) (j : ℕ) → next_group roles marks ms ≡ Some j → IsNext marks ms j
   next_is marks [] j h = absurd (none_is_not j h)
@@ -122,14 +114,14 @@ module _ {V : Type 0} (roles : List (Name × V)) where
       further : IsNext marks ms j → IsNext marks (m ∷ ms) j
       further n = record { m = n.m; among = (suc n.among.0, omega (arith, n.among.1), n.among.2); member = n.member; group = n.group; at = n.at }
 
-      go : (next_group roles marks ms ≡ Some j → IsNext marks ms j) → (s t : Bool) → is_marked roles marks m.member ≡ s → is_marked roles marks m.group ≡ t → cond (s && not t) (place_named m.group roles) (next_group roles marks ms) ≡ Some j → IsNext marks (m ∷ ms) j
+      go : (next_group roles marks ms ≡ Some j → IsNext marks ms j) → (s t : Bool) → is_marked roles marks m.member ≡ s → is_marked roles marks m.group ≡ t → cond (s && not t) (index_named m.group roles) (next_group roles marks ms) ≡ Some j → IsNext marks (m ∷ ms) j
       go more true false x y h = record { m = m; among = (0, omega arith, refl); member = x; group = y; at = h }
       go more true true x y h = further (more h)
       go more false t x y h = further (more h)
 
   module _ (marks : List Bool) (ms : List Membership) (j : ℕ) (next : next_group roles marks ms ≡ Some j) where
     pub next_within : j < length roles
-    next_within = let n = next_is marks ms j next in place_within n.m.group j n.at
+    next_within = let n = next_is marks ms j next in index_within n.m.group j n.at
 
     pub next_sound : (r : Name) → IsSound ms r marks → IsSound ms r (set marks j true)
     next_sound r sound =
@@ -162,7 +154,7 @@ module _ {V : Type 0} (roles : List (Name × V)) where
       go false t o some h = ((λ e. false_is_not e), h)
 
       here : (is_marked roles marks n.member ≡ true → is_marked roles marks n.group ≡ true) × (next_group roles marks ms ≡ None)
-      here = go (is_marked roles marks n.member) (is_marked roles marks n.group) (place_named n.group roles) (and_parts (is_some (place_named n.member roles)) (is_some (place_named n.group roles)) both.0).1 none
+      here = go (is_marked roles marks n.member) (is_marked roles marks n.group) (index_named n.group roles) (and_parts (is_some (index_named n.member roles)) (is_some (index_named n.group roles)) both.0).1 none
 
       by : (next_group roles marks ms ≡ None → list_all (is_of_roles roles) ms ≡ true → Contains ms m → is_marked roles marks m.group ≡ true) → Contains (n ∷ ms) m → is_marked roles marks m.group ≡ true
       by more (zero, below, is) = subst (λ (p : Membership). is_marked roles marks p.group ≡ true) is (here.0 (subst (λ (p : Membership). is_marked roles marks p.member ≡ true) (sym is) marked))
@@ -174,20 +166,20 @@ module _ {V : Type 0} (roles : List (Name × V)) where
     on_path marks none (m ∷ path) r s lead h =
         on_path marks none path m.group s lead.2 (closed marks ms none known m lead.0 (subst (λ t. is_marked roles marks t ≡ true) lead.1 h))
 
-    -- the marks are what is reached
+    -- the marks are those of the reached roles
     pub all_marked : (marks : List Bool) (r s : Name) → IsSound ms r marks → is_marked roles marks r ≡ true → next_group roles marks ms ≡ None → is_marked roles marks s ≡ belongs_by ms r s
     all_marked marks r s sound start none =
         both_ways _ _ (sound s) (λ there. let found = reached ms r s there in on_path marks none found.0 r s found.1 start)
 
-    member_known : (all : List Membership) (m : Membership) → list_all (is_of_roles roles) all ≡ true → Contains all m → is_some (place_named m.member roles) ≡ true
+    member_known : (all : List Membership) (m : Membership) → list_all (is_of_roles roles) all ≡ true → Contains all m → is_some (index_named m.member roles) ≡ true
     member_known [] m known h = absurd (omega (arith, h.1))
-    member_known (n ∷ all) m known (zero, below, is) = subst (λ (p : Membership). is_some (place_named p.member roles) ≡ true) is (and_parts _ _ (and_parts _ _ known).0).0
+    member_known (n ∷ all) m known (zero, below, is) = subst (λ (p : Membership). is_some (index_named p.member roles) ≡ true) is (and_parts _ _ (and_parts _ _ known).0).0
     member_known (n ∷ all) m known (suc k, below, is) = member_known all m (and_parts _ _ known).1 (k, omega (arith, below), is)
 
-    -- what is no role reaches itself alone
-    pub no_role : (r s : Name) → place_named r roles ≡ None → bytes_eq r s ≡ belongs_by ms r s
+    -- a name that is no role reaches itself alone
+    pub no_role : (r s : Name) → index_named r roles ≡ None → bytes_eq r s ≡ belongs_by ms r s
     no_role r s none = both_ways _ _ (λ same. subst (λ t. belongs_by ms r t ≡ true) (text_same r s same) (itself ms r)) (λ there. let found = reached ms r s there in by found.0 found.1)
       where
         by : (path : List Membership) → Leads ms r s path → bytes_eq r s ≡ true
         by [] lead = same_text r s lead
-        by (m ∷ path) lead = false_is_not (sym (ap is_some (sym (ap (λ n. place_named n roles) lead.1) ∙ none)) ∙ member_known ms m known lead.0)
+        by (m ∷ path) lead = false_is_not (sym (ap is_some (sym (ap (λ n. index_named n roles) lead.1) ∙ none)) ∙ member_known ms m known lead.0)

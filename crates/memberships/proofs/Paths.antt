@@ -3,7 +3,7 @@ use Rattle.std.proofs.Common.{◌≡◌, zero, suc, true, List, [], ◌∷◌, �
 use Rattle.std.proofs.lemmas.Bool.{and_parts, or_cases, or_left, or_right, and_from}
 use Rattle.std.proofs.lemmas.Bool.Decides.{Decides-eqb}
 use Rattle.std.proofs.lemmas.Slice.Eq.{slice_eq-Decides}
-use Rattle.row_ast.specs.Ast.{Name}
+use Rattle.value.specs.Names.{Name}
 use Rattle.memberships.specs.Memberships.{Membership, belongs_by, Leads}
 
 pub text_same : (r s : Name) → bytes_eq r s ≡ true → r ≡ s
@@ -58,6 +58,6 @@ pub reached : (ms : List Membership) (r s : Name) → IsTrue (belongs_by ms r s)
 reached [] r s h = ([], text_same r s h)
 reached (m ∷ ms) r s h = ⊎_elim
     (λ a. let found = reached ms r s a in (found.0, leads_more m ms found.0 r s found.1))
-    (λ a. let front = reached ms r m.member a.0 in let back = reached ms m.group s a.1 in
-    (front.0 ++ (m ∷ back.0), leads_on (m ∷ ms) front.0 (m ∷ back.0) r m.member s (leads_more m ms front.0 r m.member front.1) ((0, omega arith, refl), refl, leads_more m ms back.0 m.group s back.1)))
+    (λ a. let prefix = reached ms r m.member a.0 in let back = reached ms m.group s a.1 in
+    (prefix.0 ++ (m ∷ back.0), leads_on (m ∷ ms) prefix.0 (m ∷ back.0) r m.member s (leads_more m ms prefix.0 r m.member prefix.1) ((0, omega arith, refl), refl, leads_more m ms back.0 m.group s back.1)))
     (ways m ms r s h)

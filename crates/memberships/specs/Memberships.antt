@@ -1,8 +1,8 @@
--- Who belongs to whom, and the set of memberships.
+-- The roles that a role belongs to, and the set of memberships.
 use Rattle.std.specs.Prelude.{◌≡◌, ℕ, Bool, not, ◌&&◌, ◌||◌, List, [], ◌∷◌, ◌++◌, Contains, filter, if◌then◌else◌}
 use Rattle.std.specs.Str.{bytes_eq}
 use Rattle.std.specs.List.{list_any}
-use Rattle.row_ast.specs.Ast.{Name}
+use Rattle.value.specs.Names.{Name}
 
 -- the most roles of a catalogue
 abbrev pub most_roles : ℕ

@@ -1,7 +1,7 @@
--- The roles that are marked as reached, by their places.
+-- The roles that are marked as reached, by their indices.
 use Rattle.std.specs.Prelude.{ℕ, Bool, false, not, ◌&&◌, List, [], ◌∷◌, Option, Some, None, is_some, if◌then◌else◌, get_or}
-use Rattle.row_ast.specs.Ast.{Name}
-use Rattle.memberships.specs.Named.{place_named}
+use Rattle.value.specs.Names.{Name}
+use Rattle.named.specs.Named.{index_named}
 use Rattle.memberships.specs.Memberships.{Membership}
 
 abbrev pub mark_at : List Bool → Option ℕ → Bool
@@ -10,13 +10,13 @@ mark_at marks (Some i) = get_or marks i false
 
 module _ {V : Type 0} (roles : List (Name × V)) where
   abbrev pub is_marked : List Bool → Name → Bool
-  is_marked marks name = mark_at marks (place_named name roles)
+  is_marked marks name = mark_at marks (index_named name roles)
 
-  -- the place of the first group that is not marked and has a member that is
+  -- the index of the first group that is not marked and has a member that is
   abbrev pub next_group : List Bool → List Membership → Option ℕ
   next_group marks [] = None
-  next_group marks (m ∷ ms) = if is_marked marks m.member && not (is_marked marks m.group) then place_named m.group roles else next_group marks ms
+  next_group marks (m ∷ ms) = if is_marked marks m.member && not (is_marked marks m.group) then index_named m.group roles else next_group marks ms
 
   -- both are roles
   abbrev pub is_of_roles : Membership → Bool
-  is_of_roles m = is_some (place_named m.member roles) && is_some (place_named m.group roles)
+  is_of_roles m = is_some (index_named m.member roles) && is_some (index_named m.group roles)

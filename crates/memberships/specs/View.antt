@@ -1,4 +1,4 @@
--- What a membership of the program is.
+-- The views of the Rust type of memberships as spec data.
 use Rattle.memberships.specs.declared.memberships.Membership as declared
 use Rattle.memberships.specs.Memberships.{Membership}
 

@@ -1,17 +1,16 @@
-//! Who belongs to whom (PostgreSQL: Role Membership).
+//! The memberships of roles (PostgreSQL: Role Membership).
 
 ghost use Rattle.std.specs.Prelude.{◌≡◌, ◌≤◌, ◌++◌, ◌∷◌, Contains, IsTrue, List, OnErr, OnOk, [], false, length, map, true};
 ghost use Rattle.std.specs.List.{list_all, list_any};
-ghost use Rattle.row_ast.specs.Ast.{Name};
+ghost use Rattle.value.specs.Names.{Name};
 ghost use Rattle.memberships.specs.Memberships as spec;
 ghost use Rattle.memberships.specs.Memberships.{belongs_by, closes_loop, is_membership, most_roles, with_membership, without_membership, Leads, HasNoLoop};
 ghost use Rattle.memberships.specs.Reached.{is_marked, is_of_roles, next_group};
 ghost use Rattle.memberships.specs.View.{membership_of};
 
-use crate::by_name::ByName;
-use memory::Heap;
+use memory::{Heap, Text};
+use named::ByName;
 use std::alloc::AllocError;
-use text::Text;
 
 /// A member, and the group whose rights it has (PostgreSQL: Role Membership).
 #[derive(Drop)]
@@ -29,13 +28,13 @@ fn is_marked<V, A: Heap>(roles: &ByName<V, A>, marks: &[bool], name: &str) -> bo
     requires { length roles.now ≤ length marks.now }
     ensures { result ≡ is_marked roles.now marks.now name.now }
 {
-    match roles.place(name) {
+    match roles.index(name) {
         Some(i) => marks[i],
         None => false,
     }
 }
 
-// The place of a group that is not marked and has a member that is.
+// The index of a group that is not marked and has a member that is.
 fn next_group<V, A: Heap>(
     roles: &ByName<V, A>,
     memberships: &[Membership<A>],
@@ -48,14 +47,14 @@ fn next_group<V, A: Heap>(
         if is_marked(roles, marks, m.member.as_str())
             && !is_marked(roles, marks, m.group.as_str())
         {
-            return roles.place(m.group.as_str());
+            return roles.index(m.group.as_str());
         }
     }
     None
 }
 
-/// Whether r is s, or finitely many memberships lead from r to s. Marks the roles that are reached until no membership
-/// leads to a further one: as many look-ups as there are memberships, for each role that is reached.
+/// True where r is s, or finitely many memberships lead from r to s. Marks the roles that are reached until no
+/// membership leads to a further one: as many look-ups as there are memberships, for each role that is reached.
 pub fn belongs_by<V, A: Heap>(
     roles: &ByName<V, A>,
     memberships: &[Membership<A>],
@@ -66,7 +65,7 @@ pub fn belongs_by<V, A: Heap>(
     requires known { list_all (is_of_roles roles.now) (map (λ m. membership_of m) memberships.now) ≡ true }
     ensures { result ≡ belongs_by (map (λ m. membership_of m) memberships.now) r.now s.now }
 {
-    let Some(start) = roles.place(r) else {
+    let Some(start) = roles.index(r) else {
         return r == s;
     };
     let mut marks = [false; MOST_ROLES];
@@ -77,7 +76,8 @@ pub fn belongs_by<V, A: Heap>(
     is_marked(roles, &marks, s)
 }
 
-/// Whether a grant of the group to the member would make a role belong to itself: whether the group belongs to the member.
+/// True where a grant of the group to the member would make a role belong to itself: where the group belongs to the
+/// member.
 pub fn closes_loop<V, A: Heap>(
     roles: &ByName<V, A>,
     memberships: &[Membership<A>],
@@ -104,7 +104,7 @@ fn is_there<A: Heap>(memberships: &[Membership<A>], group: &str, member: &str) -
     false
 }
 
-/// One more membership at the end. What is there already stays as it is.
+/// One more membership at the end. One that is there already stays as it is.
 pub fn add_membership<A: Heap>(
     alloc: A,
     memberships: &mut Vec<Membership<A>, A>,

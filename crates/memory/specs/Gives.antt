@@ -1,11 +1,11 @@
--- What a call gives that may run out of memory.
+-- The result of a call that may run out of memory.
 use Rattle.std.specs.Prelude.{◌≡◌, Result, Ok, Err, ⊤}
 use Rattle.memory.specs.declared.failure.Failure.{Failure}
-use Rattle.memory.specs.declared.failure.Failure.TheVariants.{Fault, OutOfMemory}
+use Rattle.memory.specs.declared.failure.Failure.TheVariants.{Error, OutOfMemory}
 
--- the fault is the stated one; out of memory says nothing
+-- the error is the stated one; out of memory says nothing
 abbrev pub IsFailure : {Y E : Type 0} → Failure E → Result Y E → Type 0
-IsFailure (Fault e) stated = stated ≡ Err e
+IsFailure (Error e) stated = stated ≡ Err e
 IsFailure OutOfMemory stated = ⊤
 
 -- the result, seen by view, is the stated one, unless memory ran out

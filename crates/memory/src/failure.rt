@@ -1,4 +1,4 @@
-//! What a call reports that gives no result.
+//! The failures of calls: an error of their own, or out of memory.
 
 ghost use Rattle.std.specs.Prelude.{◌≡◌};
 ghost use Rattle.memory.specs.declared.failure.Failure.TheVariants.{OutOfMemory};
@@ -7,13 +7,13 @@ use std::alloc::{AllocError, AllocFailed};
 use std::fmt::Display;
 use thiserror::Error;
 
-/// A fault of what was asked, or that memory ran out.
+/// An error of the call's own, or that memory ran out.
 #[derive(Clone, Copy, Debug, Drop, Error, PartialEq, Eq)]
 #[error_bound(E: Display)]
 pub enum Failure<E> {
-    /// The fault.
+    /// The call's own error.
     #[error("{0}")]
-    Fault(E),
+    Error(E),
     /// A growth of memory was refused.
     #[error("out of memory")]
     OutOfMemory,

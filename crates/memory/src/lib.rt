@@ -1,8 +1,11 @@
-//! The allocators that every type of this repository takes, and one word for running out of memory.
+//! The allocators that every type of this repository takes, texts and lists that a contract sees without their memory, and
+//! one word for running out of memory.
 #![tactic(auto)]
 
 mod failure;
 mod heap;
+mod text;
 
 pub use failure::Failure;
 pub use heap::{Heap, boxed};
+pub use text::{Items, Text};

@@ -1,4 +1,4 @@
--- The call of `refuses`: what it takes of its caller, and what it leaves. Assumes `Logic`.
+-- The call of `refuses`: its premises, and its effect. Assumes `Logic`.
 use Rattle.std.proofs.Common.{◌≡◌, ℕ, Bool, List, [], ◌∷◌, refl, ap}
 use seplogic.Ra.Ura.{Ura}
 use mir.Val.{Val, vbool, vptr}
@@ -31,7 +31,7 @@ module _ {M : Type 1} {𝓤 : Ura M} (𝓛 : Logic 𝓤) (at_mem : Memory → SP
     abbrev pub asked : Asks.Ghost
     asked = (((κ, tt), (q, tt), tt, (record { ref_ptr = c; now = record { value = tt } }, tt), (vptr c.0 c.1 ∷ [], tt)), tt)
 
-    -- what a caller knows of the answer, and what it has again
+    -- the answer as a caller knows it, and the lifetime that it has again
     abbrev pub Told : Val → Bool → SProp 𝓤
     Told v refused = guard 𝓤 (v ≡ vbool refused) (A.lft κ q)
 

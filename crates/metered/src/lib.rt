@@ -8,7 +8,7 @@ use std::cell::Cell;
 /// An allocator over another one, which refuses one request and passes the others on.
 pub struct Metered<B: Allocator> {
     inner: B,
-    // How many requests are left up to the refused one, with that one. Past it the count wraps.
+    // The number of requests left up to the refused one, with that one. Past it the count wraps.
     left: Cell<u64>,
 }
 
@@ -26,7 +26,7 @@ impl<B: Allocator> Metered<B> {
         Metered::refusing(inner, 0)
     }
 
-    /// How many requests there were, of an allocator that was made with `nth`.
+    /// The number of requests so far, of an allocator that was made with `nth`.
     pub fn requests(&self, nth: u64) -> u64 {
         nth.wrapping_sub(self.left.get())
     }
@@ -38,7 +38,7 @@ impl<B: Allocator> Drop for Metered<B> {
     }
 }
 
-// Counts a request, and says whether it is the one to refuse.
+// Counts a request, and tests whether it is the one to refuse.
 fn refuses(left: &Cell<u64>) -> bool {
     let before = left.get();
     left.set(before.wrapping_sub(1));

@@ -1,4 +1,3 @@
-pub mod Standing
-pub mod Pruning
 pub mod Nesting
+pub mod Pruning
 pub mod Walks

@@ -1,4 +1,2 @@
-pub mod Combinations
-pub mod World
-pub mod View
 pub mod Pushdown
+pub mod View

@@ -1,4 +1,4 @@
--- What the replies of the program are.
+-- The views of the Rust type of replies as spec data.
 use Rattle.std.specs.Prelude.{map}
 use Rattle.value.specs.Datum.{row_of}
 use Rattle.replies.specs.Reply.{Reply, Refused, Denied, Faulted, Rows}

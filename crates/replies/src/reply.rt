@@ -2,8 +2,7 @@
 
 ghost use Rattle.replies.specs.ReplyText.{NullFieldIsNull};
 
-use memory::Heap;
-use text::{Items, Text};
+use memory::{Heap, Items, Text};
 use value::{Fault, Refusal, Value};
 
 /// The reply to a role's text.
@@ -11,21 +10,21 @@ use value::{Fault, Refusal, Value};
 pub enum Reply<A: Heap> {
     /// The text is refused.
     Refused {
-        /// Why.
+        /// The reason.
         code: Refusal,
-        /// The byte of the text where it is refused, from 0, if it is refused at a byte.
+        /// The offset in the text, if it is refused at one.
         offset: Option<u32>,
     },
     /// A privilege is missing (42501).
     Denied {
-        /// The column on which SELECT is missing, or none where it is missing on every part of the table.
+        /// The column that SELECT is missing on, or none if it is missing on every part of the table.
         column: Option<Text<A>>,
         /// The table.
         table: Text<A>,
     },
     /// The evaluation of an expression failed.
     Faulted {
-        /// Where, and by what.
+        /// The fault.
         fault: Fault,
     },
     /// The rows of the answer.

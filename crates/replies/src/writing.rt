@@ -7,11 +7,11 @@ ghost use Rattle.replies.specs.Reply.{Refused as refused, Denied as denied, Faul
 ghost use Rattle.replies.specs.ReplyText.{is_special, needs_quotes, quoted_text, field_text, line_text, offset_text, column_text, reply_text};
 ghost use Rattle.replies.specs.View.{reply_of};
 
+use crate::lines::{push_number, push_str};
 use crate::reply::Reply;
 use itoa::Buffer;
-use memory::Heap;
+use memory::{Heap, Items, Text};
 use std::alloc::AllocError;
-use text::{Items, Text};
 use value::{Fault, Refusal, Value};
 
 fn special(b: u8) -> bool
@@ -116,19 +116,12 @@ fn push_rows<A: Heap>(out: &mut Vec<u8, A>, rows: &[Items<Value<A>, A>]) -> Resu
     Ok(())
 }
 
-fn push_str<A: Heap>(out: &mut Vec<u8, A>, text: &str) -> Result<(), AllocError>
-    ensures { OnOk result (out.new.items ≡ out.old.items ++ text.now) }
-{
-    out.extend_from_slice(text.as_bytes())
-}
-
 fn push_offset<A: Heap>(out: &mut Vec<u8, A>, offset: Option<u32>) -> Result<(), AllocError>
     ensures { OnOk result (out.new.items ≡ out.old.items ++ offset_text offset) }
 {
     if let Some(offset) = offset {
         push_str(out, " at ")?;
-        let mut buffer = Buffer::new();
-        push_str(out, buffer.format(offset))?;
+        push_number(out, offset as u64)?;
     }
     Ok(())
 }

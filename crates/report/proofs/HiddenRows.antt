@@ -5,23 +5,24 @@ use Rattle.bags.specs.Least.{least}
 use Rattle.bags.proofs.Bags.{SameSums-filter}
 use Rattle.value.specs.Datum.{Row}
 use Rattle.value.specs.declared.faults.Fault.{Fault}
-use Rattle.row_ast.specs.Ast.{Name}
+use Rattle.value.specs.Names.{Name}
 use Rattle.expr.specs.Movable.{movable}
 use Rattle.eval.specs.Laws.{AgreeOn}
 use Rattle.eval.specs.Meaning.{◌>>=◌}
 use Rattle.stages.specs.Stages.{fault_cmp, fault_in, given_in, gives, gives_if, stage, unless_fault}
 use Rattle.groups.proofs.SameGroups.{map-map}
-use Rattle.scope.specs.BoundQuery.{BoundQuery}
-use Rattle.query_parts.specs.Conjuncts.{conjuncts, fragile, fragile_conjuncts, movable_conjuncts}
-use Rattle.operators.specs.Combinations.{Combination, combinations, joined_cells, all_hold, passing}
-use Rattle.query_stages.specs.QueryStages.{keeps, where_fate, where_stage, items_fate, arguments_fate, rows_of_members}
+use Rattle.expr.specs.BoundQuery.{BoundQuery}
+use Rattle.expr.specs.Conjuncts.{conjuncts, fragile, fragile_conjuncts, movable_conjuncts}
+use Rattle.expr.specs.NamedColumns.{named_columns}
+use Rattle.tuples.specs.Combinations.{Combination, combinations, joined_cells, all_hold, passing}
+use Rattle.report.specs.QueryStages.{keeps, where_fate, where_stage, items_fate, arguments_fate, rows_of_members}
 use Rattle.report.specs.Answer.{rows_of, in_order, rows_of_kept, answer, answer_over}
-use Rattle.report.specs.Restricted.{named_columns, SeesSame}
+use Rattle.report.specs.Restricted.{SeesSame}
 use Rattle.report.proofs.NamedColumns.{agree_items, agree_conjuncts, agree_some, same_all_hold, same_keeps, same_values, same_member}
 use Rattle.report.proofs.Restricting.{each_row, each_table, combinations_of_each, to_named, named_kept}
 use Rattle.report.proofs.SameCombinations.{same_bag_answer, same_combinations}
 
--- ---- a stage that keeps some of what a function changes
+-- ---- a stage that keeps some of the values that a function changes
 
 module _ {X Y : Type 0} (g : X → Y) (test : X → Result Bool Fault) where
   module _ (x : X) (xs : List X) where
@@ -64,7 +65,7 @@ filter-map p f h (x ∷ xs) =
     ∙ elim (p x) as (λ b. cond b (f x ∷ filter p (map f xs)) (filter p (map f xs)) ≡ map f (cond b (x ∷ filter p xs) (filter p xs)))
     [ true ↦ ap (λ l. f x ∷ l) (filter-map p f h xs) | false ↦ filter-map p f h xs ]
 
--- what is the same of each is the same of all
+-- a value that is the same of each is the same of all
 same_of_each : {X Y : Type 0} (f : X → Y) (g : X → X) → ((x : X) → f (g x) ≡ f x) → (xs : List X) → map f (map g xs) ≡ map f xs
 same_of_each f g h xs = map-map f g xs ∙ (λ i. map (λ x. h x i) xs)
 

@@ -1,9 +1,9 @@
--- What is evaluated depends only on the columns that the query names.
+-- Evaluation depends only on the columns that the query names.
 use Rattle.std.proofs.Common.{◌≡◌, Bool, true, false, ◌&&◌, cond, List, [], ◌∷◌, ◌++◌, filter, option_to_list, refl, sym, ap, ap₂, ◌∙◌, append-nil, subst, arith, Option, Some, None, Contains, ◌⊎◌, inl, inr}
 use Rattle.std.specs.List.{flat_map, list_all}
 use Rattle.std.proofs.lemmas.Grind.{flat_map-append}
 use Rattle.std.proofs.lemmas.List.Elements.{Contains-append_cases}
-use Rattle.row_ast.specs.Ast.{Name}
+use Rattle.value.specs.Names.{Name}
 use Rattle.expr.specs.declared.bound.ColumnId.{ColumnId}
 use Rattle.expr.specs.Bound as bound
 use Rattle.expr.specs.Bound.{BoundExpr, BoundExprs, BoundArms, BoundOtherwise}
@@ -14,10 +14,10 @@ use Rattle.eval.specs.Laws.{AgreeOn}
 use Rattle.eval.proofs.Agreement.{agree_left, agree_right, same_meaning, same_holds}
 use Rattle.stages.specs.Stages.{first_then}
 use Rattle.groups.specs.Members.{argument, arguments, key_on, with_key, member_on}
-use Rattle.scope.specs.BoundQuery.{BoundItem, BoundQuery}
-use Rattle.query_parts.specs.Conjuncts.{members, conjuncts_of, conjuncts_in, conjuncts}
-use Rattle.query_stages.specs.QueryStages.{truth_in, unless_dropped, keeps, values_of, item_aggregates, query_aggregates}
-use Rattle.report.specs.Restricted.{item_columns, condition_columns, named_columns}
+use Rattle.expr.specs.BoundQuery.{BoundItem, BoundQuery}
+use Rattle.expr.specs.Conjuncts.{members, conjuncts_of, conjuncts_in, conjuncts}
+use Rattle.expr.specs.NamedColumns.{item_columns, condition_columns, named_columns}
+use Rattle.report.specs.QueryStages.{truth_in, unless_dropped, keeps, values_of, item_aggregates, query_aggregates}
 
 -- ---- the columns of conjuncts
 
@@ -54,7 +54,7 @@ ons_conjuncts (on ∷ ons) = flat_map-append columns (conjuncts_in on) (flat_map
 query_conjuncts : (q : BoundQuery) → flat_map columns (conjuncts q) ≡ flat_map condition_columns q.ons ++ condition_columns q.filter
 query_conjuncts q = flat_map-append columns (flat_map conjuncts_in q.ons) (conjuncts_in q.filter) ∙ ap₂ ◌++◌ (ons_conjuncts q.ons) (condition_conjuncts q.filter)
 
--- ---- what is evaluated on cells that are the same in the columns that are named
+-- ---- evaluation on cells that are the same in the columns that are named
 
 module _ (one other : Cells) where
   agree_none : (ids : List ColumnId) → AgreeOn ids one other → AgreeOn [] one other
@@ -164,7 +164,7 @@ module _ (one other : Cells) where
       agree_both (flat_map item_aggregates q.items) (flat_map aggregates (option_to_list q.having)) (in_items q.items (agree_items q h))
       (in_condition q.having (agree_right one other q.group_by (condition_columns q.having) (agree_groups q h)))
 
-  -- ---- what is the same
+  -- ---- equal outcomes
 
   same_key : (ids : List ColumnId) → AgreeOn ids one other → key_on one ids ≡ key_on other ids
   same_key [] h = refl

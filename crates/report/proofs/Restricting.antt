@@ -7,22 +7,23 @@ use Rattle.value.specs.Datum.{Row}
 use Rattle.expr.specs.declared.bound.ColumnId.{ColumnId}
 use Rattle.eval.specs.Laws.{AgreeOn}
 use Rattle.groups.proofs.SameGroups.{map-map}
-use Rattle.scope.specs.BoundQuery.{BoundQuery}
-use Rattle.access.specs.Access.{cell}
-use Rattle.operators.specs.Combinations.{Combination, combinations, joined_cells}
-use Rattle.report.specs.Restricted.{kept_from, restricted, named_columns, named_in}
+use Rattle.expr.specs.BoundQuery.{BoundQuery}
+use Rattle.tuples.specs.Rows.{cell}
+use Rattle.tuples.specs.Combinations.{Combination, combinations, joined_cells}
+use Rattle.expr.specs.NamedColumns.{named_columns}
+use Rattle.report.specs.Restricted.{kept_from, restricted, named_in}
 
 -- ---- a column that is kept is as it was
 
-cell_kept : (i : ℕ) (places : List ℕ) (row : Row) (k : ℕ) → list_any (λ c. c == (i + k)) places ≡ true → cell (kept_from i places row) k ≡ cell row k
-cell_kept i places [] k here = refl
-cell_kept i places (d ∷ ds) zero here = rw (rw add-zero at here)
-cell_kept i places (d ∷ ds) (suc k) here =
+cell_kept : (i : ℕ) (slots : List ℕ) (row : Row) (k : ℕ) → list_any (λ c. c == (i + k)) slots ≡ true → cell (kept_from i slots row) k ≡ cell row k
+cell_kept i slots [] k here = refl
+cell_kept i slots (d ∷ ds) zero here = rw (rw add-zero at here)
+cell_kept i slots (d ∷ ds) (suc k) here =
     let e : i + suc k ≡ i + 1 + k = omega arith in
-    cell_kept (i + 1) places ds k (subst (λ n. list_any (λ c. c == n) places ≡ true) e here)
+    cell_kept (i + 1) slots ds k (subst (λ n. list_any (λ c. c == n) slots ≡ true) e here)
 
-pub cell_of_restricted : (places : List ℕ) (row : Row) (k : ℕ) → list_any (λ c. c == k) places ≡ true → cell (restricted places row) k ≡ cell row k
-cell_of_restricted places row k here = cell_kept 0 places row k (rw zero-add here)
+pub cell_of_restricted : (slots : List ℕ) (row : Row) (k : ℕ) → list_any (λ c. c == k) slots ≡ true → cell (restricted slots row) k ≡ cell row k
+cell_of_restricted slots row k here = cell_kept 0 slots row k (rw zero-add here)
 
 itself : (k : ℕ) → (k == k) ≡ true
 itself k = grind (arith, nat_tests)
@@ -31,7 +32,7 @@ or_later : (a b : Bool) → b ≡ true → (a || b) ≡ true
 or_later true b h = refl
 or_later false b h = h
 
--- the place of a column is among those of the columns of its entry
+-- the index of a column is among those of the columns of its entry
 pub place_among : (ids : List ColumnId) (id : ColumnId) → Contains ids id → list_any (λ c. c == id.column) (map (λ x. x.column) (filter (λ x. x.entry == id.entry) ids)) ≡ true
 place_among [] id c = absurd (none c)
   where
@@ -45,7 +46,7 @@ place_among (x ∷ ids) id (suc k, less, is) = past (x.entry == id.entry) (place
     past true h = or_later (x.column == id.column) _ h
     past false h = h
 
--- ---- the row of each entry, changed by a function of the entry's number
+-- ---- the row of each entry, changed by a function of the entry's index
 
 abbrev pub each_row : (ℕ → Row → Row) → Combination → Combination
 each_row f [] = []
@@ -82,7 +83,7 @@ combinations_of_each f (rows ∷ tables) =
 abbrev pub to_named : BoundQuery → ℕ → Row → Row
 to_named q entry = restricted (named_in q entry)
 
--- what the query names of a combination is as it was
+-- the columns that the query names of a combination are as they were
 pub named_kept : (q : BoundQuery) (these : Combination) → AgreeOn (named_columns q) (joined_cells (each_row (to_named q) these)) (joined_cells these)
 named_kept q these = record {
   columns = λ id within. cell_of_each (to_named q) these id.entry id.column (λ row. cell_of_restricted (named_in q id.entry) row id.column (place_among (named_columns q) id within));

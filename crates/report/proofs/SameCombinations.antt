@@ -3,16 +3,16 @@ use Rattle.std.proofs.Common.{◌≡◌, ℕ, suc, Bool, true, false, List, [], 
 use Rattle.bags.proofs.Order.{SameSums, SameSums-IsPermutation}
 use Rattle.bags.proofs.Bags.{SameSums-map, SameSums-flat_map}
 use Rattle.value.specs.Datum.{Row}
-use Rattle.row_ast.specs.Ast.{Name}
+use Rattle.value.specs.Names.{Name}
 use Rattle.eval.specs.Meaning.{◌>>=◌}
 use Rattle.stages.proofs.SameStage.{alike_stage, alike_next}
 use Rattle.groups.specs.Members.{Member}
 use Rattle.groups.proofs.SameGroups.{same_group_rows}
-use Rattle.scope.specs.BoundQuery.{BoundQuery}
-use Rattle.operators.specs.Combinations.{Combination, combinations}
-use Rattle.query_stages.specs.QueryStages.{query_aggregates, where_fate, where_stage, items_fate, items_stage, arguments_fate, arguments_stage, sums_stage, rows_of_group_rows, rows_of_members, rows_of_groups}
+use Rattle.expr.specs.BoundQuery.{BoundQuery}
+use Rattle.tuples.specs.Combinations.{Combination, combinations}
+use Rattle.report.specs.QueryStages.{query_aggregates, where_fate, where_stage, items_fate, items_stage, arguments_fate, arguments_stage, sums_stage, rows_of_group_rows, rows_of_members, rows_of_groups}
 use Rattle.report.specs.Answer.{rows_of, in_order, rows_of_kept, answer}
-use Rattle.output_order.proofs.OutputOrder.{same_ordered}
+use Rattle.report.proofs.OutputOrder.{same_ordered}
 use Rattle.report.proofs.Restricting.{each_table}
 
 module _ (role : Name) (q : BoundQuery) where

@@ -1,14 +1,14 @@
--- What a query answers over the combinations that pass its movable conjuncts.
+-- The answer of a query over the combinations that pass its movable conjuncts.
 use Rattle.std.specs.Prelude.{Bool, true, false, List, Result, Ok}
 use Rattle.value.specs.Datum.{Row}
 use Rattle.value.specs.declared.faults.Fault.{Fault}
-use Rattle.row_ast.specs.Ast.{Name}
+use Rattle.value.specs.Names.{Name}
 use Rattle.eval.specs.Meaning.{◌>>=◌}
-use Rattle.scope.specs.BoundQuery.{BoundQuery}
-use Rattle.query_parts.specs.Conjuncts.{movable_conjuncts}
-use Rattle.operators.specs.Combinations.{Combination, combinations, passing}
-use Rattle.output_order.specs.Ordered.{ordered}
-use Rattle.query_stages.specs.QueryStages.{where_stage, items_stage, rows_of_groups}
+use Rattle.expr.specs.BoundQuery.{BoundQuery}
+use Rattle.expr.specs.Conjuncts.{movable_conjuncts}
+use Rattle.tuples.specs.Combinations.{Combination, combinations, passing}
+use Rattle.report.specs.Ordered.{ordered}
+use Rattle.report.specs.QueryStages.{where_stage, items_stage, rows_of_groups}
 
 module _ (role : Name) (q : BoundQuery) where
   -- of groups, or of each combination by itself

@@ -1,2 +1,4 @@
 pub mod Answer
+pub mod Ordered
+pub mod QueryStages
 pub mod Restricted

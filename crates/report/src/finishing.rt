@@ -3,19 +3,19 @@
 ghost use Rattle.std.specs.Prelude.{List, map, IsPermutation};
 ghost use Rattle.memory.specs.Gives.{Gives};
 ghost use Rattle.value.specs.Datum.{row_of};
-ghost use Rattle.operators.specs.Combinations.{Combination};
-ghost use Rattle.operators.specs.View.{world_of};
-ghost use Rattle.operators.specs.World.{seen_tables, stands_for};
+ghost use Rattle.tuples.specs.Combinations.{Combination};
+ghost use Rattle.tuples.specs.View.{world_of};
+ghost use Rattle.tuples.specs.World.{seen_tables, combination_at};
 ghost use Rattle.report.specs.Answer as spec;
 ghost use Rattle.report.specs.Answer.{answer, answer_over};
 
-use combo::Combo;
-use memory::{Failure, Heap};
-use operators::{World, run_nested};
-use output_order::ordered;
-use query_parts::fragile_conjuncts;
-use query_stages::{items_stage, rows_of_groups, where_stage};
-use text::Items;
+use crate::grouped::rows_of_groups;
+use crate::ordering::ordered;
+use crate::ungrouped::{items_stage, where_stage};
+use expr::fragile_conjuncts;
+use memory::{Failure, Heap, Items};
+use operators::run_nested;
+use tuples::{Combo, World};
 use value::{Fault, Value};
 
 // The rows of groups, or of each combination by itself.
@@ -25,7 +25,7 @@ fn rows_of<A: Heap>(
     combos: &[&Combo<A>],
 ) -> Result<Items<Items<Value<A>, A>, A>, Failure<Fault>>
     ensures { Gives (λ rows. map (λ r. row_of r) rows) result
-        (spec.rows_of world.now.role.now (world_of world.now).query (world_of world.now).query.is_grouped (map (λ c. stands_for (world_of world.now).tables c.now) combos.now)) }
+        (spec.rows_of world.now.role.now (world_of world.now).query (world_of world.now).query.is_grouped (map (λ c. combination_at (world_of world.now).tables c.now) combos.now)) }
 {
     if world.query.is_grouped {
         rows_of_groups(alloc, world, combos)
@@ -41,7 +41,7 @@ fn rows_of_kept<A: Heap>(
     combos: &[&Combo<A>],
 ) -> Result<Items<Items<Value<A>, A>, A>, Failure<Fault>>
     ensures { Gives (λ rows. map (λ r. row_of r) rows) result
-        (spec.rows_of_kept world.now.role.now (world_of world.now).query (map (λ c. stands_for (world_of world.now).tables c.now) combos.now)) }
+        (spec.rows_of_kept world.now.role.now (world_of world.now).query (map (λ c. combination_at (world_of world.now).tables c.now) combos.now)) }
 {
     match rows_of(alloc, world, combos) {
         Ok(rows) => Ok(ordered(
@@ -61,21 +61,21 @@ fn finish_list<A: Heap>(
     combos: &[Combo<A>],
 ) -> Result<Items<Items<Value<A>, A>, A>, Failure<Fault>>
     ensures { Gives (λ rows. map (λ r. row_of r) rows) result
-        (answer world.now.role.now (world_of world.now).query (map (stands_for (world_of world.now).tables) combos.now)) }
+        (answer world.now.role.now (world_of world.now).query (map (combination_at (world_of world.now).tables) combos.now)) }
 {
     let conditions = fragile_conjuncts(alloc, world.query)?;
     let these = where_stage(alloc, world, &conditions, combos)?;
     rows_of_kept(alloc, world, these.as_slice())
 }
 
-/// The answer over combinations on which every movable conjunct is true, in whichever order: its rows in order, or the least
+/// The answer over combinations on which every movable conjunct is true, in any order: its rows in order, or the least
 /// fault of the first stage in which one faults.
 pub fn finish<A: Heap>(
     alloc: A,
     world: &World<'_, A>,
     combos: &[Combo<A>],
 ) -> Result<Items<Items<Value<A>, A>, A>, Failure<Fault>>
-    ensures { (same : List Combination) → IsPermutation (map (stands_for (world_of world.now).tables) combos.now) same →
+    ensures { (same : List Combination) → IsPermutation (map (combination_at (world_of world.now).tables) combos.now) same →
         Gives (λ rows. map (λ r. row_of r) rows) result (answer world.now.role.now (world_of world.now).query same) }
 {
     finish_list(alloc, world, combos)

@@ -1,10 +1,10 @@
-//! What an answer does not depend on.
+//! Laws of answers.
 
 ghost use Rattle.std.specs.Prelude.{◌≡◌, List, IsPermutation};
 ghost use Rattle.value.specs.Datum as value;
-ghost use Rattle.row_ast.specs.Ast.{Name};
-ghost use Rattle.scope.specs.BoundQuery.{BoundQuery};
-ghost use Rattle.operators.specs.Combinations.{Combination};
+ghost use Rattle.value.specs.Names.{Name};
+ghost use Rattle.expr.specs.BoundQuery.{BoundQuery};
+ghost use Rattle.tuples.specs.Combinations.{Combination};
 ghost use Rattle.report.specs.Answer.{answer, answer_over};
 ghost use Rattle.report.specs.Restricted.{SeesSame};
 

@@ -1,8 +1,14 @@
-//! The answer over combinations.
+//! The answer over combinations: the stages of a query, their rows in order and cut by the limit, and the laws of it.
 #![tactic(auto)]
 
 mod finishing;
+mod grouped;
 mod laws;
+mod order_laws;
+mod ordering;
+mod outcomes;
+mod ungrouped;
 
 pub use finishing::{answer_over, finish};
 pub use laws::{law_hidden_rows, law_order_of_combinations};
+pub use order_laws::law_ordered_rows;

@@ -4,15 +4,15 @@ use Rattle.value.specs.Columns.{Column}
 use Rattle.value.specs.declared.operators.Aggregate.{Aggregate}
 use Rattle.value.specs.declared.operators.Aggregate.TheVariants as aggregate
 use Rattle.row_ast.specs.Ast as ast
-use Rattle.row_ast.specs.Ast.{Name}
+use Rattle.value.specs.Names.{Name}
 use Rattle.expr.specs.declared.bound.ColumnId.{ColumnId}
 use Rattle.expr.specs.Bound as bound
 use Rattle.expr.specs.Bound.{BoundExpr}
-use Rattle.scope.specs.declared.fault.NameFault.{NameFault}
-use Rattle.scope.specs.declared.lookup.Reach.{Reach}
+use Rattle.scope.specs.declared.error.BindError.{BindError}
+use Rattle.scope.specs.declared.lookup.Scope.{Scope}
 use Rattle.scope.specs.Entry.{and_then, Entry}
-use Rattle.scope.specs.Lookup.{everywhere, find_column, on_reach}
-use Rattle.scope.specs.BoundQuery.{BoundItem, BoundQuery}
+use Rattle.scope.specs.Lookup.{everywhere, find_column, on_scope}
+use Rattle.expr.specs.BoundQuery.{BoundItem, BoundQuery}
 use Rattle.scope.specs.BoundExprs.{bound_expr}
 use Rattle.typing.specs.Clauses.{is_grouped}
 
@@ -37,62 +37,62 @@ heading_or None e = own_heading e
 
 -- ---- items
 
-abbrev pub bound_item : List Entry → Reach → ast.SelectItem → Result BoundItem NameFault
-bound_item entries reach i = and_then (bound_expr entries reach i.value) (λ e. Ok record { heading = heading_or i.alias i.value; value = e })
+abbrev pub bound_item : List Entry → Scope → ast.SelectItem → Result BoundItem BindError
+bound_item entries scope i = and_then (bound_expr entries scope i.value) (λ e. Ok record { heading = heading_or i.alias i.value; value = e })
 
 -- after those before
-abbrev pub bound_items : List Entry → Reach → List BoundItem → List ast.SelectItem → Result (List BoundItem) NameFault
-bound_items entries reach known [] = Ok known
-bound_items entries reach known (i ∷ more) = and_then (bound_item entries reach i) (λ x. bound_items entries reach (known ++ x ∷ []) more)
+abbrev pub bound_items : List Entry → Scope → List BoundItem → List ast.SelectItem → Result (List BoundItem) BindError
+bound_items entries scope known [] = Ok known
+bound_items entries scope known (i ∷ more) = and_then (bound_item entries scope i) (λ x. bound_items entries scope (known ++ x ∷ []) more)
 
 abbrev pub column_item : Column → ColumnId → BoundItem
 column_item c id = record { heading = c.name; value = bound.Column id }
 
--- the columns of an entry, from that at a place on
+-- the columns of an entry, from an index on
 abbrev pub column_items : (entry column : ℕ) → List Column → List BoundItem
 column_items entry column [] = []
 column_items entry column (c ∷ more) = column_item c (record { entry = entry; column = column }) ∷ column_items entry (column + 1) more
 
--- all columns of all entries, from that of a number on
+-- all columns of all entries, from an index on
 abbrev pub every_item : ℕ → List Entry → List BoundItem
 every_item entry [] = []
 every_item entry (e ∷ more) = column_items entry 0 e.table.columns ++ every_item (entry + 1) more
 
-abbrev pub bound_select : List Entry → Reach → ast.SelectList → Result (List BoundItem) NameFault
-bound_select entries reach (ast.All offset) = Ok (every_item 0 entries)
-bound_select entries reach (ast.Items items) = bound_items entries reach [] items
+abbrev pub bound_select : List Entry → Scope → ast.SelectList → Result (List BoundItem) BindError
+bound_select entries scope (ast.All offset) = Ok (every_item 0 entries)
+bound_select entries scope (ast.Items items) = bound_items entries scope [] items
 
 -- ---- conditions
 
-abbrev pub bound_condition : List Entry → Reach → Option ast.Condition → Result (Option BoundExpr) NameFault
-bound_condition entries reach None = Ok None
-bound_condition entries reach (Some c) = and_then (bound_expr entries reach c.predicate) (λ e. Ok (Some e))
+abbrev pub bound_condition : List Entry → Scope → Option ast.Condition → Result (Option BoundExpr) BindError
+bound_condition entries scope None = Ok None
+bound_condition entries scope (Some c) = and_then (bound_expr entries scope c.predicate) (λ e. Ok (Some e))
 
 -- the ON of each entry, after those before
-abbrev pub bound_ons : List Entry → ℕ → List (Option BoundExpr) → List Entry → Result (List (Option BoundExpr)) NameFault
+abbrev pub bound_ons : List Entry → ℕ → List (Option BoundExpr) → List Entry → Result (List (Option BoundExpr)) BindError
 bound_ons entries number known [] = Ok known
-bound_ons entries number known (e ∷ more) = and_then (bound_condition entries (on_reach number e) e.on) (λ x. bound_ons entries (number + 1) (known ++ x ∷ []) more)
+bound_ons entries number known (e ∷ more) = and_then (bound_condition entries (on_scope number e) e.on) (λ x. bound_ons entries (number + 1) (known ++ x ∷ []) more)
 
 -- ---- GROUP BY
 
 -- after those before
-abbrev pub bound_columns : List Entry → Reach → List ColumnId → List ast.ColumnRef → Result (List ColumnId) NameFault
-bound_columns entries reach known [] = Ok known
-bound_columns entries reach known (c ∷ more) = and_then (find_column entries reach c) (λ id. bound_columns entries reach (known ++ id ∷ []) more)
+abbrev pub bound_columns : List Entry → Scope → List ColumnId → List ast.ColumnRef → Result (List ColumnId) BindError
+bound_columns entries scope known [] = Ok known
+bound_columns entries scope known (c ∷ more) = and_then (find_column entries scope c) (λ id. bound_columns entries scope (known ++ id ∷ []) more)
 
 -- ---- the query
 
--- the query of its parts, or the fault of the first that has one
-abbrev pub bound_parts : Bool → Option ℕ → Result (List BoundItem) NameFault → Result (List (Option BoundExpr)) NameFault → Result (Option BoundExpr) NameFault → Result (List ColumnId) NameFault → Result (Option BoundExpr) NameFault → Result BoundQuery NameFault
+-- the query of its parts, or the error of the first that has one
+abbrev pub bound_parts : Bool → Option ℕ → Result (List BoundItem) BindError → Result (List (Option BoundExpr)) BindError → Result (Option BoundExpr) BindError → Result (List ColumnId) BindError → Result (Option BoundExpr) BindError → Result BoundQuery BindError
 bound_parts is_grouped limit items ons filter group_by having =
     and_then items (λ items. and_then ons (λ ons. and_then filter (λ filter. and_then group_by (λ group_by. and_then having (λ having.
     Ok record { items = items; ons = ons; filter = filter; group_by = group_by; having = having; is_grouped = is_grouped; order_by = []; limit = limit })))))
 
-abbrev pub bound_within : Reach → List Entry → ast.Query → Result BoundQuery NameFault
-bound_within reach entries q =
-    bound_parts (is_grouped entries q) q.limit (bound_select entries reach q.select) (bound_ons entries 0 [] entries) (bound_condition entries reach q.filter) (bound_columns entries reach [] q.group_by) (bound_condition entries reach q.having)
+abbrev pub bound_within : Scope → List Entry → ast.Query → Result BoundQuery BindError
+bound_within scope entries q =
+    bound_parts (is_grouped entries q) q.limit (bound_select entries scope q.select) (bound_ons entries 0 [] entries) (bound_condition entries scope q.filter) (bound_columns entries scope [] q.group_by) (bound_condition entries scope q.having)
 
--- the query with its columns found among the entries, or the first column that stands for nothing; its ORDER BY, which names output
--- columns, is bound after its checks
-abbrev pub bound_query : List Entry → ast.Query → Result BoundQuery NameFault
+-- the query with its columns found among the entries, or the first name that does not resolve; its ORDER BY, which
+-- names output columns, is bound after its checks
+abbrev pub bound_query : List Entry → ast.Query → Result BoundQuery BindError
 bound_query entries q = bound_within (everywhere entries) entries q

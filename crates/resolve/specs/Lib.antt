@@ -1,4 +1,6 @@
 pub mod BoundQueries
+pub mod Entries
+pub mod EntryTables
+pub mod OrderBy
 pub mod Resolved
 pub mod View
-pub mod OrderBy

@@ -2,12 +2,12 @@
 use Rattle.std.specs.Prelude.{List, [], Option, Some, None, Result, Ok, Err}
 use Rattle.row_ast.specs.Ast as ast
 use Rattle.catalog.specs.Catalog.{Catalog}
-use Rattle.scope.specs.declared.fault.NameFault.{NameFault}
-use Rattle.scope.specs.declared.query.OutputKey.{OutputKey}
+use Rattle.scope.specs.declared.error.BindError.{BindError}
+use Rattle.expr.specs.declared.query.OutputKey.{OutputKey}
 use Rattle.scope.specs.Entry.{Entry, and_then}
-use Rattle.scope.specs.BoundQuery.{BoundQuery}
-use Rattle.typing.specs.Clauses.{clause_fault}
-use Rattle.from_clause.specs.Entries.{entries}
+use Rattle.expr.specs.BoundQuery.{BoundQuery}
+use Rattle.typing.specs.Clauses.{clause_error}
+use Rattle.resolve.specs.Entries.{entries}
 use Rattle.resolve.specs.BoundQueries.{bound_query}
 use Rattle.resolve.specs.OrderBy.{output_keys}
 
@@ -15,7 +15,7 @@ pub record Bound : Type 0 where
   pub entries : List Entry
   pub query : BoundQuery
 
--- the fault, if there is one
+-- the error, if there is one
 abbrev pub unless_fault : {X E : Type 0} → Option E → X → Result X E
 unless_fault None x = Ok x
 unless_fault (Some e) x = Err e
@@ -23,16 +23,16 @@ unless_fault (Some e) x = Err e
 abbrev pub with_order : BoundQuery → List OutputKey → BoundQuery
 with_order b keys = record { items = b.items; ons = b.ons; filter = b.filter; group_by = b.group_by; having = b.having; is_grouped = b.is_grouped; order_by = keys; limit = b.limit }
 
-abbrev pub ordered : List Entry → ast.Query → BoundQuery → Result Bound NameFault
+abbrev pub ordered : List Entry → ast.Query → BoundQuery → Result Bound BindError
 ordered es q b = and_then (output_keys b.items [] q.order_by) (λ keys. Ok record { entries = es; query = with_order b keys })
 
-abbrev pub checked : List Entry → ast.Query → BoundQuery → Result Bound NameFault
-checked es q b = and_then (unless_fault (clause_fault es b.group_by q) b) (ordered es q)
+abbrev pub checked : List Entry → ast.Query → BoundQuery → Result Bound BindError
+checked es q b = and_then (unless_fault (clause_error es b.group_by q) b) (ordered es q)
 
-abbrev pub bound_with : ast.Query → List Entry → Result Bound NameFault
+abbrev pub bound_with : ast.Query → List Entry → Result Bound BindError
 bound_with q es = and_then (bound_query es q) (checked es q)
 
--- the query bound; or the first fault: of the entries of FROM, of its columns as written, of its aggregates, of its types, of the
--- keys of ORDER BY
-abbrev pub bound : Catalog → ast.Query → Result Bound NameFault
+-- the query bound; or the first error: of the entries of FROM, of its columns as written, of its aggregates, of its
+-- types, of the keys of ORDER BY
+abbrev pub bound : Catalog → ast.Query → Result Bound BindError
 bound cat q = and_then (entries cat q.from) (bound_with q)

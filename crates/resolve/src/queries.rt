@@ -4,19 +4,15 @@ ghost use Rattle.std.specs.Prelude.{◌≡◌, ◌++◌, OnOk, IfOk, [], map, op
 ghost use Rattle.memory.specs.Gives.{Gives};
 ghost use Rattle.value.specs.Columns.{column_of};
 ghost use Rattle.row_ast.specs.View.{column_ref_of, condition_of, expr_of, query_of, select_item_of, select_list_of};
-ghost use Rattle.expr.specs.View.{bound_expr_of};
+ghost use Rattle.expr.specs.View.{bound_expr_of, bound_item_of, bound_query_of};
 ghost use Rattle.resolve.specs.BoundQueries as spec;
-ghost use Rattle.scope.specs.View.{bound_item_of, bound_query_of, entry_of};
+ghost use Rattle.scope.specs.View.{entry_of};
 
-use expr::{BoundExpr, ColumnId};
-use memory::{Failure, Heap, boxed};
+use expr::{BoundCondition, BoundExpr, BoundItem, BoundQuery, ColumnId};
+use memory::{Failure, Heap, Items, Text, boxed};
 use row_ast::{ColumnRef, Condition, Expr, Query, SelectItem, SelectList};
-use scope::{
-    BoundCondition, BoundItem, BoundQuery, Entry, NameFault, Reach, bind_expr, everywhere,
-    find_column, on_reach,
-};
+use scope::{BindError, Entry, Scope, bind_expr, everywhere, find_column, on_scope};
 use std::alloc::AllocError;
-use text::{Items, Text};
 use typing::is_grouped;
 use value::{Aggregate, Column};
 
@@ -54,12 +50,12 @@ fn heading<A: Heap>(item: &SelectItem<A>) -> &str
 fn bind_item<A: Heap>(
     alloc: A,
     entries: &[Entry<'_, A>],
-    reach: Reach,
+    scope: Scope,
     item: &SelectItem<A>,
-) -> Result<BoundItem<A>, Failure<NameFault>>
-    ensures { Gives (λ i. bound_item_of i) result (spec.bound_item (map (λ e. entry_of e) entries.now) reach (select_item_of item.now)) }
+) -> Result<BoundItem<A>, Failure<BindError>>
+    ensures { Gives (λ i. bound_item_of i) result (spec.bound_item (map (λ e. entry_of e) entries.now) scope (select_item_of item.now)) }
 {
-    let value = bind_expr(alloc, entries, reach, &item.value)?;
+    let value = bind_expr(alloc, entries, scope, &item.value)?;
     let heading = Text::new(alloc, heading(item))?;
     Ok(BoundItem { heading, value })
 }
@@ -67,14 +63,14 @@ fn bind_item<A: Heap>(
 fn bind_items<A: Heap>(
     alloc: A,
     entries: &[Entry<'_, A>],
-    reach: Reach,
+    scope: Scope,
     items: &[SelectItem<A>],
-) -> Result<Items<BoundItem<A>, A>, Failure<NameFault>>
-    ensures { Gives (λ items. map (λ i. bound_item_of i) items) result (spec.bound_items (map (λ e. entry_of e) entries.now) reach [] (map (λ i. select_item_of i) items.now)) }
+) -> Result<Items<BoundItem<A>, A>, Failure<BindError>>
+    ensures { Gives (λ items. map (λ i. bound_item_of i) items) result (spec.bound_items (map (λ e. entry_of e) entries.now) scope [] (map (λ i. select_item_of i) items.now)) }
 {
     let mut all = Items::new(alloc);
     for item in items {
-        match bind_item(alloc, entries, reach, item) {
+        match bind_item(alloc, entries, scope, item) {
             Ok(item) => all.push(item)?,
             Err(failure) => return Err(failure),
         }
@@ -102,10 +98,10 @@ fn push_column_items<A: Heap>(
 ) -> Result<(), AllocError>
     ensures { OnOk result (map (λ i. bound_item_of i) items.new ≡ map (λ i. bound_item_of i) items.old ++ spec.column_items entry 0 (map (λ c. column_of c) columns.now)) }
 {
-    for (place, column) in columns.iter().enumerate() {
+    for (index, column) in columns.iter().enumerate() {
         let id = ColumnId {
             entry,
-            column: place,
+            column: index,
         };
         items.push(column_item(alloc, id, column)?)?;
     }
@@ -139,14 +135,14 @@ fn every_item<A: Heap>(
 fn bind_select<A: Heap>(
     alloc: A,
     entries: &[Entry<'_, A>],
-    reach: Reach,
+    scope: Scope,
     select: &SelectList<A>,
-) -> Result<Items<BoundItem<A>, A>, Failure<NameFault>>
-    ensures { Gives (λ items. map (λ i. bound_item_of i) items) result (spec.bound_select (map (λ e. entry_of e) entries.now) reach (select_list_of select.now)) }
+) -> Result<Items<BoundItem<A>, A>, Failure<BindError>>
+    ensures { Gives (λ items. map (λ i. bound_item_of i) items) result (spec.bound_select (map (λ e. entry_of e) entries.now) scope (select_list_of select.now)) }
 {
     match select {
         SelectList::All { .. } => Ok(every_item(alloc, entries)?),
-        SelectList::Items(items) => bind_items(alloc, entries, reach, items.as_slice()),
+        SelectList::Items(items) => bind_items(alloc, entries, scope, items.as_slice()),
     }
 }
 
@@ -154,13 +150,13 @@ fn bind_select<A: Heap>(
 pub fn bind_condition<A: Heap>(
     alloc: A,
     entries: &[Entry<'_, A>],
-    reach: Reach,
+    scope: Scope,
     condition: Option<&Condition<A>>,
-) -> Result<BoundCondition<A>, Failure<NameFault>>
-    ensures { Gives (λ o. option_map (λ b. bound_expr_of b.value) o) result (spec.bound_condition (map (λ e. entry_of e) entries.now) reach (option_map (λ c. condition_of c.now) condition.entry)) }
+) -> Result<BoundCondition<A>, Failure<BindError>>
+    ensures { Gives (λ o. option_map (λ b. bound_expr_of b.value) o) result (spec.bound_condition (map (λ e. entry_of e) entries.now) scope (option_map (λ c. condition_of c.now) condition.entry)) }
 {
     match condition {
-        Some(condition) => match bind_expr(alloc, entries, reach, &condition.predicate) {
+        Some(condition) => match bind_expr(alloc, entries, scope, &condition.predicate) {
             Ok(value) => Ok(Some(value)),
             Err(failure) => Err(failure),
         },
@@ -171,12 +167,12 @@ pub fn bind_condition<A: Heap>(
 fn bind_ons<A: Heap>(
     alloc: A,
     entries: &[Entry<'_, A>],
-) -> Result<Items<BoundCondition<A>, A>, Failure<NameFault>>
+) -> Result<Items<BoundCondition<A>, A>, Failure<BindError>>
     ensures { Gives (λ ons. map (λ o. option_map (λ b. bound_expr_of b.value) o) ons) result (spec.bound_ons (map (λ e. entry_of e) entries.now) 0 [] (map (λ e. entry_of e) entries.now)) }
 {
     let mut ons = Items::new(alloc);
     for (number, entry) in entries.iter().enumerate() {
-        match bind_condition(alloc, entries, on_reach(number, entry), entry.on) {
+        match bind_condition(alloc, entries, on_scope(number, entry), entry.on) {
             Ok(on) => ons.push(on)?,
             Err(failure) => return Err(failure),
         }
@@ -187,16 +183,16 @@ fn bind_ons<A: Heap>(
 fn bind_columns<A: Heap>(
     alloc: A,
     entries: &[Entry<'_, A>],
-    reach: Reach,
+    scope: Scope,
     columns: &[ColumnRef<A>],
-) -> Result<Items<ColumnId, A>, Failure<NameFault>>
-    ensures { Gives (λ ids. ids) result (spec.bound_columns (map (λ e. entry_of e) entries.now) reach [] (map (λ c. column_ref_of c) columns.now)) }
+) -> Result<Items<ColumnId, A>, Failure<BindError>>
+    ensures { Gives (λ ids. ids) result (spec.bound_columns (map (λ e. entry_of e) entries.now) scope [] (map (λ c. column_ref_of c) columns.now)) }
 {
     let mut ids = Items::new(alloc);
     for column in columns {
-        match find_column(entries, reach, column) {
+        match find_column(entries, scope, column) {
             Ok(id) => ids.push(id)?,
-            Err(fault) => return Err(Failure::Fault(fault)),
+            Err(fault) => return Err(Failure::Error(fault)),
         }
     }
     Ok(ids)
@@ -205,35 +201,35 @@ fn bind_columns<A: Heap>(
 fn bind_optional<A: Heap>(
     alloc: A,
     entries: &[Entry<'_, A>],
-    reach: Reach,
+    scope: Scope,
     condition: &Option<Condition<A>>,
-) -> Result<BoundCondition<A>, Failure<NameFault>>
-    ensures { Gives (λ o. option_map (λ b. bound_expr_of b.value) o) result (spec.bound_condition (map (λ e. entry_of e) entries.now) reach (option_map condition_of condition.now)) }
+) -> Result<BoundCondition<A>, Failure<BindError>>
+    ensures { Gives (λ o. option_map (λ b. bound_expr_of b.value) o) result (spec.bound_condition (map (λ e. entry_of e) entries.now) scope (option_map condition_of condition.now)) }
 {
     match condition {
-        Some(condition) => bind_condition(alloc, entries, reach, Some(condition)),
+        Some(condition) => bind_condition(alloc, entries, scope, Some(condition)),
         None => Ok(None),
     }
 }
 
-/// The query with its columns found among the entries of its FROM, or the first that stands for nothing. Its ORDER BY,
-/// which names output columns, is not bound here.
+/// The query with its columns found among the entries of its FROM, or the first name that does not resolve. Its ORDER
+/// BY, which names output columns, is not bound here.
 pub fn bind_query<A: Heap>(
     alloc: A,
     entries: &[Entry<'_, A>],
     query: &Query<A>,
-) -> Result<Box<BoundQuery<A>, A>, Failure<NameFault>>
+) -> Result<Box<BoundQuery<A>, A>, Failure<BindError>>
     ensures { Gives (λ b. bound_query_of b.value) result (spec.bound_query (map (λ e. entry_of e) entries.now) (query_of query.now)) }
 {
-    let reach = everywhere(entries);
-    let items = bind_select(alloc, entries, reach, &query.select)?;
+    let scope = everywhere(entries);
+    let items = bind_select(alloc, entries, scope, &query.select)?;
     let ons = bind_ons(alloc, entries)?;
-    let filter = bind_optional(alloc, entries, reach, &query.filter)?;
-    let group_by = match bind_columns(alloc, entries, reach, query.group_by.as_slice()) {
+    let filter = bind_optional(alloc, entries, scope, &query.filter)?;
+    let group_by = match bind_columns(alloc, entries, scope, query.group_by.as_slice()) {
         Ok(group_by) => group_by,
         Err(failure) => return Err(failure),
     };
-    let having = match bind_optional(alloc, entries, reach, &query.having) {
+    let having = match bind_optional(alloc, entries, scope, &query.having) {
         Ok(having) => having,
         Err(failure) => return Err(failure),
     };

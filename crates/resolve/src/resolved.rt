@@ -3,19 +3,20 @@
 ghost use Rattle.std.specs.Prelude.{◌≡◌, map};
 ghost use Rattle.memory.specs.Gives.{Gives};
 ghost use Rattle.row_ast.specs.View.{query_of};
-ghost use Rattle.scope.specs.View.{bound_query_of, entry_of};
+ghost use Rattle.expr.specs.View.{bound_query_of};
+ghost use Rattle.scope.specs.View.{entry_of};
 ghost use Rattle.resolve.specs.Resolved as spec;
 ghost use Rattle.resolve.specs.View.{bound_of};
 
+use crate::from::entries;
 use crate::order_by::output_keys;
 use crate::queries::bind_query;
 use catalog::Catalog;
-use from_clause::entries;
-use memory::{Failure, Heap};
+use expr::{BoundQuery, OutputKey};
+use memory::{Failure, Heap, Items};
 use row_ast::Query;
-use scope::{BoundQuery, Entry, NameFault, OutputKey};
-use text::Items;
-use typing::clause_fault;
+use scope::{BindError, Entry};
+use typing::clause_error;
 
 /// A query whose names are found, and whose aggregates and types are in order.
 #[derive(Drop)]
@@ -42,7 +43,7 @@ fn ordered<'s, A: Heap>(
     entries: Items<Entry<'s, A>, A>,
     query: &Query<A>,
     bound: Box<BoundQuery<A>, A>,
-) -> Result<Bound<'s, A>, Failure<NameFault>>
+) -> Result<Bound<'s, A>, Failure<BindError>>
     ensures { Gives (λ b. bound_of b) result (spec.ordered (map (λ e. entry_of e) entries.entry) (query_of query.now) (bound_query_of bound.value)) }
 {
     match output_keys(alloc, bound.items.as_slice(), query.order_by.as_slice()) {
@@ -59,11 +60,11 @@ fn checked<'s, A: Heap>(
     entries: Items<Entry<'s, A>, A>,
     query: &Query<A>,
     bound: Box<BoundQuery<A>, A>,
-) -> Result<Bound<'s, A>, Failure<NameFault>>
+) -> Result<Bound<'s, A>, Failure<BindError>>
     ensures { Gives (λ b. bound_of b) result (spec.checked (map (λ e. entry_of e) entries.entry) (query_of query.now) (bound_query_of bound.value)) }
 {
-    match clause_fault(entries.as_slice(), bound.group_by.as_slice(), query) {
-        Some(fault) => Err(Failure::Fault(fault)),
+    match clause_error(entries.as_slice(), bound.group_by.as_slice(), query) {
+        Some(fault) => Err(Failure::Error(fault)),
         None => ordered(alloc, entries, query, bound),
     }
 }
@@ -72,7 +73,7 @@ fn bind_with<'s, A: Heap>(
     alloc: A,
     entries: Items<Entry<'s, A>, A>,
     query: &Query<A>,
-) -> Result<Bound<'s, A>, Failure<NameFault>>
+) -> Result<Bound<'s, A>, Failure<BindError>>
     ensures { Gives (λ b. bound_of b) result (spec.bound_with (query_of query.now) (map (λ e. entry_of e) entries.entry)) }
 {
     match bind_query(alloc, entries.as_slice(), query) {
@@ -81,14 +82,14 @@ fn bind_with<'s, A: Heap>(
     }
 }
 
-/// The query bound, or the first fault: of the entries of FROM, of its columns as written, of its aggregates (42803), of
-/// its types (42804), of the keys of ORDER BY (PostgreSQL: FROM Clause; Column References; Aggregate Expressions; Sorting
-/// Rows).
+/// The query bound, or the first error: of the entries of FROM, of its columns as written, of its aggregates (42803),
+/// of its types (42804), of the keys of ORDER BY (PostgreSQL: FROM Clause; Column References; Aggregate Expressions;
+/// Sorting Rows).
 pub fn bind<'s, A: Heap>(
     alloc: A,
     catalog: &'s Catalog<A>,
     query: &'s Query<A>,
-) -> Result<Bound<'s, A>, Failure<NameFault>>
+) -> Result<Bound<'s, A>, Failure<BindError>>
     ensures { Gives (λ b. bound_of b) result (spec.bound catalog.now (query_of query.now)) }
 {
     match entries(alloc, catalog, query.from.as_slice()) {

@@ -1,4 +1,4 @@
--- What trees with lists of children are.
+-- The views of trees with lists of children.
 use Rattle.std.proofs.Common.{◌≡◌, List, [], ◌∷◌, ◌++◌, ◌∙◌, sym, ap, refl, Vec, map}
 use Rattle.row_ast.specs.Ast as ast
 use Rattle.row_ast.specs.View.{expr_of, row_exprs, row_arms, exprs, arms}

@@ -1,20 +1,13 @@
--- Expressions, queries and parts of schema statements without their place in memory. An offset is that of a byte of the text, from 0.
-use Rattle.std.specs.Prelude.{ℕ, Bool, true, false, List, [], ◌∷◌, Option, Some, None, codes}
+-- Expressions, queries and parts of schema statements as spec data. An offset counts bytes of the text, from 0.
+use Rattle.std.specs.Prelude.{ℕ, Bool, true, false, List, [], ◌∷◌, Option, Some, None}
 use Rattle.value.specs.Datum.{Datum}
 use Rattle.value.specs.declared.types.ColType.{ColType}
 use Rattle.value.specs.declared.operators.Arithmetic as value
 use Rattle.value.specs.declared.operators.Comparison as value'
 use Rattle.value.specs.declared.operators.Aggregate.{Aggregate}
+use Rattle.value.specs.Names.{Name}
 
--- a name is its bytes, in lower case
-abbrev pub Name : Type 0
-Name = List ℕ
-
--- the name that stands for every role
-abbrev pub everyone : Name
-everyone = codes "public"
-
--- a column as a text names it, and where its first word starts
+-- a column as a text names it, and the offset of its first word
 pub record ColumnRef : Type 0 where
   pub table : Option Name
   pub name : Name
@@ -85,7 +78,7 @@ or_members e = e ∷ []
 
 -- ---- queries
 
--- a condition, and where it starts
+-- a condition, and its offset
 pub record Condition : Type 0 where
   pub predicate : Expr
   pub offset : ℕ
@@ -100,7 +93,7 @@ pub data SelectList : Type 0 where
   All : (offset : ℕ) → SelectList
   Items : List SelectItem → SelectList
 
--- table [[AS] alias], and where the name starts
+-- table [[AS] alias], and the offset of the name
 pub record TableRef : Type 0 where
   pub table : Name
   pub alias : Option Name
@@ -111,15 +104,15 @@ pub data Join : Type 0 where
   Inner : (table : TableRef) → (on_ : Condition) → Join
   Cross : (table : TableRef) → Join
 
--- a table of FROM and what is joined to it
+-- a table of FROM and its joins
 pub record FromItem : Type 0 where
   pub first : TableRef
   pub joins : List Join
 
--- an output column by its heading, or by its place from 1
+-- an output column by its heading, or by its position from 1
 pub data SortTarget : Type 0 where
   Heading : Name → SortTarget
-  Place : ℕ → SortTarget
+  Position : ℕ → SortTarget
 
 -- a key of ORDER BY
 pub record SortKey : Type 0 where
@@ -152,7 +145,7 @@ pub record CreatePolicy : Type 0 where
   pub roles : List Name
   pub predicate : Expr
 
--- ---- what a query is made of
+-- ---- parts of queries
 
 -- the column, where an expression is one
 abbrev pub column_in : Expr → Option ColumnRef

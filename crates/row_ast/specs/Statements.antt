@@ -1,8 +1,8 @@
--- Schema statements without their place in memory.
+-- Schema statements as spec data.
 use Rattle.std.specs.Prelude.{Bool, List}
 use Rattle.value.specs.Columns.{Column}
 use Rattle.row_ast.specs.Ast as ast
-use Rattle.row_ast.specs.Ast.{Name}
+use Rattle.value.specs.Names.{Name}
 use Rattle.row_ast.specs.declared.statement.RowSecurity.{RowSecurity}
 
 -- a schema statement

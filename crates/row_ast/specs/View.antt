@@ -1,4 +1,4 @@
--- What the trees of the program are.
+-- The views of the Rust types of trees as spec data.
 use Rattle.std.specs.Prelude.{List, option_map, map}
 use Rattle.value.specs.Columns.{column_of}
 use Rattle.value.specs.Datum.{datum}
@@ -93,7 +93,7 @@ from_item_of f = record { first = table_ref_of f.first; joins = map join_of f.jo
 
 abbrev pub sort_target_of : {A : Type 0} → SortTarget A → ast.SortTarget
 sort_target_of (sort_target.Heading name) = ast.Heading name
-sort_target_of (sort_target.Place n) = ast.Place n
+sort_target_of (sort_target.Position n) = ast.Position n
 
 abbrev pub sort_key_of : {A : Type 0} → SortKey A → ast.SortKey
 sort_key_of k = record { target = sort_target_of k.target; descending = k.descending; offset = k.offset }

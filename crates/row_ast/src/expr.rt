@@ -1,7 +1,6 @@
 //! Expressions.
 
-use memory::Heap;
-use text::{Items, Text};
+use memory::{Heap, Items, Text};
 use value::{Aggregate, Arithmetic, ColType, Comparison, Value};
 
 /// A column as a text names it.
@@ -11,7 +10,7 @@ pub struct ColumnRef<A: Heap> {
     pub table: Option<Text<A>>,
     /// The column's name.
     pub name: Text<A>,
-    /// Where its first word starts.
+    /// The offset of its first word.
     pub offset: u32,
 }
 

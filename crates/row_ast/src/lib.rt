@@ -1,5 +1,5 @@
-//! The trees of queries and schema statements, as they are written. Names are folded to lower case; an offset is that of a
-//! byte of the text, from 0.
+//! The trees of queries and schema statements, as they are written. Names are folded to lower case; an offset counts
+//! bytes of the text, from 0.
 #![tactic(auto)]
 
 mod expr;

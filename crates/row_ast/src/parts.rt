@@ -1,4 +1,4 @@
-//! What an expression is.
+//! Tests of an expression.
 
 ghost use Rattle.std.specs.Prelude.{◌≡◌, option_map};
 ghost use Rattle.row_ast.specs.Ast.{column_in};

@@ -1,15 +1,14 @@
 //! Queries.
 
 use crate::expr::{ColumnRef, Expr};
-use memory::Heap;
-use text::{Items, Text};
+use memory::{Heap, Items, Text};
 
 /// A condition of WHERE, ON or HAVING.
 #[derive(Drop)]
 pub struct Condition<A: Heap> {
     /// The condition.
     pub predicate: Box<Expr<A>, A>,
-    /// Where its first token starts.
+    /// The offset of its first token.
     pub offset: u32,
 }
 
@@ -22,7 +21,7 @@ pub struct SelectItem<A: Heap> {
     pub alias: Option<Text<A>>,
 }
 
-/// What a query selects.
+/// The selection of a query.
 #[derive(Drop)]
 pub enum SelectList<A: Heap> {
     /// `*`.
@@ -38,11 +37,11 @@ pub struct TableRef<A: Heap> {
     pub table: Text<A>,
     /// Its alias, if one is written.
     pub alias: Option<Text<A>>,
-    /// Where the table's name starts.
+    /// The offset of the table's name.
     pub offset: u32,
 }
 
-/// What is joined to the tables before it.
+/// A table joined to the tables before it.
 #[derive(Drop)]
 pub enum Join<A: Heap> {
     /// `[INNER] JOIN table ON on`.
@@ -56,7 +55,7 @@ pub enum Join<A: Heap> {
     },
 }
 
-/// A table of FROM and what is joined to it.
+/// A table of FROM and its joins.
 #[derive(Drop)]
 pub struct FromItem<A: Heap> {
     /// The first table.
@@ -65,13 +64,13 @@ pub struct FromItem<A: Heap> {
     pub joins: Items<Join<A>, A>,
 }
 
-/// What ORDER BY names.
+/// The output column of a key of ORDER BY.
 #[derive(Drop)]
 pub enum SortTarget<A: Heap> {
     /// An output column by its heading.
     Heading(Text<A>),
-    /// An output column by its place, from 1.
-    Place(u64),
+    /// An output column by its position, from 1.
+    Position(u64),
 }
 
 /// A key of ORDER BY.
@@ -79,16 +78,16 @@ pub enum SortTarget<A: Heap> {
 pub struct SortKey<A: Heap> {
     /// The output column.
     pub target: SortTarget<A>,
-    /// Whether with DESC.
+    /// True for DESC.
     pub descending: bool,
-    /// Where its first token starts.
+    /// The offset of its first token.
     pub offset: u32,
 }
 
 /// A query (PostgreSQL: SELECT).
 #[derive(Drop)]
 pub struct Query<A: Heap> {
-    /// What is selected.
+    /// The selection.
     pub select: SelectList<A>,
     /// FROM.
     pub from: Items<FromItem<A>, A>,

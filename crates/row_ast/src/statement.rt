@@ -1,11 +1,10 @@
 //! Schema statements.
 
 use crate::expr::Expr;
-use memory::Heap;
-use text::{Items, Text};
+use memory::{Heap, Items, Text};
 use value::Column;
 
-/// What `ALTER TABLE` does to a table's row security (PostgreSQL: ALTER TABLE).
+/// A change of a table's row security (PostgreSQL: ALTER TABLE).
 #[derive(Clone, Copy, Debug, PartialEq, Eq)]
 pub enum RowSecurity {
     /// `ENABLE`.
@@ -18,7 +17,7 @@ pub enum RowSecurity {
     NoForce,
 }
 
-/// What `GRANT SELECT` gives, or `REVOKE SELECT` takes.
+/// The privileges of `GRANT SELECT` or `REVOKE SELECT`.
 #[derive(Drop)]
 pub struct Grant<A: Heap> {
     /// The columns; without a list the whole table.
@@ -36,7 +35,7 @@ pub struct CreatePolicy<A: Heap> {
     pub name: Text<A>,
     /// The table's name.
     pub table: Text<A>,
-    /// Whether `AS RESTRICTIVE`.
+    /// True for `AS RESTRICTIVE`.
     pub restrictive: bool,
     /// The roles to which it applies, `public` for all.
     pub roles: Items<Text<A>, A>,

@@ -2,14 +2,14 @@
 use Rattle.std.specs.Prelude.{ℕ}
 use Rattle.value.specs.declared.operators.Arithmetic.{Arithmetic}
 use Rattle.row_grammar.specs.Grammar.{word, both}
-use Rattle.row_tokens.specs.Words.{Word}
+use Rattle.row_tokens.specs.Tokens.{Token}
 use Rattle.row_reader.specs.Expressions.{unary, factor, product, addend, sum, negation, conjunction, expression}
 use Rattle.row_reader.specs.Language.{Located, Rule, is}
 use Rattle.row_reader.specs.declared.reader.Class.{Class}
 use Rattle.row_reader.specs.declared.reader.Class.TheVariants as class
-use Rattle.expression_parts.specs.declared.build.Connective.{Connective}
-use Rattle.expression_parts.specs.declared.build.Connective.TheVariants as connective
-use Rattle.expression_parts.specs.Connectives.{connective_word}
+use Rattle.row_expressions.specs.declared.build.Connective.{Connective}
+use Rattle.row_expressions.specs.declared.build.Connective.TheVariants as connective
+use Rattle.row_expressions.specs.Connectives.{connective_word}
 use Rattle.row_expressions.specs.declared.expressions.Level.{Level}
 use Rattle.row_expressions.specs.declared.expressions.Level.TheVariants as level
 
@@ -43,7 +43,7 @@ member_rule connective.And = negation
 member_rule connective.Or = conjunction
 
 -- the word and a further operand
-abbrev pub next_member_rule : Connective → Rule (Word × Located)
+abbrev pub next_member_rule : Connective → Rule (Token × Located)
 next_member_rule c = both (word (is (connective_word c))) (member_rule c)
 
 -- an operand and further ones

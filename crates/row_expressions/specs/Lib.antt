@@ -1,1 +1,5 @@
+pub mod Connectives
+pub mod GoesOn
+pub mod Heads
 pub mod Levels
+pub mod View

@@ -11,15 +11,18 @@ ghost use Rattle.row_reader.specs.Language.{an_expression, after, is};
 ghost use Rattle.row_reader.specs.Reading.{Parses};
 ghost use Rattle.row_ast.specs.View.{arm_pair};
 ghost use Rattle.row_expressions.specs.Levels.{connected_rule, member_rule, next_member_rule, next_rule, operand_rule, run_rule, sign_class};
-ghost use Rattle.expression_parts.specs.View.{located, range_of, signed_of, otherwise_of};
-ghost use Rattle.expression_steps.specs.Heads.{bounds_rest, case_rest};
+ghost use Rattle.row_expressions.specs.View.{located, range_of, signed_of, otherwise_of};
+ghost use Rattle.row_expressions.specs.Heads.{bounds_rest, case_rest};
 
-use expression_parts::{
-    Connective, Located, Otherwise, Range, arm_of, bounds, case_ended, combined, compared,
-    connective_word, extend, inverted, joined, members_of, negated, null_tested, other, with_range,
+use crate::build::{
+    Connective, Located, Otherwise, Range, combined, connective_word, extend, joined, members_of,
 };
-use expression_steps::{Head, RangeHead, enclosed, low_bound, operand_head, range_head};
-use memory::{Failure, Heap};
+use crate::ends::{
+    arm_of, bounds, case_ended, compared, inverted, negated, null_tested, other, with_range,
+};
+use crate::heads::{Head, enclosed, operand_head};
+use crate::ranges::{RangeHead, low_bound, range_head};
+use memory::{Failure, Heap, Items};
 use row_ast::Arm;
 use row_grammar::ReadError;
 use row_reader::operators::{addition, comparison_sign, multiplication};
@@ -27,7 +30,6 @@ use row_reader::reader::{
     Class, Parsed, Reader, before, expect, next_offset, open, present, sees, sees_any, with_rest,
 };
 use row_tokens::{Token, TokenKind};
-use text::Items;
 use value::Arithmetic;
 
 /// An expression a level deeper.
@@ -206,7 +208,7 @@ fn operations<'t, A: Heap>(
         rest = after;
     }
     if sees_any(signs, rest) {
-        return Err(Failure::Fault(ReadError::Limit { left: rest.len() }));
+        return Err(Failure::Error(ReadError::Limit { left: rest.len() }));
     }
     Ok((left, rest))
 }
@@ -331,7 +333,7 @@ fn connected<'t, A: Heap>(
         rest = after;
     }
     if sees(word, rest) {
-        return Err(Failure::Fault(ReadError::Limit { left: rest.len() }));
+        return Err(Failure::Error(ReadError::Limit { left: rest.len() }));
     }
     let whole = joined(reader.alloc, connective, (start, offset), members);
     with_rest(whole, rest)

@@ -1,4 +1,4 @@
--- What reading the whole text says of it.
+-- The result of reading a whole text: the tree that the grammar derives, or the longest viable prefix.
 use Rattle.std.proofs.Common.{◌≡◌, ℕ, suc, inl, inr, IfOk, IfErr, Bool, true, false, List, [], ◌∷◌, length, Option, Some, None, Result, Ok, Err, sym, ◌∙◌, ap, arith}
 use Rattle.row_grammar.specs.Grammar.{Language, Form, Grammar}
 use Rattle.row_grammar.specs.Decoder.{◌>>=◌, Outcome}
@@ -6,8 +6,8 @@ use Rattle.row_grammar.specs.declared.error.ReadError.{ReadError}
 use Rattle.row_grammar.specs.declared.error.ReadError.TheVariants.{Syntax, Limit}
 use Rattle.memory.specs.Gives.{IsFailure}
 use Rattle.memory.specs.declared.failure.Failure.{Failure}
-use Rattle.memory.specs.declared.failure.Failure.TheVariants.{Fault, OutOfMemory}
-use Rattle.row_grammar.specs.Limits.{Spells, reads, finish, whole_at, IsRefused}
+use Rattle.memory.specs.declared.failure.Failure.TheVariants.{Error, OutOfMemory}
+use Rattle.row_grammar.specs.Limits.{Derives, reads, finish, whole_at, IsRefused}
 use Rattle.row_grammar.proofs.Meets.{IsRead, Meets}
 use Rattle.row_grammar.proofs.Check.{good, IsDecided}
 use Rattle.row_grammar.proofs.Whole.{S, F, facts, ext_of, is_fine}
@@ -28,15 +28,15 @@ module _ {L : Language} (G : Grammar L) (kinds : List L.Kind) (inner_ext : L.Inn
   met : Met (reads G w d f ts)
   met = is_fine G kinds inner_ext decided f decides w d ts
 
-  found_at : (r : Outcome Token A) → Met r → (t : A) → after r ≡ Ok t → Spells G w d f ts t []
+  found_at : (r : Outcome Token A) → Met r → (t : A) → after r ≡ Ok t → Derives G w d f ts t []
   found_at (Ok p) m t e = go p.1 m e
     where
-      go : (us : List Token) → Read p.0 us → finish G p.0 us ≡ Ok t → Spells G w d f ts t []
-      go [] m e = let q : p.0 ≡ t = cc in rw (← q) m.spells
+      go : (us : List Token) → Read p.0 us → finish G p.0 us ≡ Ok t → Derives G w d f ts t []
+      go [] m e = let q : p.0 ≡ t = cc in rw (← q) m.derives
       go (u ∷ us) m e = cc
   found_at (Err g) m t e = cc
 
-  only_at : (r : Outcome Token A) → Met r → (t : A) → Spells G w d f ts t [] → after r ≡ Ok t
+  only_at : (r : Outcome Token A) → Met r → (t : A) → Derives G w d f ts t [] → after r ≡ Ok t
   only_at (Ok p) m t h = elim (m.only (w, d) t [] h) [ inl same ↦ go p.1 (sym same.1) (sym same.0) | inr e ↦ (cc) ]
     where
       go : (us : List Token) → us ≡ [] → p.0 ≡ t → finish G p.0 us ≡ Ok t
@@ -56,14 +56,14 @@ module _ {L : Language} (G : Grammar L) (kinds : List L.Kind) (inner_ext : L.Inn
           last (Syntax n) q = record {
             rest = u ∷ us;
             count = let q' : length (u ∷ us) ≡ n = cc in q';
-            front = (facts G kinds inner_ext decided f (w, d)).whole ts p.0 (u ∷ us) m.spells;
+            prefix = (facts G kinds inner_ext decided f (w, d)).whole ts p.0 (u ∷ us) m.derives;
             longest = λ w' d' vs h. (let q' : length (u ∷ us) ≡ n = cc in let l = m.ends (w', d') vs h in omega arith);
           }
           last (Limit n) q = cc
   refused_at (Err (Syntax n)) m g e = last g (let q : Syntax n ≡ g = cc in q)
     where
       last : (g : ReadError) → Syntax n ≡ g → IsRefused G w d f ts g
-      last (Syntax k) q = let q' : n ≡ k = cc in record { rest = m.rest; count = m.count ∙ q'; front = m.front; longest = λ w' d' vs h. (let l = m.ends (w', d') vs h in omega arith) }
+      last (Syntax k) q = let q' : n ≡ k = cc in record { rest = m.rest; count = m.count ∙ q'; prefix = m.prefix; longest = λ w' d' vs h. (let l = m.ends (w', d') vs h in omega arith) }
       last (Limit k) q = cc
   refused_at (Err (Limit n)) m g e = last g (let q : Limit n ≡ g = cc in q)
     where
@@ -72,26 +72,26 @@ module _ {L : Language} (G : Grammar L) (kinds : List L.Kind) (inner_ext : L.Inn
       last (Limit k) q = let q' : n ≡ k = cc in record {
         rest = m.rest;
         count = m.count ∙ q';
-        front = m.front;
+        prefix = m.prefix;
         longest = λ vs h. (let l = m.ends vs h in omega arith);
         goes_on = (suc w, suc d, m.more.0, omega arith, omega arith, m.more.2, m.more.1 ∙ q');
       }
 
-  -- What is read is spelled so, within the limits.
-  pub found : (t : A) → whole_at G w d f ts ≡ Ok t → Spells G w d f ts t []
+  -- The grammar derives what is read, within the limits.
+  pub found : (t : A) → whole_at G w d f ts ≡ Ok t → Derives G w d f ts t []
   unfolding whole_at
   found t e = found_at (reads G w d f ts) met t e
 
-  -- What is spelled so is read.
-  pub only : (t : A) → Spells G w d f ts t [] → whole_at G w d f ts ≡ Ok t
+  -- A tree that the grammar derives is read.
+  pub only : (t : A) → Derives G w d f ts t [] → whole_at G w d f ts ≡ Ok t
   unfolding whole_at
   only t h = only_at (reads G w d f ts) met t h
 
-  -- A refusal is at the token after the longest front.
+  -- A refusal is at the token after the longest viable prefix.
   pub refused : (stop : ReadError) → whole_at G w d f ts ≡ Err stop → IsRefused G w d f ts stop
   unfolding whole_at
   refused stop e = refused_at (reads G w d f ts) met stop e
 
   -- One text has at most one tree.
-  pub one_tree : (t t' : A) → Spells G w d f ts t [] → Spells G w d f ts t' [] → t ≡ t'
+  pub one_tree : (t t' : A) → Derives G w d f ts t [] → Derives G w d f ts t' [] → t ≡ t'
   one_tree t t' h h' = let e = only t h in let e' = only t' h' in cc

@@ -1,7 +1,7 @@
 -- The conditions under which one token decides, as a test that computes.
 use Rattle.std.proofs.Common.{◌≡◌, ℕ, ◌⊎◌, inl, inr, Bool, true, false, not, ◌&&◌, ◌||◌, List, [], ◌∷◌, refl}
 use Rattle.row_grammar.specs.Grammar.{Language, Form, word, nothing, both, either, made, many, nest, inner, Grammar}
-use Rattle.row_grammar.specs.Meaning.{Reading, Fronting, FrontIn}
+use Rattle.row_grammar.specs.Meaning.{Reading, Prefixing, PrefixIn}
 use Rattle.row_grammar.specs.Decoder.{head_in, nullable, first}
 use Rattle.row_grammar.proofs.Facts.{and_left, and_right}
 use Rattle.row_grammar.proofs.Meets.{Apart}
@@ -16,7 +16,7 @@ abbrev pub any_of : {K : Type 0} → (K → Bool) → List K → Bool
 any_of p [] = false
 any_of p (x ∷ xs) = p x || any_of p xs
 
--- What holds at each of a list holds at every kind that the list has, where a test of equality finds it there.
+-- A test that holds at each of a list holds at every kind that the list has, where a test of equality finds it there.
 pub all_at : {K : Type 0} (same : K → K → Bool) → ((a b : K) → same a b ≡ true → a ≡ b) → (p : K → Bool) (xs : List K) → all_of p xs ≡ true → (k : K) → any_of (same k) xs ≡ true → p k ≡ true
 all_at same is p [] e k h = cc
 all_at {K} same is p (x ∷ xs) e k h = go (same k x) refl h (λ l. all_at same is p xs (and_right (p x) _ e) k l)
@@ -75,7 +75,7 @@ module _ (L : Language) (inner_first inner_ext : L.Inner → L.Kind → Bool) wh
   ext (nest p g) k = ext g k
   ext (inner r) k = inner_ext r k
 
-  -- its first token is a front by itself, however deep it is
+  -- its first token is a viable prefix by itself, however deep it is
   abbrev pub leads : {A : Type 0} → Form L A → Bool
   leads (word p) = true
   leads (nothing a) = false
@@ -97,11 +97,11 @@ module _ (L : Language) (inner_first inner_ext : L.Inner → L.Kind → Bool) wh
   good kinds o (nest p g) = good kinds true g
   good kinds o (inner r) = o
 
-  module _ (open_ : Bool) (deep : (r : L.Inner) → Reading L.Token (L.Tree r)) (width : ℕ) (deep_front : L.Inner → Fronting L.Token) where
+  module _ (open_ : Bool) (deep : (r : L.Inner) → Reading L.Token (L.Tree r)) (width : ℕ) (deep_front : L.Inner → Prefixing L.Token) where
     abbrev Begun : {A : Type 0} → Form L A → Token → List Token → Type 0
-    Begun f y ms = FrontIn L open_ deep width deep_front f (y ∷ ms) ms
+    Begun f y ms = PrefixIn L open_ deep width deep_front f (y ∷ ms) ms
 
-    pub leads_front : {A : Type 0} (f : Form L A) → leads f ≡ true → (y : Token) (ms : List Token) → first L inner_first f (kind y) ≡ true → FrontIn L open_ deep width deep_front f (y ∷ ms) ms
+    pub leads_front : {A : Type 0} (f : Form L A) → leads f ≡ true → (y : Token) (ms : List Token) → first L inner_first f (kind y) ≡ true → PrefixIn L open_ deep width deep_front f (y ∷ ms) ms
     leads_front (word p) l y ms h = inr (y, refl, h)
     leads_front (nothing a) l y ms h = cc
     leads_front (both g h) l y ms e = inl (leads_front g (and_left _ _ l) y ms (go (first L inner_first g (kind y)) (nullable g) (first L inner_first h (kind y)) (and_right _ _ l) e))

@@ -1,7 +1,7 @@
--- What holds of every form: where it starts, and that a value is a front.
+-- Facts of every form: the kinds that start it, and that its values are viable prefixes.
 use Rattle.std.proofs.Common.{◌≡◌, ℕ, zero, suc, ◌<◌, ◌⊎◌, inl, inr, Bool, true, false, ◌&&◌, ◌||◌, List, [], ◌∷◌, length, refl, sym, ap, ◌∙◌, subst, arith}
 use Rattle.row_grammar.specs.Grammar.{Language, Form, word, nothing, both, either, made, many, nest, inner}
-use Rattle.row_grammar.specs.Meaning.{Reading, Fronting, Room, any, at_most, room_of, one_less, Many, ManyFront, SpellsIn, FrontIn}
+use Rattle.row_grammar.specs.Meaning.{Reading, Prefixing, Room, any, at_most, room_of, one_less, Many, ManyPrefix, DerivesIn, PrefixIn}
 use Rattle.row_grammar.specs.Decoder.{head_in, nullable, first}
 
 -- ---- tests
@@ -50,7 +50,7 @@ module _ (L : Language) where
 
   -- ---- facts
 
-  pub record Facts {A : Type 0} (S : Reading Token A) (F : Fronting Token) (f : Kind → Bool) (null : Bool) (S⁺ : Reading Token A) : Type 0 where
+  pub record Facts {A : Type 0} (S : Reading Token A) (F : Prefixing Token) (f : Kind → Bool) (null : Bool) (S⁺ : Reading Token A) : Type 0 where
     pub none : (ts : List Token) → F ts ts
     pub whole : (ts : List Token) (t : A) (us : List Token) → S ts t us → F ts us
     pub starts : (ts : List Token) (t : A) (us : List Token) → S ts t us → ((head_in kind f ts ≡ true) × (length us < length ts)) ⊎ ((null ≡ true) × (us ≡ ts))
@@ -79,7 +79,7 @@ module _ (L : Language) where
   word_starts : (p : Kind → Bool) (ts : List Token) (t : Token) (us : List Token) → (ts ≡ t ∷ us) × (p (kind t) ≡ true) → Starts p false ts us
   word_starts p ts t us h = inl (subst (λ l. head_in kind p l ≡ true) (sym h.0) h.1, omega (arith, ap length h.0))
 
-  -- what starts, for a value and then a front of the next
+  -- the start of a value followed by a viable prefix of the next
   both_begins : (f g : Kind → Bool) (m : Bool) (ts us vs : List Token) → Starts f m ts us → (vs ≡ us) ⊎ (head_in kind g us ≡ true) → (vs ≡ ts) ⊎ (head_in kind (λ k. (m && g k) || f k) ts ≡ true)
   both_begins f g m ts us vs (inl a) b = inr (head_or_right (λ k. m && g k) f ts a.0)
   both_begins f g m ts us vs (inr a) (inl b) = inl (b ∙ a.1)
@@ -95,8 +95,8 @@ module _ (L : Language) where
 
   -- ---- repetitions
 
-  module _ {A : Type 0} (S : Reading Token A) (F : Fronting Token) (f : Kind → Bool) (null : Bool) (S⁺ : Reading Token A) (facts : Facts S F f null S⁺) where
-    pub many_whole : (room : Room) (ts : List Token) (xs : List A) (us : List Token) → Many S room ts xs us → ManyFront S F room xs ts us
+  module _ {A : Type 0} (S : Reading Token A) (F : Prefixing Token) (f : Kind → Bool) (null : Bool) (S⁺ : Reading Token A) (facts : Facts S F f null S⁺) where
+    pub many_whole : (room : Room) (ts : List Token) (xs : List A) (us : List Token) → Many S room ts xs us → ManyPrefix S F room xs ts us
     many_whole room ts [] us e = inl (sym e)
     many_whole room ts (x ∷ xs) us h = (h.0, (h.1.0, h.1.1, many_whole (one_less room) h.1.0 xs us h.1.2))
 
@@ -110,7 +110,7 @@ module _ (L : Language) where
         then_many (inr a) (inl b) = inl (subst (λ l. head_in kind f l ≡ true) a.1 b.0, omega (arith, ap length a.1))
         then_many (inr a) (inr b) = inr (refl, b.1 ∙ a.1)
 
-    pub many_begins : (room : Room) (xs : List A) (ts us : List Token) → ManyFront S F room xs ts us → (us ≡ ts) ⊎ (head_in kind f ts ≡ true)
+    pub many_begins : (room : Room) (xs : List A) (ts us : List Token) → ManyPrefix S F room xs ts us → (us ≡ ts) ⊎ (head_in kind f ts ≡ true)
     many_begins room [] ts us (inl e) = inl e
     many_begins room [] ts us (inr h) = facts.begins ts us h.1
     many_begins room (x ∷ xs) ts us h = then_front (facts.starts ts x h.1.0 h.1.1) (many_begins (one_less room) xs h.1.0 us h.1.2)
@@ -130,11 +130,11 @@ module _ (L : Language) where
 
   -- ---- every form
 
-  module _ (inner_first : L.Inner → Kind → Bool) (open_ : Bool) (deep : (r : L.Inner) → Reading Token (L.Tree r)) (width : ℕ) (deep_front : L.Inner → Fronting Token)
+  module _ (inner_first : L.Inner → Kind → Bool) (open_ : Bool) (deep : (r : L.Inner) → Reading Token (L.Tree r)) (width : ℕ) (deep_front : L.Inner → Prefixing Token)
       (open⁺ : Bool) (deep⁺ : (r : L.Inner) → Reading Token (L.Tree r)) (opens : open_ ≡ true → open⁺ ≡ true)
       (deep_facts : (r : L.Inner) → Facts (deep r) (deep_front r) (inner_first r) false (deep⁺ r)) where
     abbrev Fine : {A : Type 0} → Form L A → Type 0
-    Fine f = Facts (SpellsIn L open_ deep width f) (FrontIn L open_ deep width deep_front f) (first L inner_first f) (nullable f) (SpellsIn L open⁺ deep⁺ (suc width) f)
+    Fine f = Facts (DerivesIn L open_ deep width f) (PrefixIn L open_ deep width deep_front f) (first L inner_first f) (nullable f) (DerivesIn L open⁺ deep⁺ (suc width) f)
 
     room_more : {A : Type 0} (lim : Bool) (R : Reading Token A) (ts : List Token) (xs : List A) (us : List Token) → Many R (more_room (room_of lim width)) ts xs us → Many R (room_of lim (suc width)) ts xs us
     room_more true R ts xs us h = h

@@ -1,6 +1,6 @@
+pub mod Answer
+pub mod Check
 pub mod Facts
 pub mod Meets
-pub mod Check
-pub mod Whole
-pub mod Answer
 pub mod Steps
+pub mod Whole

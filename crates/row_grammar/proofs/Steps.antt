@@ -1,4 +1,4 @@
--- How reading goes on from where the code is.
+-- The steps of reading, from the state of the code on.
 use Rattle.std.proofs.Common.{◌≡◌, ℕ, zero, suc, ◌-◌, ◌<◌, Bool, true, false, List, [], ◌∷◌, length, Option, Some, None, Result, Ok, Err, refl, sym, arith, ap}
 use Rattle.std.specs.Prelude.{if◌then◌else◌}
 use Rattle.row_grammar.specs.Grammar.{Language, Form, made, both, many, Grammar}
@@ -7,7 +7,7 @@ use Rattle.row_grammar.specs.declared.error.ReadError.{ReadError}
 use Rattle.row_grammar.specs.declared.error.ReadError.TheVariants.{Limit}
 use Rattle.memory.specs.Gives.{IsFailure}
 use Rattle.memory.specs.declared.failure.Failure.{Failure}
-use Rattle.memory.specs.declared.failure.Failure.TheVariants.{Fault, OutOfMemory}
+use Rattle.memory.specs.declared.failure.Failure.TheVariants.{Error, OutOfMemory}
 use Rattle.row_grammar.specs.Limits.{can_open, deep_at, reads}
 
 -- a rule that is a level deeper is read with one level less
@@ -25,12 +25,12 @@ pub bind_bind : {A B C : Type 0} (r : Result A ReadError) (f : A → Result B Re
 bind_bind (Ok x) f g = refl
 bind_bind (Err e) f g = refl
 
--- a fault of a part is the whole's
+-- an error of a part is the whole's
 pub fault_along : {X Y : Type 0} (s : Failure ReadError) (r : Result X ReadError) (r' : Result Y ReadError) → ((stop : ReadError) → r ≡ Err stop → r' ≡ Err stop) → IsFailure s r → IsFailure s r'
 fault_along OutOfMemory r r' h q = tt
-fault_along (Fault stop) r r' h q = h stop q
+fault_along (Error stop) r r' h q = h stop q
 
--- ---- loops: what is made of the values that are still to come
+-- ---- loops: the result of the values that are still to come
 
 abbrev pub ends : {T A B : Type 0} → (List A → B) → Outcome T (List A) → Outcome T B
 ends k r = r >>= λ xs. Ok (k xs.0, xs.1)
@@ -39,7 +39,7 @@ ends_cons : {T A B : Type 0} (k : List A → B) (x : A) (r : Outcome T (List A))
 ends_cons k x (Ok p) = refl
 ends_cons k x (Err e) = refl
 
--- what is made of the values alike is made of the whole alike
+-- results of the values that are alike give wholes that are alike
 pub ends_alike : {T A B : Type 0} (k k' : List A → B) (r : Outcome T (List A)) → ((xs : List A) → k xs ≡ k' xs) → ends k r ≡ ends k' r
 ends_alike {B} k k' (Ok p) h = ap (λ (y : B). let o : Outcome _ B = Ok (y, p.1) in o) (h p.0)
 ends_alike k k' (Err e) h = refl
@@ -96,7 +96,7 @@ module _ {K T : Type 0} (kind : T → K) {A B : Type 0} (k : List A → B) (r : 
   list_go zero us x vs l h e = absurd (omega arith)
   list_go (suc n) us x vs l h e = let q : suc n - 1 ≡ n = omega arith in rw (h, e, q) (ends_cons k x (many_at kind false r p n vs))
 
-  -- ---- a run that goes on has a further value, so it counts alone what is made of one or more
+  -- ---- a run that goes on has a further value, so only the result of one or more counts
 
   pub ends_more : (k' : List A → B) (lim : Bool) (n : ℕ) (us : List T) → ((x : A) (xs : List A) → k (x ∷ xs) ≡ k' (x ∷ xs)) → 0 < n → head_in kind p us ≡ true
       → ends k (many_at kind lim r p n us) ≡ ends k' (many_at kind lim r p n us)
@@ -120,7 +120,7 @@ module _ {L : Language} (G : Grammar L) (w d : ℕ) {A B C : Type 0} (make : A �
   abbrev pub a_run : Form L C
   a_run = made (λ p. make p.0 p.1) (both g (many lim h))
 
-  -- how the run goes on after its first value
+  -- the rest of the run after its first value
   pub run_start : (x : A) (us : List Token) → reads G w d g ts ≡ Ok (x, us)
       → ends (make x) (many_at L.kind lim (reads G w d h) (first L G.inner_first h) (if lim then w else length us) us) ≡ reads G w d a_run ts
   run_start x us e = sym (rw e (ends_pair make x (many_at L.kind lim (reads G w d h) (first L G.inner_first h) (if lim then w else length us) us)))

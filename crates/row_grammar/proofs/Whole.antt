@@ -1,23 +1,23 @@
--- Every form of a grammar that one token decides is read as it is meant.
+-- Every form of a grammar that one token decides is read as the grammar derives it.
 use Rattle.std.proofs.Common.{◌≡◌, ℕ, zero, suc, ◌≤◌, inl, inr, Bool, true, false, not, ◌||◌, List, length, Ok, Err, refl, sym, ap, ◌∙◌, subst, arith}
 use Rattle.std.specs.Prelude.{if◌then◌else◌}
 use Rattle.row_grammar.specs.Grammar.{Language, Form, word, nothing, both, either, made, many, nest, inner, Grammar}
-use Rattle.row_grammar.specs.Meaning.{Reading, Fronting, any, at_most, room_of, Many, ManyFront}
+use Rattle.row_grammar.specs.Meaning.{Reading, Prefixing, any, at_most, room_of, Many, ManyPrefix}
 use Rattle.row_grammar.specs.Decoder.{Outcome, nullable, first, many_at}
 use Rattle.row_grammar.specs.declared.error.ReadError.TheVariants.{Syntax, Limit}
-use Rattle.row_grammar.specs.Limits.{can_open, Deep, DeepFront, Spells, Front, deep_at, reads}
+use Rattle.row_grammar.specs.Limits.{can_open, Deep, DeepPrefix, Derives, ViablePrefix, deep_at, reads}
 use Rattle.row_grammar.proofs.Facts.{Facts, facts_of, more_room, and_left, and_right}
-use Rattle.row_grammar.proofs.Meets.{Meets, Apart, word_meets, nothing_meets, both_meets, either_meets, made_meets, nest_meets, Loop, LoopFront, loop_ext, loop_meets}
+use Rattle.row_grammar.proofs.Meets.{Meets, Apart, word_meets, nothing_meets, both_meets, either_meets, made_meets, nest_meets, Loop, LoopPrefix, loop_ext, loop_meets}
 use Rattle.row_grammar.proofs.Check.{within, head_within, Apart-apart, ext, leads, good, leads_front, HasEvery, IsDecided}
 
--- how long a run may be, and how deep a rule may nest
+-- the length of a run, and the depth of a rule
 abbrev pub Bounds : Type 0
 Bounds = ℕ × ℕ
 
 abbrev pub up : Bounds → Bounds
 up i = (suc i.0, suc i.1)
 
-facts_within : {L : Language} {A : Type 0} {S : Reading L.Token A} {F : Fronting L.Token} {f g : L.Kind → Bool} {m n : Bool} {S⁺ : Reading L.Token A} (kinds : List L.Kind) → HasEvery kinds
+facts_within : {L : Language} {A : Type 0} {S : Reading L.Token A} {F : Prefixing L.Token} {f g : L.Kind → Bool} {m n : Bool} {S⁺ : Reading L.Token A} (kinds : List L.Kind) → HasEvery kinds
     → within kinds f g ≡ true → m ≡ n → Facts L S F f m S⁺ → Facts L S F g n S⁺
 facts_within {L} {f} {g} kinds every w e a = record {
   none = a.none;
@@ -28,14 +28,14 @@ facts_within {L} {f} {g} kinds every w e a = record {
 }
 
 -- the same claim at other limits, which the loop counts
-module _ (L : Language) {A : Type 0} (lim : Bool) (R : Bounds → Reading L.Token A) (G : Bounds → Fronting L.Token) (f x : L.Kind → Bool) (facts' : (i : Bounds) → Facts L (R i) (G i) f false (R (up i))) (apart : Apart L x f) (w d : ℕ) where
+module _ (L : Language) {A : Type 0} (lim : Bool) (R : Bounds → Reading L.Token A) (G : Bounds → Prefixing L.Token) (f x : L.Kind → Bool) (facts' : (i : Bounds) → Facts L (R i) (G i) f false (R (up i))) (apart : Apart L x f) (w d : ℕ) where
   open L use {Kind, Token}
 
   abbrev AtRoom : Bounds → Reading Token (List A)
   AtRoom i ts xs us = Many (R i) (room_of lim i.0) ts xs us
 
-  abbrev FrontAtRoom : Bounds → Fronting Token
-  FrontAtRoom i ts us = (xs : List A) × ManyFront (R i) (G i) (room_of lim i.0) xs ts us
+  abbrev PrefixAtRoom : Bounds → Prefixing Token
+  PrefixAtRoom i ts us = (xs : List A) × ManyPrefix (R i) (G i) (room_of lim i.0) xs ts us
 
   abbrev x' : Kind → Bool
   x' k = f k || x k
@@ -45,24 +45,24 @@ module _ (L : Language) {A : Type 0} (lim : Bool) (R : Bounds → Reading L.Toke
   room_up false = refl
 
   at_room : (ts : List Token) (r : Outcome Token (List A))
-      → Meets L (Loop L R G f x up facts' apart) (LoopFront L R G f x up facts' apart) x' (room_of lim w, (w, d)) (more_room (room_of lim w), (suc w, suc d)) ts r
-      → Meets L AtRoom FrontAtRoom x' (w, d) (suc w, suc d) ts r
-  at_room ts (Ok p) m = record { spells = m.spells; ends = λ i. m.ends (room_of lim i.0, i); only = λ i. m.only (room_of lim i.0, i) }
-  at_room ts (Err (Syntax n)) m = record { rest = m.rest; count = m.count; front = m.front; ends = λ i. m.ends (room_of lim i.0, i); only = λ i. m.only (room_of lim i.0, i) }
+      → Meets L (Loop L R G f x up facts' apart) (LoopPrefix L R G f x up facts' apart) x' (room_of lim w, (w, d)) (more_room (room_of lim w), (suc w, suc d)) ts r
+      → Meets L AtRoom PrefixAtRoom x' (w, d) (suc w, suc d) ts r
+  at_room ts (Ok p) m = record { derives = m.derives; ends = λ i. m.ends (room_of lim i.0, i); only = λ i. m.only (room_of lim i.0, i) }
+  at_room ts (Err (Syntax n)) m = record { rest = m.rest; count = m.count; prefix = m.prefix; ends = λ i. m.ends (room_of lim i.0, i); only = λ i. m.only (room_of lim i.0, i) }
   at_room ts (Err (Limit n)) m = record {
     rest = m.rest;
     count = m.count;
-    front = m.front;
+    prefix = m.prefix;
     ends = m.ends;
-    more = (m.more.0, m.more.1, (m.more.2.0, subst (λ room. ManyFront (R (suc w, suc d)) (G (suc w, suc d)) room m.more.2.0 ts m.more.0) (room_up lim) m.more.2.1));
+    more = (m.more.0, m.more.1, (m.more.2.0, subst (λ room. ManyPrefix (R (suc w, suc d)) (G (suc w, suc d)) room m.more.2.0 ts m.more.0) (room_up lim) m.more.2.1));
     only = m.only;
   }
 
-meets_within : (L : Language) (kinds : List L.Kind) → HasEvery kinds → {A I : Type 0} (R : I → Reading L.Token A) (G : I → Fronting L.Token) (x y : L.Kind → Bool) (here beyond : I) (ts : List L.Token) → within kinds x y ≡ true
+meets_within : (L : Language) (kinds : List L.Kind) → HasEvery kinds → {A I : Type 0} (R : I → Reading L.Token A) (G : I → Prefixing L.Token) (x y : L.Kind → Bool) (here beyond : I) (ts : List L.Token) → within kinds x y ≡ true
     → (r : Outcome L.Token A) → Meets L R G x here beyond ts r → Meets L R G y here beyond ts r
-meets_within L kinds every R G x y here beyond ts w (Ok p) m = record { spells = m.spells; ends = m.ends; only = λ i t vs h. elim (m.only i t vs h) [ inl same ↦ inl same | inr e ↦ inr (head_within L kinds every x y w vs e) ] }
-meets_within L kinds every R G x y here beyond ts w (Err (Syntax n)) m = record { rest = m.rest; count = m.count; front = m.front; ends = m.ends; only = λ i t vs h. head_within L kinds every x y w vs (m.only i t vs h) }
-meets_within L kinds every R G x y here beyond ts w (Err (Limit n)) m = record { rest = m.rest; count = m.count; front = m.front; ends = m.ends; more = m.more; only = λ t vs h. head_within L kinds every x y w vs (m.only t vs h) }
+meets_within L kinds every R G x y here beyond ts w (Ok p) m = record { derives = m.derives; ends = m.ends; only = λ i t vs h. elim (m.only i t vs h) [ inl same ↦ inl same | inr e ↦ inr (head_within L kinds every x y w vs e) ] }
+meets_within L kinds every R G x y here beyond ts w (Err (Syntax n)) m = record { rest = m.rest; count = m.count; prefix = m.prefix; ends = m.ends; only = λ i t vs h. head_within L kinds every x y w vs (m.only i t vs h) }
+meets_within L kinds every R G x y here beyond ts w (Err (Limit n)) m = record { rest = m.rest; count = m.count; prefix = m.prefix; ends = m.ends; more = m.more; only = λ t vs h. head_within L kinds every x y w vs (m.only t vs h) }
 
 module _ {L : Language} (G : Grammar L) (kinds : List L.Kind) (inner_ext : L.Inner → L.Kind → Bool) (decided : IsDecided G kinds inner_ext) where
   open L use {Kind, Token, Inner, Tree}
@@ -70,8 +70,8 @@ module _ {L : Language} (G : Grammar L) (kinds : List L.Kind) (inner_ext : L.Inn
 
   -- ---- facts at every limit
 
-  deep_facts : (w d : ℕ) (r : Inner) → Facts L (Deep G w d r) (DeepFront G w d r) (inner_first r) false (Deep G (suc w) (suc d) r)
-  unfolding Deep DeepFront
+  deep_facts : (w d : ℕ) (r : Inner) → Facts L (Deep G w d r) (DeepPrefix G w d r) (inner_first r) false (Deep G (suc w) (suc d) r)
+  unfolding Deep DeepPrefix
   deep_facts w zero r = record {
     none = λ ts. refl;
     whole = λ ts t us h. absurd h;
@@ -80,16 +80,16 @@ module _ {L : Language} (G : Grammar L) (kinds : List L.Kind) (inner_ext : L.Inn
     more = λ ts t us h. absurd h;
   }
   deep_facts w (suc d) r =
-      facts_within kinds decided.every (decided.first_fits r) (decided.never_null r) (facts_of L inner_first (can_open d) (Deep G w d) w (DeepFront G w d) (can_open (suc d)) (Deep G (suc w) (suc d)) (λ _. refl) (deep_facts w d) (rule r))
+      facts_within kinds decided.every (decided.first_fits r) (decided.never_null r) (facts_of L inner_first (can_open d) (Deep G w d) w (DeepPrefix G w d) (can_open (suc d)) (Deep G (suc w) (suc d)) (λ _. refl) (deep_facts w d) (rule r))
 
   abbrev pub S : {A : Type 0} → Form L A → Bounds → Reading Token A
-  S f i = Spells G i.0 i.1 f
+  S f i = Derives G i.0 i.1 f
 
-  abbrev pub F : {A : Type 0} → Form L A → Bounds → Fronting Token
-  F f i = Front G i.0 i.1 f
+  abbrev pub F : {A : Type 0} → Form L A → Bounds → Prefixing Token
+  F f i = ViablePrefix G i.0 i.1 f
 
   pub facts : {A : Type 0} (f : Form L A) (i : Bounds) → Facts L (S f i) (F f i) (first L inner_first f) (nullable f) (S f (up i))
-  facts f i = facts_of L inner_first (can_open i.1) (Deep G i.0 i.1) i.0 (DeepFront G i.0 i.1) (can_open (suc i.1)) (Deep G (suc i.0) (suc i.1)) (λ _. refl) (deep_facts i.0 i.1) f
+  facts f i = facts_of L inner_first (can_open i.1) (Deep G i.0 i.1) i.0 (DeepPrefix G i.0 i.1) (can_open (suc i.1)) (Deep G (suc i.0) (suc i.1)) (λ _. refl) (deep_facts i.0 i.1) f
 
   non_null : {A : Type 0} (f : Form L A) → not (nullable f) ≡ true → (i : Bounds) → Facts L (S f i) (F f i) (first L inner_first f) false (S f (up i))
   non_null f e i = subst (λ b. Facts L (S f i) (F f i) (first L inner_first f) b (S f (up i))) (go (nullable f) e) (facts f i)
@@ -103,12 +103,12 @@ module _ {L : Language} (G : Grammar L) (kinds : List L.Kind) (inner_ext : L.Inn
   abbrev pub ext_of : {A : Type 0} → Form L A → Kind → Bool
   ext_of f = ext L inner_first inner_ext f
 
-  -- What is read of a form within some limits is what it means: a value, or the longest front.
+  -- The reading of a form within some limits meets the grammar: a derived value, or the longest viable prefix.
   abbrev pub IsFine : (w d : ℕ) {A : Type 0} → Form L A → Type 0
   IsFine w d f = (ts : List Token) → Meets L (S f) (F f) (ext_of f) (w, d) (suc w, suc d) ts (reads G w d f ts)
 
   abbrev pub InnerFine : (w d : ℕ) → Type 0
-  InnerFine w d = (r : Inner) (ts : List Token) → Meets L (λ (i : Bounds). Deep G i.0 i.1 r) (λ (i : Bounds). DeepFront G i.0 i.1 r) (inner_ext r) (w, d) (suc w, suc d) ts (deep_at G w d r ts)
+  InnerFine w d = (r : Inner) (ts : List Token) → Meets L (λ (i : Bounds). Deep G i.0 i.1 r) (λ (i : Bounds). DeepPrefix G i.0 i.1 r) (inner_ext r) (w, d) (suc w, suc d) ts (deep_at G w d r ts)
 
   module _ (w d : ℕ) (deep : can_open d ≡ true → InnerFine w d) where
     many_fine : {A : Type 0} (lim : Bool) (f : Form L A) → not (nullable f) ≡ true → Apart L (ext_of f) (first L inner_first f) → (not lim || leads L inner_first inner_ext f) ≡ true → IsFine w d f → IsFine w d (many lim f)
@@ -116,10 +116,10 @@ module _ {L : Language} (G : Grammar L) (kinds : List L.Kind) (inner_ext : L.Inn
         at_room L lim (S f) (F f) (first L inner_first f) (ext_of f) (non_null f full) apart w d ts (reads G w d (many lim f) ts) (go lim lead)
       where
         go : (l : Bool) → (not l || leads L inner_first inner_ext f) ≡ true
-            → Meets L (Loop L (S f) (F f) (first L inner_first f) (ext_of f) up (non_null f full) apart) (LoopFront L (S f) (F f) (first L inner_first f) (ext_of f) up (non_null f full) apart) (loop_ext L (S f) (F f) (first L inner_first f) (ext_of f) up (non_null f full) apart)
+            → Meets L (Loop L (S f) (F f) (first L inner_first f) (ext_of f) up (non_null f full) apart) (LoopPrefix L (S f) (F f) (first L inner_first f) (ext_of f) up (non_null f full) apart) (loop_ext L (S f) (F f) (first L inner_first f) (ext_of f) up (non_null f full) apart)
             (room_of l w, (w, d)) (more_room (room_of l w), (suc w, suc d)) ts (many_at L.kind l (reads G w d f) (first L inner_first f) (if l then w else length ts) ts)
         go true e = loop_meets L (S f) (F f) (first L inner_first f) (ext_of f) up (non_null f full) apart (w, d) true (reads G w d f) rec w (at_most w) ts
-            (refl, λ y ms b. leads_front L inner_first inner_ext (can_open (suc d)) (Deep G (suc w) (suc d)) (suc w) (DeepFront G (suc w) (suc d)) f e y ms b) refl
+            (refl, λ y ms b. leads_front L inner_first inner_ext (can_open (suc d)) (Deep G (suc w) (suc d)) (suc w) (DeepPrefix G (suc w) (suc d)) f e y ms b) refl
         go false e = loop_meets L (S f) (F f) (first L inner_first f) (ext_of f) up (non_null f full) apart (w, d) false (reads G w d f) rec (length ts) any ts tt (omega arith)
 
     abbrev Good : Bool → {A : Type 0} → Form L A → Bool
@@ -150,13 +150,13 @@ module _ {L : Language} (G : Grammar L) (kinds : List L.Kind) (inner_ext : L.Inn
 
   module _ (r : Inner) (w d : ℕ) (ts : List Token) where
     abbrev DeepMeets : Outcome Token (Tree r) → Type 0
-    DeepMeets out = Meets L (λ (i : Bounds). Deep G i.0 i.1 r) (λ (i : Bounds). DeepFront G i.0 i.1 r) (inner_ext r) (w, suc d) (suc w, suc (suc d)) ts out
+    DeepMeets out = Meets L (λ (i : Bounds). Deep G i.0 i.1 r) (λ (i : Bounds). DeepPrefix G i.0 i.1 r) (inner_ext r) (w, suc d) (suc w, suc (suc d)) ts out
 
-    deep_ends : (n : ℕ) → n ≤ length ts → ((i : Bounds) (vs : List Token) → F (rule r) i ts vs → n ≤ length vs) → (i : Bounds) (vs : List Token) → DeepFront G i.0 i.1 r ts vs → n ≤ length vs
-    unfolding DeepFront
+    deep_ends : (n : ℕ) → n ≤ length ts → ((i : Bounds) (vs : List Token) → F (rule r) i ts vs → n ≤ length vs) → (i : Bounds) (vs : List Token) → DeepPrefix G i.0 i.1 r ts vs → n ≤ length vs
+    unfolding DeepPrefix
     deep_ends n l ends i vs = go i.1
       where
-        go : (e : ℕ) → DeepFront G i.0 e r ts vs → n ≤ length vs
+        go : (e : ℕ) → DeepPrefix G i.0 e r ts vs → n ≤ length vs
         go zero h = omega (arith, ap length h)
         go (suc e) h = ends (i.0, e) vs h
 
@@ -169,20 +169,20 @@ module _ {L : Language} (G : Grammar L) (kinds : List L.Kind) (inner_ext : L.Inn
         go (suc e) h = only (i.0, e) t vs h
 
     lower : (out : Outcome Token (Tree r)) → Meets L (S (rule r)) (F (rule r)) (inner_ext r) (w, d) (suc w, suc d) ts out → DeepMeets out
-    unfolding Deep DeepFront
+    unfolding Deep DeepPrefix
     lower (Ok p) m = record {
-      spells = m.spells;
+      derives = m.derives;
       ends = deep_ends (length p.1) (m.ends (w, d) ts ((facts (rule r) (w, d)).none ts)) m.ends;
       only = deep_only m.only;
     }
     lower (Err (Syntax n)) m = record {
       rest = m.rest;
       count = m.count;
-      front = m.front;
+      prefix = m.prefix;
       ends = deep_ends n (m.ends (w, d) ts ((facts (rule r) (w, d)).none ts)) m.ends;
       only = deep_only m.only;
     }
-    lower (Err (Limit n)) m = record { rest = m.rest; count = m.count; front = m.front; ends = m.ends; more = m.more; only = m.only }
+    lower (Err (Limit n)) m = record { rest = m.rest; count = m.count; prefix = m.prefix; ends = m.ends; more = m.more; only = m.only }
 
   pub inner_fine : (w d : ℕ) → can_open d ≡ true → InnerFine w d
   unfolding deep_at
@@ -192,6 +192,6 @@ module _ {L : Language} (G : Grammar L) (kinds : List L.Kind) (inner_ext : L.Inn
       (meets_within L kinds decided.every (S (rule r)) (F (rule r)) (ext_of (rule r)) (inner_ext r) (w, d) (suc w, suc d) ts (decided.ext_fits r) (reads G w d (rule r) ts)
       (fine w d (inner_fine w d) (rule r) false (λ q. (cc)) (decided.rules_good r) ts))
 
-  -- Every form that one token decides is read as it is meant.
+  -- Every form that one token decides is read as the grammar derives it.
   pub is_fine : {A : Type 0} (f : Form L A) → good L inner_first inner_ext kinds false f ≡ true → (w d : ℕ) → IsFine w d f
   is_fine f g w d ts = fine w d (inner_fine w d) f false (λ q. (cc)) g ts

@@ -1,26 +1,26 @@
--- Reading from left to right by one token ahead, with the first fault that is met.
+-- Reading from left to right by one token ahead, up to the first error.
 use Rattle.std.specs.Prelude.{◌≡◌, ℕ, zero, suc, Bool, true, false, ◌&&◌, ◌||◌, List, [], ◌∷◌, length, Option, Some, None, Result, Ok, Err, if◌then◌else◌}
 use Rattle.row_grammar.specs.declared.error.ReadError.{ReadError}
 use Rattle.row_grammar.specs.declared.error.ReadError.TheVariants.{Syntax, Limit}
 use Rattle.row_grammar.specs.Grammar.{Language, Form, word, nothing, both, either, made, many, nest, inner}
 
 infixl 10 ◌>>=◌
--- one step, then another with its value; the first fault ends both
+-- one step, then another with its value; the first error ends both
 abbrev pub ◌>>=◌ : {A B : Type 0} → Result A ReadError → (A → Result B ReadError) → Result B ReadError
 (Ok x) >>= f = f x
 (Err e) >>= f = Err e
 
--- a value and the tokens after it, or the first fault
+-- a value and the tokens after it, or the first error
 abbrev pub Outcome : Type 0 → Type 0 → Type 0
 Outcome T A = Result (A × List T) ReadError
 
--- where no more may follow: under a limit one that does passes it
+-- the end of a run: under a limit one more value passes it
 abbrev pub stop_at : {T A : Type 0} → Bool → Bool → List T → Outcome T (List A)
 stop_at false b ts = Ok ([], ts)
 stop_at true b ts = if b then Err (Limit (length ts)) else Ok ([], ts)
 
 module _ {K T : Type 0} (kind : T → K) where
-  -- whether the next token is of one of these kinds
+  -- the next token is of one of these kinds
   abbrev pub head_in : (K → Bool) → List T → Bool
   head_in p [] = false
   head_in p (t ∷ ts) = p (kind t)
@@ -43,7 +43,7 @@ module _ {K T : Type 0} (kind : T → K) where
     xs ← many_at lim r p n x.1
     Ok (x.0 ∷ xs.0, xs.1)) else Ok ([], ts)
 
--- whether no token may spell a form
+-- a form that may derive no token
 abbrev pub nullable : {L : Language} {A : Type 0} → Form L A → Bool
 nullable (word p) = false
 nullable (nothing a) = true

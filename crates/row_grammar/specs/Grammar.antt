@@ -1,15 +1,15 @@
--- What a grammar is: the forms of its rules, with the tree that each makes.
+-- A grammar: the forms of its rules, with the tree that each makes.
 use Rattle.std.specs.Prelude.{Bool, List}
 
--- what a grammar's rules speak of
+-- the tokens and the names of rules that a grammar speaks of
 pub record Language : Type 1 where
-  -- what a token is to the rules
+  -- the view of a token that the rules test
   pub Kind : Type 0
   pub Token : Type 0
   pub kind : Token → Kind
   -- the names of the rules that are a level deeper
   pub Inner : Type 0
-  -- what each of them makes
+  -- the tree of each of them
   pub Tree : Inner → Type 0
 
 -- a form that makes a value of a type
@@ -22,7 +22,7 @@ pub data Form (L : Language) : Type 0 → Type 1 where
   both : {A B : Type 0} → Form L A → Form L B → Form L (A × B)
   -- one form or another
   either : {A : Type 0} → Form L A → Form L A → Form L A
-  -- a form, and what is made of its value
+  -- a form, and a function of its value
   made : {A B : Type 0} → (A → B) → Form L A → Form L B
   -- a form any number of times; or, under true, at most as often as the limit on runs
   many : {A : Type 0} → Bool → Form L A → Form L (List A)

@@ -1,4 +1,4 @@
-pub mod Grammar
-pub mod Meaning
 pub mod Decoder
+pub mod Grammar
 pub mod Limits
+pub mod Meaning

@@ -1,8 +1,8 @@
-//! Why reading stops.
+//! The errors of reading.
 
 use thiserror::Error;
 
-/// Why tokens are not read, by how many of them are left: the token at which reading stops and all after it.
+/// The errors of reading, by the number of tokens left: the token at which reading stops and all after it.
 #[derive(Clone, Copy, Debug, Drop, Error, PartialEq, Eq)]
 pub enum ReadError {
     /// The grammar does not go on with that token.

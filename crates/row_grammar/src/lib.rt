@@ -1,4 +1,4 @@
-//! Grammars as data, and how a text is read by one token ahead.
+//! Grammars as data, and the reading of a text by one token ahead.
 #![tactic(auto)]
 
 mod error;

@@ -1,17 +1,18 @@
--- How many policies the tables that are left have.
+-- The number of policies of the tables that are left.
 use Rattle.std.proofs.Common.{◌≡◌, ℕ, zero, suc, ◌+◌, ◌-◌, ◌<◌, ◌≤◌, true, false, List, [], ◌∷◌, length, drop, map, slice_get, Some, refl, ap, ◌∙◌, arith}
 use Rattle.std.proofs.Math.ListN.{drop_of_length-le}
 use Rattle.std.proofs.lemmas.List.{length-map}
 use Rattle.std.proofs.lemmas.Bool.Decides.{nat_tests}
-use Rattle.row_ast.specs.Ast.{Name}
+use Rattle.value.specs.Names.{Name}
 use Rattle.row_objects.specs.Objects.{most_policies}
 use Rattle.row_objects.specs.Policies.{policy_count, has_policy_room}
 use Rattle.row_objects.specs.View.{policy_of, table_entry}
 use Rattle.row_objects.specs.declared.objects.TableDef.{TableDef}
-use Rattle.row_objects.proofs.Values.{some_value, none_is_not}
+use Rattle.row_objects.proofs.Values.{some_value}
+use Rattle.memory.proofs.Cases.{none_is_not}
 
 module _ {A : Type 0} where
-  -- the policies of the table at a place, and of those after it
+  -- the policies of the table at an index, and of those after it
   count_next : (es : List (Name × TableDef A)) (i : ℕ) (v : TableDef A) → slice_get (map (λ e. e.1) es) i ≡ Some v
       → policy_count (map table_entry (drop i es)) ≡ length v.policies + policy_count (map table_entry (drop (i + 1) es))
   count_next [] i v h = absurd (none_is_not v h)
@@ -23,7 +24,7 @@ module _ {A : Type 0} where
   none_left : (es : List (Name × TableDef A)) (i : ℕ) → length es ≤ i → policy_count (map table_entry (drop i es)) ≡ 0
   none_left es i l = let e : drop i es ≡ [] = drop_of_length-le es l in ap (λ ts. policy_count (map table_entry ts)) e
 
-  -- room is left of the tables before a place
+  -- room is left of the tables before an index
   abbrev pub IsRoom : List (Name × TableDef A) → ℕ → ℕ → Type 0
   IsRoom es i room = (0 < room) × (room + policy_count (map table_entry es) ≡ most_policies + policy_count (map table_entry (drop i es)))
 

@@ -1,7 +1,8 @@
--- What is asked of the tables one after another.
+-- Tests of the tables one after another.
 use Rattle.std.proofs.Common.{◌≡◌, ℕ, zero, suc, ◌+◌, Bool, true, false, ◌||◌, List, [], ◌∷◌, drop, map, slice_get, Option, Some, None, refl, sym, ap, ◌∙◌, arith}
 use Rattle.std.specs.List.{list_any}
-use Rattle.row_ast.specs.Ast.{Name}
+use Rattle.memory.proofs.Cases.{none_is_not}
+use Rattle.value.specs.Names.{Name}
 use Rattle.row_objects.specs.Indexes.{any_index, has_index}
 use Rattle.row_objects.specs.View.{index_of, table_entry}
 use Rattle.row_objects.specs.declared.objects.TableDef.{TableDef}
@@ -9,10 +10,7 @@ use Rattle.row_objects.specs.declared.objects.TableDef.{TableDef}
 pub some_value : {V : Type 0} (x y : V) → ◌≡◌ {A = Option V} (Some x) (Some y) → x ≡ y
 some_value x y e = cc
 
-pub none_is_not : {V : Type 0} (x : V) → ◌≡◌ {A = Option V} None (Some x) → ⊥
-none_is_not x e = cc
-
--- the thing at a place, and those after it
+-- the thing at an index, and those after it
 any_next : {N V : Type 0} (q : V → Bool) (es : List (N × V)) (i : ℕ) (v : V) → slice_get (map (λ e. e.1) es) i ≡ Some v → list_any (λ e. q e.1) (drop i es) ≡ (q v || list_any (λ e. q e.1) (drop (i + 1) es))
 any_next q [] i v h = absurd (none_is_not v h)
 any_next q (e ∷ es) zero v h = ap (λ w. q w || list_any (λ e. q e.1) es) (some_value e.1 v h)

@@ -1,16 +1,16 @@
--- What the names of columns stand for.
+-- The columns that names resolve to.
 use Rattle.std.specs.Prelude.{ℕ, Bool, true, false, ◌||◌, List, [], ◌∷◌, Option, Some, None, is_some}
 use Rattle.std.specs.Str.{bytes_eq}
 use Rattle.std.specs.List.{find, list_all, list_any, position_from}
 use Rattle.value.specs.Columns.{Column}
-use Rattle.row_ast.specs.Ast.{Name}
+use Rattle.value.specs.Names.{Name}
 
 abbrev pub column_named : Name → List Column → Option Column
 column_named name columns = find (λ column. bytes_eq name column.name) columns
 
--- the place of the column of that name, from 0
-abbrev pub place_of : List Column → Name → Option ℕ
-place_of columns name = position_from (λ column. bytes_eq name column.name) 0 columns
+-- the index of the column of that name
+abbrev pub column_index : List Column → Name → Option ℕ
+column_index columns name = position_from (λ column. bytes_eq name column.name) 0 columns
 
 -- the name before the dot, if there is one, is the table's
 abbrev pub is_qualified : Name → Option Name → Bool

@@ -1,7 +1,8 @@
-pub mod Objects
 pub mod ColumnNames
-pub mod Policies
+pub mod Grants
 pub mod Indexes
+pub mod Objects
+pub mod Policies
+pub mod TableChanges
 pub mod TableDefs
 pub mod View
-pub mod TableChanges

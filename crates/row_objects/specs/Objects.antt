@@ -1,9 +1,9 @@
--- The things of a catalogue without their place in memory.
+-- The objects of a catalogue as spec data.
 use Rattle.std.specs.Prelude.{ℕ, Bool, List}
 use Rattle.value.specs.Columns.{Column}
-use Rattle.row_ast.specs.Ast.{Name}
+use Rattle.value.specs.Names.{Name}
 use Rattle.expr.specs.Bound.{BoundExpr}
-use Rattle.grants.specs.Grants.{Grant}
+use Rattle.row_objects.specs.Grants.{Grant}
 
 -- the most policies of all tables of a catalogue
 abbrev pub most_policies : ℕ
@@ -22,7 +22,7 @@ pub record Policy : Type 0 where
   pub roles : List Name
   pub predicate : BoundExpr
 
--- an index on the column at a place
+-- an index on a column, by its index in the table
 pub record Index : Type 0 where
   pub name : Name
   pub column : ℕ

@@ -2,7 +2,8 @@
 use Rattle.std.specs.Prelude.{ℕ, ◌+◌, nat_lt, Bool, not, List, [], ◌∷◌, length, filter}
 use Rattle.std.specs.Str.{bytes_eq}
 use Rattle.std.specs.List.{list_any}
-use Rattle.row_ast.specs.Ast.{Name, CreatePolicy}
+use Rattle.value.specs.Names.{Name}
+use Rattle.row_ast.specs.Ast.{CreatePolicy}
 use Rattle.expr.specs.Bound.{BoundExpr}
 use Rattle.row_objects.specs.Objects.{Policy, Table, most_policies}
 

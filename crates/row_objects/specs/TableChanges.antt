@@ -1,15 +1,15 @@
--- What a schema statement changes of a table.
+-- The changes of a table by schema statements.
 use Rattle.std.specs.Prelude.{ℕ, zero, suc, true, false, List, [], ◌∷◌, ◌++◌, Option, Some, None}
 use Rattle.row_ast.specs.Ast as ast
-use Rattle.row_ast.specs.Ast.{Name}
+use Rattle.value.specs.Names.{Name}
 use Rattle.row_ast.specs.declared.statement.RowSecurity.{RowSecurity}
 use Rattle.row_ast.specs.declared.statement.RowSecurity.TheVariants.{Enable, Disable, Force, NoForce}
-use Rattle.grants.specs.Grants.{grants_to_all, with_grants, without_grants}
+use Rattle.row_objects.specs.Grants.{grants_to_all, with_grants, without_grants}
 use Rattle.row_objects.specs.Indexes.{new_index}
 use Rattle.row_objects.specs.Objects.{Policy, Table}
 use Rattle.row_objects.specs.Policies.{without_policy}
 
--- the one at a place, changed
+-- the one at an index, changed
 abbrev pub changed_at : {E : Type 0} → ℕ → (E → E) → List E → List E
 changed_at i f [] = []
 changed_at zero f (e ∷ es) = f e ∷ es

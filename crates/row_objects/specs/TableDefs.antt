@@ -1,7 +1,7 @@
 -- New tables.
 use Rattle.std.specs.Prelude.{false, List, []}
 use Rattle.value.specs.Columns.{Column}
-use Rattle.row_ast.specs.Ast.{Name}
+use Rattle.value.specs.Names.{Name}
 use Rattle.row_objects.specs.Objects.{Table}
 
 -- a new table, which its creator owns

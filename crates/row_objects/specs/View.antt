@@ -1,14 +1,18 @@
--- What the things of the program's catalogue are.
+-- The views of the Rust types of a catalogue's objects as spec data.
 use Rattle.std.specs.Prelude.{map}
 use Rattle.value.specs.Columns.{column_of}
-use Rattle.row_ast.specs.Ast.{Name}
-use Rattle.grants.specs.View.{grant_of}
+use Rattle.value.specs.Names.{Name}
 use Rattle.row_objects.specs.declared.objects.Role as declared
 use Rattle.row_objects.specs.declared.objects.Policy as declared_policy
 use Rattle.row_objects.specs.declared.objects.Index as declared_index
 use Rattle.row_objects.specs.declared.objects.TableDef.{TableDef}
 use Rattle.row_objects.specs.declared.objects.Table as declared_table
 use Rattle.row_objects.specs.Objects.{Role, Policy, Index, Table}
+use Rattle.row_objects.specs.declared.grants.Grant as declared_grant
+use Rattle.row_objects.specs.Grants.{Grant}
+
+abbrev pub grant_of : {A : Type 0} → declared_grant.Grant A → Grant
+grant_of g = record { to = g.to; column = g.column }
 
 -- a role by its name
 abbrev pub role_of : Name × declared.Role → Role

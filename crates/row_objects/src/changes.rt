@@ -1,26 +1,25 @@
-//! A table changed at its place. Whether it may be is not asked here.
+//! A table changed at its index. The checks of a statement come before.
 
 ghost use Rattle.std.specs.Prelude.{◌≡◌, ◌<◌, List, OnErr, OnOk, length, map, ℕ};
 ghost use Rattle.row_ast.specs.View.{grant_of};
 ghost use Rattle.row_objects.specs.View.{policy_of, table_entry};
 ghost use Rattle.row_objects.specs.TableChanges.{changed_at, with_grants_to, with_index, with_new_policy, with_owner, with_row_security, without_grants_to, without_policy_named};
 
+use crate::grants::{add_grants, remove_grants};
 use crate::indexes::new_index;
 use crate::objects::{Policy, TableDef};
 use crate::policies::remove_policy;
-use grants::{add_grants, remove_grants};
-use memberships::ByName;
-use memory::Heap;
+use memory::{Heap, Text};
+use named::ByName;
 use row_ast::{Grant, RowSecurity};
 use std::alloc::AllocError;
-use text::Text;
 
 /// Gives a table to an owner. It takes no memory.
-pub fn give_table<A: Heap>(tables: &mut ByName<TableDef<A>, A>, place: usize, owner: Text<A>)
-    requires { place < length tables.old }
-    ensures { map (λ t. table_entry t) tables.new ≡ changed_at place (with_owner owner) (map (λ t. table_entry t) tables.old) }
+pub fn give_table<A: Heap>(tables: &mut ByName<TableDef<A>, A>, index: usize, owner: Text<A>)
+    requires { index < length tables.old }
+    ensures { map (λ t. table_entry t) tables.new ≡ changed_at index (with_owner owner) (map (λ t. table_entry t) tables.old) }
 {
-    tables.at_mut(place).owner = owner;
+    tables.at_mut(index).owner = owner;
 }
 
 fn set<A: Heap>(table: &mut TableDef<A>, setting: RowSecurity)
@@ -37,27 +36,27 @@ fn set<A: Heap>(table: &mut TableDef<A>, setting: RowSecurity)
 /// Sets row security of a table. It takes no memory.
 pub fn set_row_security<A: Heap>(
     tables: &mut ByName<TableDef<A>, A>,
-    place: usize,
+    index: usize,
     setting: RowSecurity,
 )
-    requires { place < length tables.old }
-    ensures { map (λ t. table_entry t) tables.new ≡ changed_at place (with_row_security setting) (map (λ t. table_entry t) tables.old) }
+    requires { index < length tables.old }
+    ensures { map (λ t. table_entry t) tables.new ≡ changed_at index (with_row_security setting) (map (λ t. table_entry t) tables.old) }
 {
-    set(tables.at_mut(place), setting);
+    set(tables.at_mut(index), setting);
 }
 
 /// Grants SELECT on a table, or on columns of it, to roles; out of memory, the tables stay as they were.
 pub fn grant_select<A: Heap>(
     alloc: A,
     tables: &mut ByName<TableDef<A>, A>,
-    place: usize,
+    index: usize,
     grant: &Grant<A>,
 ) -> Result<(), AllocError>
-    requires { place < length tables.old }
-    ensures done { OnOk result (map (λ t. table_entry t) tables.new ≡ changed_at place (with_grants_to (grant_of grant.now)) (map (λ t. table_entry t) tables.old)) }
+    requires { index < length tables.old }
+    ensures done { OnOk result (map (λ t. table_entry t) tables.new ≡ changed_at index (with_grants_to (grant_of grant.now)) (map (λ t. table_entry t) tables.old)) }
     ensures unchanged { OnErr result (map (λ t. table_entry t) tables.new ≡ map (λ t. table_entry t) tables.old) }
 {
-    let table = tables.at_mut(place);
+    let table = tables.at_mut(index);
     add_grants(
         alloc,
         &mut table.grants,
@@ -70,13 +69,13 @@ pub fn grant_select<A: Heap>(
 pub fn revoke_select<A: Heap>(
     alloc: A,
     tables: &mut ByName<TableDef<A>, A>,
-    place: usize,
+    index: usize,
     grant: &Grant<A>,
 )
-    requires { place < length tables.old }
-    ensures { map (λ t. table_entry t) tables.new ≡ changed_at place (without_grants_to (grant_of grant.now)) (map (λ t. table_entry t) tables.old) }
+    requires { index < length tables.old }
+    ensures { map (λ t. table_entry t) tables.new ≡ changed_at index (without_grants_to (grant_of grant.now)) (map (λ t. table_entry t) tables.old) }
 {
-    let table = tables.at_mut(place);
+    let table = tables.at_mut(index);
     remove_grants(
         alloc,
         &mut table.grants,
@@ -88,23 +87,23 @@ pub fn revoke_select<A: Heap>(
 /// Adds a policy to a table; out of memory, the tables stay as they were.
 pub fn add_policy<A: Heap>(
     tables: &mut ByName<TableDef<A>, A>,
-    place: usize,
+    index: usize,
     policy: Policy<A>,
 ) -> Result<(), AllocError>
-    requires { place < length tables.old }
-    ensures done { OnOk result (map (λ t. table_entry t) tables.new ≡ changed_at place (with_new_policy (policy_of policy)) (map (λ t. table_entry t) tables.old)) }
+    requires { index < length tables.old }
+    ensures done { OnOk result (map (λ t. table_entry t) tables.new ≡ changed_at index (with_new_policy (policy_of policy)) (map (λ t. table_entry t) tables.old)) }
     ensures unchanged { OnErr result (map (λ t. table_entry t) tables.new ≡ map (λ t. table_entry t) tables.old) }
 {
-    let table = tables.at_mut(place);
+    let table = tables.at_mut(index);
     table.policies.push(policy)
 }
 
 /// Takes the policy of that name from a table. It takes no memory.
-pub fn drop_policy<A: Heap>(alloc: A, tables: &mut ByName<TableDef<A>, A>, place: usize, name: &str)
-    requires { place < length tables.old }
-    ensures { map (λ t. table_entry t) tables.new ≡ changed_at place (without_policy_named name.now) (map (λ t. table_entry t) tables.old) }
+pub fn drop_policy<A: Heap>(alloc: A, tables: &mut ByName<TableDef<A>, A>, index: usize, name: &str)
+    requires { index < length tables.old }
+    ensures { map (λ t. table_entry t) tables.new ≡ changed_at index (without_policy_named name.now) (map (λ t. table_entry t) tables.old) }
 {
-    let table = tables.at_mut(place);
+    let table = tables.at_mut(index);
     remove_policy(alloc, &mut table.policies, name);
 }
 
@@ -112,15 +111,15 @@ pub fn drop_policy<A: Heap>(alloc: A, tables: &mut ByName<TableDef<A>, A>, place
 pub fn add_index<A: Heap>(
     alloc: A,
     tables: &mut ByName<TableDef<A>, A>,
-    place: usize,
+    index: usize,
     name: &str,
     column: &str,
 ) -> Result<(), AllocError>
-    requires { place < length tables.old }
-    ensures done { OnOk result (map (λ t. table_entry t) tables.new ≡ changed_at place (with_index name.now column.now) (map (λ t. table_entry t) tables.old)) }
+    requires { index < length tables.old }
+    ensures done { OnOk result (map (λ t. table_entry t) tables.new ≡ changed_at index (with_index name.now column.now) (map (λ t. table_entry t) tables.old)) }
     ensures unchanged { OnErr result (map (λ t. table_entry t) tables.new ≡ map (λ t. table_entry t) tables.old) }
 {
-    let table = tables.at_mut(place);
+    let table = tables.at_mut(index);
     if let Some(made) = new_index(alloc, name, column, table.columns.as_slice())? {
         table.indexes.push(made)?;
     }

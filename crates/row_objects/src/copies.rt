@@ -1,10 +1,9 @@
-//! Copies of what a catalogue keeps.
+//! Copies of names that a catalogue keeps.
 
 ghost use Rattle.std.specs.Prelude.{◌≡◌, ◌++◌, IfOk, OnOk};
 
-use memory::Heap;
+use memory::{Heap, Items, Text};
 use std::alloc::AllocError;
-use text::{Items, Text};
 
 fn push_names<A: Heap>(
     alloc: A,

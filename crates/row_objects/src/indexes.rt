@@ -6,12 +6,11 @@ ghost use Rattle.row_objects.specs.Indexes as spec;
 ghost use Rattle.row_objects.specs.Indexes.{any_index, has_index, is_indexed};
 ghost use Rattle.row_objects.specs.View.{index_of, table_entry};
 
-use crate::names::place;
+use crate::names::column_index;
 use crate::objects::{Index, TableDef};
-use memberships::ByName;
-use memory::Heap;
+use memory::{Heap, Text};
+use named::ByName;
 use std::alloc::AllocError;
-use text::Text;
 use value::Column;
 
 fn has_index<A: Heap>(indexes: &[Index<A>], name: &str) -> bool
@@ -25,19 +24,19 @@ fn has_index<A: Heap>(indexes: &[Index<A>], name: &str) -> bool
     false
 }
 
-/// Whether one of the tables has an index of that name.
+/// True where one of the tables has an index of that name.
 pub fn any_index<A: Heap>(tables: &ByName<TableDef<A>, A>, name: &str) -> bool
     ensures { result ≡ any_index name.now (map (λ t. table_entry t) tables.now) }
 {
-    for place in 0..tables.len() {
-        if has_index(tables.at(place).indexes.as_slice(), name) {
+    for index in 0..tables.len() {
+        if has_index(tables.at(index).indexes.as_slice(), name) {
             return true;
         }
     }
     false
 }
 
-/// Whether the column at a place has an index.
+/// True where the column has an index.
 pub fn is_indexed<A: Heap>(indexes: &[Index<A>], column: usize) -> bool
     ensures { result ≡ is_indexed column (map (λ i. index_of i) indexes.now) }
 {
@@ -58,7 +57,7 @@ pub fn new_index<A: Heap>(
 ) -> Result<Option<Index<A>>, AllocError>
     ensures { IfOk result (λ made. option_map (λ i. index_of i) made ≡ spec.new_index name.now column.now (map (λ c. column_of c) columns.now)) }
 {
-    let Some(column) = place(columns, column) else {
+    let Some(column) = column_index(columns, column) else {
         return Ok(None);
     };
     let name = Text::new(alloc, name)?;

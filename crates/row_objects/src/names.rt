@@ -1,12 +1,11 @@
-//! What the names of columns stand for.
+//! The columns that names resolve to.
 
 ghost use Rattle.std.specs.Prelude.{◌≡◌, is_some, map, option_map};
 ghost use Rattle.std.specs.List.{list_all};
 ghost use Rattle.value.specs.Columns.{column_of};
-ghost use Rattle.row_objects.specs.ColumnNames.{are_columns, column_named, has_name, has_name_twice, is_qualified, place_of};
+ghost use Rattle.row_objects.specs.ColumnNames.{are_columns, column_named, has_name, has_name_twice, is_qualified, column_index};
 
-use memory::Heap;
-use text::{Items, Text};
+use memory::{Heap, Items, Text};
 use value::Column;
 
 /// The column of that name.
@@ -21,9 +20,9 @@ pub fn column_named<'c, A: Heap>(columns: &'c [Column<A>], name: &str) -> Option
     None
 }
 
-/// The place of the column of that name, from 0.
-pub fn place<A: Heap>(columns: &[Column<A>], name: &str) -> Option<usize>
-    ensures { result ≡ place_of (map (λ c. column_of c) columns.now) name.now }
+/// The index of the column of that name.
+pub fn column_index<A: Heap>(columns: &[Column<A>], name: &str) -> Option<usize>
+    ensures { result ≡ column_index (map (λ c. column_of c) columns.now) name.now }
 {
     for (i, column) in columns.iter().enumerate() {
         if name == column.name.as_str() {
@@ -33,7 +32,7 @@ pub fn place<A: Heap>(columns: &[Column<A>], name: &str) -> Option<usize>
     None
 }
 
-/// Whether the name before the dot, if there is one, is the table's.
+/// True where the name before the dot, if there is one, is the table's.
 pub fn is_qualified<A: Heap>(table: &str, qualifier: &Option<Text<A>>) -> bool
     ensures { result ≡ is_qualified table.now qualifier.now }
 {
@@ -54,7 +53,7 @@ fn have_names<A: Heap>(columns: &[Column<A>], names: &[Text<A>]) -> bool
     true
 }
 
-/// Whether there is no list of names, or each is a column's.
+/// True where there is no list of names, or each is a column's.
 pub fn are_columns<A: Heap>(columns: &[Column<A>], names: &Option<Items<Text<A>, A>>) -> bool
     ensures { result ≡ are_columns (map (λ c. column_of c) columns.now) names.now }
 {
@@ -75,7 +74,7 @@ fn has_name<A: Heap>(columns: &[Column<A>], name: &str) -> bool
     false
 }
 
-/// Whether two of the columns have the same name.
+/// True where two of the columns have the same name.
 pub fn has_name_twice<A: Heap>(columns: &[Column<A>]) -> bool
     ensures { result ≡ has_name_twice (map (λ c. column_of c) columns.now) }
 {

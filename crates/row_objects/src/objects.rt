@@ -2,21 +2,19 @@
 
 ghost use Rattle.std.specs.Prelude.{◌≡◌, map};
 ghost use Rattle.value.specs.Columns.{column_of};
-ghost use Rattle.grants.specs.View.{grant_of};
-ghost use Rattle.row_objects.specs.View.{index_of, policy_of, table_entry, table_of};
+ghost use Rattle.row_objects.specs.View.{grant_of, index_of, policy_of, table_entry, table_of};
 
-use grants::Grant;
-use memory::Heap;
-use movable_expr::MovableExpr;
-use text::{Items, Text};
+use crate::grants::Grant;
+use memory::{Heap, Items, Text};
+use predicates::MovableExpr;
 use value::Column;
 
 /// A role, whose name is its key (PostgreSQL: Database Roles).
 #[derive(Drop)]
 pub struct Role {
-    /// Whether it is a superuser.
+    /// True for a superuser.
     pub superuser: bool,
-    /// Whether row security does not act on its queries.
+    /// True where row security does not act on its queries.
     pub bypass_rls: bool,
 }
 
@@ -25,7 +23,7 @@ pub struct Role {
 pub struct Policy<A: Heap> {
     /// Its name.
     pub name: Text<A>,
-    /// Whether it is restrictive.
+    /// True for a restrictive policy.
     pub restrictive: bool,
     /// The roles to which it applies, `public` for all.
     pub roles: Items<Text<A>, A>,
@@ -38,7 +36,7 @@ pub struct Policy<A: Heap> {
 pub struct Index<A: Heap> {
     /// Its name.
     pub name: Text<A>,
-    /// The place of its column in the table, from 0.
+    /// Its column, by the index in the table.
     pub column: usize,
 }
 
@@ -49,9 +47,9 @@ pub struct TableDef<A: Heap> {
     pub columns: Items<Column<A>, A>,
     /// The role that owns it.
     pub owner: Text<A>,
-    /// Whether row security is enabled.
+    /// True where row security is enabled.
     pub row_security: bool,
-    /// Whether row security acts on the owner too.
+    /// True where row security acts on the owner too.
     pub forced: bool,
     /// The policies, in order of creation.
     pub policies: Items<Policy<A>, A>,
@@ -97,14 +95,14 @@ impl<'c, A: Heap> Table<'c, A> {
         self.parts.owner.as_str()
     }
 
-    /// Whether row security is enabled.
+    /// True where row security is enabled.
     pub fn row_security(self) -> bool
         ensures { result ≡ (table_of self.entry).row_security }
     {
         self.parts.row_security
     }
 
-    /// Whether row security acts on the owner too.
+    /// True where row security acts on the owner too.
     pub fn forced(self) -> bool
         ensures { result ≡ (table_of self.entry).forced }
     {

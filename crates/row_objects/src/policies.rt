@@ -8,13 +8,12 @@ ghost use Rattle.row_objects.specs.View.{policy_of, table_entry};
 
 use crate::copies::copy_names;
 use crate::objects::{Policy, TableDef};
-use memberships::ByName;
-use memory::Heap;
-use movable_expr::MovableExpr;
+use memory::{Heap, Items, Text};
+use named::ByName;
+use predicates::MovableExpr;
 use row_ast::CreatePolicy;
 use std::alloc::AllocError;
 use std::mem::replace;
-use text::{Items, Text};
 
 /// The most policies of all tables of a catalogue.
 pub const MOST_POLICIES: usize = 256;
@@ -37,7 +36,7 @@ pub fn new_policy<A: Heap>(
     })
 }
 
-/// Whether there is a policy of that name.
+/// True where there is a policy of that name.
 pub fn has_policy<A: Heap>(policies: &[Policy<A>], name: &str) -> bool
     ensures { result ≡ has_policy (map (λ p. policy_of p) policies.now) name.now }
 {
@@ -64,13 +63,13 @@ pub fn remove_policy<A: Heap>(alloc: A, policies: &mut Items<Policy<A>, A>, name
     *policies = Items::from(list);
 }
 
-/// Whether all tables have fewer policies than they may have.
+/// True where all tables have fewer policies than they may have.
 pub fn has_policy_room<A: Heap>(tables: &ByName<TableDef<A>, A>) -> bool
     ensures { result ≡ has_policy_room (map (λ t. table_entry t) tables.now) }
 {
     let mut room = MOST_POLICIES;
-    for place in 0..tables.len() {
-        let count = tables.at(place).policies.len();
+    for index in 0..tables.len() {
+        let count = tables.at(index).policies.len();
         if count >= room {
             return false;
         }

@@ -6,9 +6,8 @@ ghost use Rattle.row_objects.specs.TableDefs.{new_table};
 ghost use Rattle.row_objects.specs.View.{table_entry};
 
 use crate::objects::TableDef;
-use memory::Heap;
+use memory::{Heap, Items, Text};
 use std::alloc::AllocError;
-use text::{Items, Text};
 use value::{Column, copy_columns};
 
 /// A new table, which its creator owns.

@@ -1,2 +1,3 @@
+pub mod From
 pub mod Queries
 pub mod View

@@ -3,15 +3,16 @@ use Rattle.std.specs.Prelude.{ℕ, Bool, true, false, List, [], Option}
 use Rattle.row_grammar.specs.Grammar.{word, nothing, both, either, made}
 use Rattle.row_tokens.specs.declared.token.TokenKind.TheVariants as k
 use Rattle.row_ast.specs.Ast as ast
-use Rattle.row_ast.specs.Ast.{Name, ColumnRef, Condition, SelectItem, SelectList, FromItem, SortTarget, SortKey, Query}
+use Rattle.value.specs.Names.{Name}
+use Rattle.row_ast.specs.Ast.{ColumnRef, Condition, SelectItem, SelectList, FromItem, SortTarget, SortKey, Query}
 use Rattle.row_reader.specs.Language.{Rule, is, of, maybe, after, comma_list, name_of}
 use Rattle.row_reader.specs.Expressions.{name, columns, expression}
 use Rattle.row_reader.specs.declared.reader.Class.TheVariants as c
-use Rattle.row_from.specs.From.{condition, from}
+use Rattle.row_queries.specs.From.{condition, from}
 
 -- ---- trees
 
--- what follows FROM
+-- the clauses after FROM
 pub record Clauses : Type 0 where
   pub filter : Option Condition
   pub group_by : List ColumnRef
@@ -53,7 +54,7 @@ having = maybe (after (is k.Having) condition)
 
 -- name | number
 unfoldable pub sort_target : Rule (ℕ × SortTarget)
-sort_target = either (made (λ w. (w.at, ast.Place w.number)) (word (is k.Number))) (made (λ w. (w.at, ast.Heading (name_of w))) (word (of c.Name)))
+sort_target = either (made (λ w. (w.at, ast.Position w.number)) (word (is k.Number))) (made (λ w. (w.at, ast.Heading (name_of w))) (word (of c.Name)))
 
 -- [ASC | DESC]
 unfoldable pub direction : Rule Bool

@@ -1,4 +1,4 @@
--- What follows FROM, as the parser reads it.
+-- The views of the clauses after FROM as spec data.
 use Rattle.std.specs.Prelude.{option_map, map}
 use Rattle.row_ast.specs.View.{column_ref_of, condition_of, sort_key_of}
 use Rattle.row_queries.specs.Queries.{Clauses}

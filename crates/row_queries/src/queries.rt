@@ -6,25 +6,24 @@ ghost use Rattle.row_grammar.specs.Limits.{reads};
 ghost use Rattle.row_tokens.specs.View.{words_of};
 ghost use Rattle.row_reader.specs.Expressions.{grammar};
 ghost use Rattle.row_queries.specs.Queries as rules;
-ghost use Rattle.row_from.specs.From as tables;
+ghost use Rattle.row_queries.specs.From as tables;
 ghost use Rattle.row_reader.specs.Reading.{Parses};
 ghost use Rattle.row_ast.specs.Ast as ast;
 ghost use Rattle.row_ast.specs.View.{column_ref_of, condition_of, select_item_of, select_list_of, from_item_of, sort_target_of, sort_key_of, query_of};
 ghost use Rattle.row_queries.specs.View.{clauses_of};
 
-use memory::Heap;
+use crate::tables::{condition, from};
+use memory::{Heap, Items, Text};
 use row_ast::{ColumnRef, Condition, FromItem, Query, SelectItem, SelectList, SortKey, SortTarget};
 use row_expressions::expression;
-use row_from::{condition, from};
 use row_reader::comma_list::comma_list;
 use row_reader::names::{columns, name_after};
 use row_reader::reader::{
     Class, Parsed, Parser, Reader, before, expect, expect_any, meant, present, sees, sees_any,
 };
 use row_tokens::{Token, TokenKind, folded};
-use text::{Items, Text};
 
-// What follows FROM.
+// The clauses after FROM.
 #[derive(Drop)]
 struct Following<A: Heap> {
     filter: Option<Condition<A>>,
@@ -143,7 +142,7 @@ fn having<'t, A: Heap>(
     present(condition(reader, rest))
 }
 
-// A heading or a number, and its offset.
+// A heading or a position, and its offset.
 #[tactic(auto, unfolding(crate::specs::Queries::sort_target))]
 fn sort_target<'t, A: Heap>(
     reader: Reader<A>,
@@ -153,7 +152,7 @@ fn sort_target<'t, A: Heap>(
 {
     if sees(TokenKind::Number, tokens) {
         let (word, rest) = expect(TokenKind::Number, tokens)?;
-        Ok(((word.offset, SortTarget::Place(word.number)), rest))
+        Ok(((word.offset, SortTarget::Position(word.number)), rest))
     } else {
         let (word, rest) = expect_any(Class::Name, tokens)?;
         let heading = folded(reader.alloc, word.text)?;
@@ -161,7 +160,7 @@ fn sort_target<'t, A: Heap>(
     }
 }
 
-// `[ASC | DESC]`: whether `DESC`.
+// `[ASC | DESC]`: true for `DESC`.
 #[tactic(auto, unfolding(crate::specs::Queries::direction))]
 fn direction<'t, A: Heap>(reader: Reader<A>, tokens: &'t [Token<'t>]) -> Parsed<'t, bool>
     ensures { Parses (λ t. t) rules.direction reader tokens.now result }
@@ -256,7 +255,7 @@ fn ordered<'t, A: Heap>(
     before(order_by, limit(reader, rest))
 }
 
-// `[HAVING expression]` and what may follow.
+// `[HAVING expression]` and the clauses after it.
 fn from_having<'t, A: Heap>(
     reader: Reader<A>,
     tokens: &'t [Token<'t>],
@@ -268,7 +267,7 @@ fn from_having<'t, A: Heap>(
     Ok(((having, (order_by, limit)), rest))
 }
 
-// `[GROUP BY columns]` and what may follow.
+// `[GROUP BY columns]` and the clauses after it.
 fn from_group_by<'t, A: Heap>(
     reader: Reader<A>,
     tokens: &'t [Token<'t>],
@@ -286,7 +285,7 @@ fn from_group_by<'t, A: Heap>(
     Ok(((group_by, (having, (order_by, limit))), rest))
 }
 
-// What may follow FROM.
+// The clauses after FROM.
 #[tactic(auto, unfolding(crate::specs::Queries::clauses))]
 fn clauses<'t, A: Heap>(reader: Reader<A>, tokens: &'t [Token<'t>]) -> Parsed<'t, Following<A>>
     ensures { Parses (λ t. clauses_of t) rules.clauses reader tokens.now result }
@@ -303,7 +302,7 @@ fn clauses<'t, A: Heap>(reader: Reader<A>, tokens: &'t [Token<'t>]) -> Parsed<'t
     Ok((following, rest))
 }
 
-// The items of FROM and what follows.
+// The items of FROM and the clauses after them.
 fn from_clauses<'t, A: Heap>(
     reader: Reader<A>,
     tokens: &'t [Token<'t>],
@@ -314,7 +313,7 @@ fn from_clauses<'t, A: Heap>(
     before(items, clauses(reader, rest))
 }
 
-/// `SELECT list FROM items` and what may follow.
+/// `SELECT list FROM items` and the clauses after it.
 #[tactic(auto, unfolding(crate::specs::Queries::query))]
 pub fn query<'t, A: Heap>(reader: Reader<A>, tokens: &'t [Token<'t>]) -> Parsed<'t, Query<A>>
     ensures { Parses (λ t. query_of t) rules.query reader tokens.now result }

@@ -4,7 +4,7 @@ use Rattle.std.specs.List.{flat_map}
 use Rattle.row_grammar.specs.Grammar.{word, nothing, both, either, made, many, nest, inner, Grammar}
 use Rattle.row_tokens.specs.declared.token.TokenKind.{TokenKind}
 use Rattle.row_tokens.specs.declared.token.TokenKind.TheVariants as k
-use Rattle.row_tokens.specs.Words.{Word, quoted_value}
+use Rattle.row_tokens.specs.Tokens.{Token, quoted_value}
 use Rattle.value.specs.Datum.{Datum, null, int, text, bool}
 use Rattle.value.specs.Exact.{is_bigint}
 use Rattle.value.specs.declared.types.ColType.{ColType}
@@ -16,17 +16,18 @@ use Rattle.value.specs.declared.operators.Comparison.TheVariants as sign'
 use Rattle.value.specs.declared.operators.Aggregate.{Aggregate}
 use Rattle.value.specs.declared.operators.Aggregate.TheVariants as function
 use Rattle.row_ast.specs.Ast as ast
-use Rattle.row_ast.specs.Ast.{Name, ColumnRef, Expr, exprs_of, arms_of, and_members, or_members, Otherwise}
+use Rattle.value.specs.Names.{Name}
+use Rattle.row_ast.specs.Ast.{ColumnRef, Expr, exprs_of, arms_of, and_members, or_members, Otherwise}
 use Rattle.row_reader.specs.Language.{Nested, an_expression, a_negation, a_unary, Located, Tree, language, Rule, is, of, is_name, maybe, after, inside, listed, comma_list, name_of}
 use Rattle.row_reader.specs.declared.reader.Class.TheVariants as c
 
 -- ---- trees
 
-abbrev pub column_ref : Word → Option Name → ColumnRef
+abbrev pub column_ref : Token → Option Name → ColumnRef
 column_ref w None = record { table = None; name = name_of w; offset = w.at }
 column_ref w (Some n) = record { table = Some (name_of w); name = n; offset = w.at }
 
-abbrev pub column_expr : Word → Option Name → Expr
+abbrev pub column_expr : Token → Option Name → Expr
 column_expr w n = ast.Column (column_ref w n)
 
 -- a number of 64 bits; no token is a greater one
@@ -39,11 +40,11 @@ folded_left x [] = x
 folded_left x (y ∷ ys) = folded_left (x.0, ast.Arithmetic y.0.1 y.0.0 x.1 y.1.1) ys
 
 -- AND of several; a member that is itself an AND is merged
-abbrev pub and_of : Located → List (Word × Located) → Located
+abbrev pub and_of : Located → List (Token × Located) → Located
 and_of x [] = x
 and_of x (y ∷ ys) = (x.0, ast.And y.0.at (exprs_of (flat_map and_members (x.1 ∷ map (λ z. z.1.1) (y ∷ ys)))))
 
-abbrev pub or_of : Located → List (Word × Located) → Located
+abbrev pub or_of : Located → List (Token × Located) → Located
 or_of x [] = x
 or_of x (y ∷ ys) = (x.0, ast.Or y.0.at (exprs_of (flat_map or_members (x.1 ∷ map (λ z. z.1.1) (y ∷ ys)))))
 
@@ -51,7 +52,7 @@ abbrev pub compared : Located → Option ((ℕ × Comparison) × Located) → Lo
 compared x None = x
 compared x (Some p) = (x.0, ast.Comparison p.0.1 p.0.0 x.1 p.1.1)
 
--- what may follow in BETWEEN or IN, with the offset of that word
+-- the rest of a BETWEEN or IN, with the offset of that word
 pub data Range : Type 0 where
   Bounds : (offset : ℕ) → (low high : Expr) → Range
   Values : (offset : ℕ) → (values : List Datum) → Range
@@ -62,12 +63,12 @@ ranged x None = x
 ranged x (Some (n, Bounds offset a b)) = (x.0, ast.Between (is_some n) (unwrap_or n offset) x.1 a b)
 ranged x (Some (n, Values offset vs)) = (x.0, ast.In (is_some n) (unwrap_or n offset) vs x.1)
 
--- the offset of IS, and whether NOT follows
+-- the offset of IS, and true where NOT follows
 abbrev pub null_tested : Located → Option (ℕ × Bool) → Located
 null_tested x None = x
 null_tested x (Some p) = (x.0, ast.IsNull p.1 p.0 x.1)
 
--- what may follow a word that is a function's name or a column's
+-- the tokens that may follow a word that is a function's name or a column's
 pub data CallSuffix : Type 0 where
   -- ( * )
   Star : CallSuffix
@@ -76,12 +77,12 @@ pub data CallSuffix : Type 0 where
   -- . name, or nothing
   Dotted : Option Name → CallSuffix
 
-abbrev pub counted : Word → CallSuffix → Expr
+abbrev pub counted : Token → CallSuffix → Expr
 counted w Star = ast.CountStar w.at
 counted w (Argument a) = ast.Call function.Count w.at a
 counted w (Dotted n) = column_expr w n
 
-abbrev pub called : Word × Aggregate → CallSuffix → Expr
+abbrev pub called : Token × Aggregate → CallSuffix → Expr
 called p Star = ast.CountStar p.0.at
 called p (Argument a) = ast.Call p.1 p.0.at a
 called p (Dotted n) = column_expr p.0 n
@@ -111,7 +112,7 @@ columns = comma_list column
 unfoldable pub type_name : Rule ColType
 type_name = either (made (λ w. types.Bigint) (word (is k.Bigint))) (made (λ w. types.Text) (word (is k.Text)))
 
--- ---- literals, each with where it starts
+-- ---- literals, each with its offset
 
 -- TRUE | FALSE | NULL
 unfoldable pub word_literal : Rule (ℕ × Datum)
@@ -143,7 +144,7 @@ value =
 unfoldable pub value_list : Rule (List Datum)
 value_list = comma_list value
 
--- ---- operators, each with where it starts
+-- ---- operators, each with its offset
 
 -- * | / | %
 unfoldable pub multiplication : Rule (ℕ × Arithmetic)
@@ -169,7 +170,7 @@ comparison_sign =
     (made (λ w. (w.at, sign'.GreaterOrEqual)) (word (is k.GreaterEqual)))))))
 
 -- sum | min | max, with its word
-unfoldable pub aggregate_name : Rule (Word × Aggregate)
+unfoldable pub aggregate_name : Rule (Token × Aggregate)
 aggregate_name =
     either (made (λ w. (w, function.Sum)) (word (is k.Sum)))
     (either (made (λ w. (w, function.Min)) (word (is k.Min)))
@@ -299,14 +300,14 @@ null_test = made (λ p. null_tested p.0 p.1) (both comparison (maybe is_null))
 unfoldable pub negation : Rule Located
 negation = either (made (λ p. (p.0.at, ast.Not p.0.at p.1.1)) (nest (is k.Not) (inner a_negation))) null_test
 
-unfoldable pub and_operand : Rule (Word × Located)
+unfoldable pub and_operand : Rule (Token × Located)
 and_operand = both (word (is k.And)) negation
 
 -- and := not {AND not}
 unfoldable pub conjunction : Rule Located
 conjunction = made (λ p. and_of p.0 p.1) (both negation (many true and_operand))
 
-unfoldable pub or_operand : Rule (Word × Located)
+unfoldable pub or_operand : Rule (Token × Located)
 or_operand = both (word (is k.Or)) conjunction
 
 -- expr := and {OR and}
@@ -342,10 +343,10 @@ nested_first a_negation kind = is k.Not kind || (is k.Minus kind || begins_prima
 abbrev pub grammar : Grammar language
 grammar = record { rule = rule; inner_first = nested_first }
 
--- how many operands may follow the first of a run
+-- the number of operands that may follow the first of a run
 unfoldable pub run_limit : ℕ
 run_limit = 63
 
--- how deep a text may nest
+-- the most levels of a text
 unfoldable pub depth_limit : ℕ
 depth_limit = 64

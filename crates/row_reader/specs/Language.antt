@@ -1,12 +1,13 @@
--- What the rules of the grammar speak of.
+-- The tokens and the names of rules of the grammar.
 use Rattle.std.specs.Prelude.{ℕ, Bool, true, false, ◌||◌, List, [], ◌∷◌, Option, Some, None}
 use denote.Enum.Bare.{sameb}
 use Rattle.row_grammar.specs.Grammar.{Language, Form, word, nothing, both, either, made, many, nest}
 use Rattle.row_tokens.specs.contracts.token.TokenKind.{the_type}
 use Rattle.row_tokens.specs.declared.token.TokenKind.{TokenKind}
 use Rattle.row_tokens.specs.declared.token.TokenKind.TheVariants as k
-use Rattle.row_tokens.specs.Words.{Word, folded}
-use Rattle.row_ast.specs.Ast.{Name, Expr}
+use Rattle.row_tokens.specs.Tokens.{Token, folded}
+use Rattle.value.specs.Names.{Name}
+use Rattle.row_ast.specs.Ast.{Expr}
 use Rattle.row_reader.specs.declared.reader.Class.{Class}
 use Rattle.row_reader.specs.declared.reader.Class.TheVariants as c
 
@@ -16,34 +17,34 @@ pub data Nested : Type 0 where
   a_negation : Nested
   a_unary : Nested
 
--- an expression, and where its first token starts
+-- an expression, and the offset of its first token
 abbrev pub Located : Type 0
 Located = ℕ × Expr
 
 abbrev pub Tree : Nested → Type 0
 Tree r = Located
 
-abbrev pub kind_of : Word → TokenKind
+abbrev pub kind_of : Token → TokenKind
 kind_of w = w.kind
 
 abbrev pub language : Language
-language = record { Kind = TokenKind; Token = Word; kind = kind_of; Inner = Nested; Tree = Tree }
+language = record { Kind = TokenKind; Token = Token; kind = kind_of; Inner = Nested; Tree = Tree }
 
 abbrev pub Rule : Type 0 → Type 1
 Rule A = Form language A
 
--- where the next token starts; 0 for none
-abbrev pub next_at : List Word → ℕ
+-- the offset of the next token; 0 for none
+abbrev pub next_at : List Token → ℕ
 next_at [] = 0
 next_at (w ∷ ws) = w.at
 
--- whether a kind is this one
+-- the kind is this one
 unfoldable pub is : TokenKind → TokenKind → Bool
 is a b = sameb the_type b a
 
--- ---- kinds that stand for one another
+-- ---- kinds that are read alike
 
--- what may be a name: all words but the reserved ones, of which not some that start more than a name in an expression
+-- a word that may be a name: all but the reserved ones, of which not some that start more than a name in an expression
 abbrev pub is_plain : TokenKind → Bool
 is_plain k.Name = true
 is_plain k.Create = true
@@ -142,5 +143,5 @@ listed g h = made (λ p. p.0 ∷ p.1) (both g (many false h))
 abbrev pub comma_list : {A : Type 0} → Rule A → Rule (List A)
 comma_list g = listed g (after (is k.Comma) g)
 
-abbrev pub name_of : Word → Name
+abbrev pub name_of : Token → Name
 name_of w = folded w.bytes

@@ -1,3 +1,3 @@
-pub mod Language
 pub mod Expressions
+pub mod Language
 pub mod Reading

@@ -1,4 +1,4 @@
-//! Lists whose items stand between commas.
+//! Lists with commas between their items.
 
 ghost use Rattle.std.specs.Prelude.{map};
 ghost use Rattle.row_grammar.specs.Limits.{reads};
@@ -9,9 +9,8 @@ ghost use Rattle.row_reader.specs.Language.{after, comma_list, is};
 ghost use Rattle.row_reader.specs.Reading.{Parses};
 
 use crate::reader::{Parsed, Parser, Reader, expect, sees};
-use memory::Heap;
+use memory::{Heap, Items};
 use row_tokens::{Token, TokenKind};
-use text::Items;
 
 // `, item`.
 fn next_item<'t, A: Heap, I: Parser<A>>(

@@ -3,7 +3,7 @@
 ghost use Rattle.std.specs.Prelude.{◌≡◌, pos, neg_ℤ, map, IfOk};
 ghost use Rattle.row_grammar.specs.Limits.{reads};
 ghost use Rattle.row_tokens.specs.View.{words_of};
-ghost use Rattle.row_tokens.specs.Words.{quoted_value};
+ghost use Rattle.row_tokens.specs.Tokens.{quoted_value};
 ghost use Rattle.row_reader.specs.Expressions as rules;
 ghost use Rattle.row_reader.specs.Expressions.{grammar, number_of};
 ghost use Rattle.row_reader.specs.Reading.{Parses};
@@ -13,10 +13,9 @@ use crate::comma_list::comma_list;
 use crate::reader::{
     Class, Parsed, Parser, Reader, expect, expect_any, placed, sees, sees_any, unplaced, with_rest,
 };
-use memory::Heap;
+use memory::{Heap, Items};
 use row_tokens::{Token, TokenKind, unquoted};
 use std::alloc::AllocError;
-use text::Items;
 use value::Value;
 
 // The number; no token is a greater one.
@@ -50,7 +49,7 @@ fn word_literal<'t, A: Heap>(
     }
 }
 
-// The value of a string literal, and where it starts.
+// The value of a string literal, and its offset.
 fn quoted<A: Heap>(alloc: A, word: &Token<'_>) -> Result<(u32, Value<A>), AllocError>
     ensures { IfOk result (λ t. (t.0 ≡ word.now.offset) × (datum t.1 ≡ text (quoted_value word.now.text.now))) }
 {
@@ -58,7 +57,7 @@ fn quoted<A: Heap>(alloc: A, word: &Token<'_>) -> Result<(u32, Value<A>), AllocE
     Ok((word.offset, Value::Text(value)))
 }
 
-// A number, a string literal, or one of these words, and where it starts.
+// A number, a string literal, or one of these words, and its offset.
 #[tactic(auto, unfolding(crate::specs::Expressions::unsigned_literal))]
 fn unsigned_literal<'t, A: Heap>(
     reader: Reader<A>,
@@ -77,7 +76,7 @@ fn unsigned_literal<'t, A: Heap>(
     }
 }
 
-/// A literal in an expression, and where it starts.
+/// A literal in an expression, and its offset.
 #[tactic(auto, unfolding(crate::specs::Expressions::literal))]
 pub fn literal<'t, A: Heap>(
     reader: Reader<A>,

@@ -7,6 +7,8 @@ ghost use Rattle.row_reader.specs.Expressions as rules;
 ghost use Rattle.row_reader.specs.Expressions.{column_ref};
 ghost use Rattle.row_reader.specs.Language.{after, is};
 ghost use Rattle.row_reader.specs.Reading.{Parses};
+ghost use Rattle.value.specs.Names as names;
+ghost use Rattle.value.specs.Names.{Name};
 ghost use Rattle.row_ast.specs.Ast as ast;
 ghost use Rattle.row_ast.specs.View.{column_ref_of};
 
@@ -14,11 +16,10 @@ use crate::comma_list::comma_list;
 use crate::reader::{
     Class, Parsed, Parser, Reader, expect, expect_any, meant, present, sees, with_rest,
 };
-use memory::Heap;
+use memory::{Heap, Items, Text};
 use row_ast::ColumnRef;
 use row_tokens::{Token, TokenKind, folded};
 use std::alloc::AllocError;
-use text::{Items, Text};
 use value::ColType;
 
 /// A name.
@@ -108,7 +109,7 @@ struct NameParser;
 impl<A: Heap> Parser<A> for NameParser {
     type Tree = Text<A>;
 
-    ghost Spec = { ast.Name };
+    ghost Spec = { names.Name };
 
     ghost view = { λ t. t };
 

@@ -11,7 +11,7 @@ use memory::Heap;
 use row_tokens::{Token, TokenKind};
 use value::{Aggregate, Arithmetic, Comparison};
 
-/// `*`, `/` or `%`, and where it starts.
+/// `*`, `/` or `%`, and its offset.
 #[tactic(auto, unfolding(crate::specs::Expressions::multiplication))]
 pub fn multiplication<'t, A: Heap>(
     reader: Reader<A>,
@@ -28,7 +28,7 @@ pub fn multiplication<'t, A: Heap>(
     }
 }
 
-/// `+` or `-`, and where it starts.
+/// `+` or `-`, and its offset.
 #[tactic(auto, unfolding(crate::specs::Expressions::addition))]
 pub fn addition<'t, A: Heap>(
     reader: Reader<A>,
@@ -44,7 +44,7 @@ pub fn addition<'t, A: Heap>(
     }
 }
 
-/// `=` or the like, and where it starts.
+/// `=` or the like, and its offset.
 #[tactic(auto, unfolding(crate::specs::Expressions::comparison_sign))]
 pub fn comparison_sign<'t, A: Heap>(
     reader: Reader<A>,

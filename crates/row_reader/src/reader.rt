@@ -13,14 +13,14 @@ use row_grammar::ReadError;
 use row_tokens::{Token, TokenKind};
 use std::alloc::AllocError;
 
-/// What reading takes: memory, and the limits that are left.
+/// The memory that reading takes, and the limits that are left.
 #[derive(Clone, Copy)]
 pub struct Reader<A> {
-    /// Where memory comes from.
+    /// The source of memory.
     pub alloc: A,
-    /// How many operands may follow the first of a run.
+    /// The number of operands that may follow the first of a run.
     pub run_limit: usize,
-    /// How many levels may be opened.
+    /// The number of levels that may be opened.
     pub depth_limit: usize,
 }
 
@@ -42,15 +42,15 @@ impl<A: Heap> Reader<A> {
 /// A value and the tokens after it.
 pub type Parsed<'t, T> = Result<(T, &'t [Token<'t>]), Failure<ReadError>>;
 
-/// What reads the tokens of a rule of the grammar.
+/// A parser of the tokens of a rule of the grammar.
 pub trait Parser<A: Heap> {
     ghost use Rattle.row_reader.specs.Language.{Rule};
     ghost use Rattle.row_reader.specs.Reading.{Parses};
 
-    /// What the rule gives.
+    /// The tree of the rule.
     type Tree: Drop;
 
-    // The tree in specs, what it is of a tree, and the rule.
+    // The tree in specs, the view of a tree, and the rule.
     ghost Spec: { Type 0 };
 
     ghost view: { Self.Tree → Spec };
@@ -62,8 +62,8 @@ pub trait Parser<A: Heap> {
         ensures { Parses view rule reader tokens.now result };
 }
 
-/// A value and what is read after it. Where reading fails, the value is dropped here and not in the
-/// caller, whose proof would contain the whole drop of a tree for each `?` at which it is alive.
+/// A value and the one read after it. Where reading fails, the value is dropped here and not in the caller, whose proof
+/// would contain the whole drop of a tree for each `?` at which it is alive.
 pub fn before<'t, T: Drop, U: Drop>(value: T, next: Parsed<'t, U>) -> Parsed<'t, (T, U)>
     ensures { result ≡ paired value next.entry }
 {
@@ -83,7 +83,7 @@ pub fn with_rest<'t, T: Drop>(made: Result<T, AllocError>, rest: &'t [Token<'t>]
     }
 }
 
-/// The same, and where it starts.
+/// The same, with its offset.
 pub fn starting_at<'t, T: Drop>(
     start: u32,
     made: Result<T, AllocError>,
@@ -97,7 +97,7 @@ pub fn starting_at<'t, T: Drop>(
     }
 }
 
-/// What was read, where it may also be left out.
+/// A value that was read, where it may also be left out.
 pub fn present<'t, T: Drop>(read: Parsed<'t, T>) -> Parsed<'t, Option<T>>
     ensures { result ≡ wrapped read.entry }
 {
@@ -107,7 +107,7 @@ pub fn present<'t, T: Drop>(read: Parsed<'t, T>) -> Parsed<'t, Option<T>>
     }
 }
 
-/// What was read, without where it starts.
+/// A value that was read, without its offset.
 pub fn unplaced<'t, T: Drop>(read: Parsed<'t, (u32, T)>) -> Parsed<'t, T>
     ensures { result ≡ unplaced read.entry }
 {
@@ -124,7 +124,7 @@ fn same(a: TokenKind, b: TokenKind) -> bool
     b == a
 }
 
-/// Whether a token of this kind comes next.
+/// True where a token of this kind comes next.
 pub fn sees(kind: TokenKind, tokens: &[Token<'_>]) -> bool
     ensures { result ≡ head_in kind_of (is kind) (words_of tokens.now) }
 {
@@ -134,7 +134,7 @@ pub fn sees(kind: TokenKind, tokens: &[Token<'_>]) -> bool
     }
 }
 
-/// Where the next token starts; 0 for none.
+/// The offset of the next token; 0 for none.
 pub fn next_offset(tokens: &[Token<'_>]) -> u32
     ensures { result ≡ next_at (words_of tokens.now) }
 {
@@ -153,14 +153,14 @@ pub fn expect<'t>(kind: TokenKind, tokens: &'t [Token<'t>]) -> Parsed<'t, Token<
             if same(kind, first.kind) {
                 Ok((*first, rest))
             } else {
-                Err(Failure::Fault(ReadError::Syntax { left: tokens.len() }))
+                Err(Failure::Error(ReadError::Syntax { left: tokens.len() }))
             }
         }
-        [] => Err(Failure::Fault(ReadError::Syntax { left: 0 })),
+        [] => Err(Failure::Error(ReadError::Syntax { left: 0 })),
     }
 }
 
-/// The token of this kind that comes next, and the value that it stands for.
+/// The token of this kind that comes next, and its value.
 pub fn expect_as<'t, T: Drop>(
     kind: TokenKind,
     value: T,
@@ -172,7 +172,7 @@ pub fn expect_as<'t, T: Drop>(
     Ok(((word, value), rest))
 }
 
-/// The value that the token of this kind stands for, and where it starts.
+/// The value of the token of this kind, and its offset.
 pub fn placed<'t, T: Drop>(
     kind: TokenKind,
     value: T,
@@ -184,7 +184,7 @@ pub fn placed<'t, T: Drop>(
     Ok(((word.offset, value), rest))
 }
 
-/// The value that the token of this kind stands for.
+/// The value of the token of this kind.
 pub fn meant<'t, T: Drop>(kind: TokenKind, value: T, tokens: &'t [Token<'t>]) -> Parsed<'t, T>
     ensures { Gives (λ x. (x.0, words_of x.1.now)) result (meant_as value (word_at kind_of (is kind) (words_of tokens.now))) }
 {
@@ -192,7 +192,7 @@ pub fn meant<'t, T: Drop>(kind: TokenKind, value: T, tokens: &'t [Token<'t>]) ->
     Ok((value, rest))
 }
 
-/// What was read, and a closing parenthesis after it.
+/// A value that was read, and a closing parenthesis after it.
 pub fn closed<'t, T: Drop>(read: Parsed<'t, T>) -> Parsed<'t, T>
     ensures { Closed read.entry result }
 {
@@ -209,18 +209,18 @@ pub fn open<'t>(kind: TokenKind, depth: usize, tokens: &'t [Token<'t>]) -> Parse
     match tokens {
         [first, rest @ ..] => {
             if !same(kind, first.kind) {
-                Err(Failure::Fault(ReadError::Syntax { left: tokens.len() }))
+                Err(Failure::Error(ReadError::Syntax { left: tokens.len() }))
             } else if depth == 0 {
-                Err(Failure::Fault(ReadError::Limit { left: tokens.len() }))
+                Err(Failure::Error(ReadError::Limit { left: tokens.len() }))
             } else {
                 Ok((*first, rest))
             }
         }
-        [] => Err(Failure::Fault(ReadError::Syntax { left: 0 })),
+        [] => Err(Failure::Error(ReadError::Syntax { left: 0 })),
     }
 }
 
-/// Kinds of tokens that stand for one another.
+/// Kinds of tokens that are read alike.
 #[derive(Clone, Copy, Debug, PartialEq, Eq)]
 pub enum Class {
     /// All words but the reserved ones.
@@ -333,7 +333,7 @@ fn belongs(class: Class, kind: TokenKind) -> bool
     }
 }
 
-/// Whether a token of this class comes next.
+/// True where a token of this class comes next.
 pub fn sees_any(class: Class, tokens: &[Token<'_>]) -> bool
     ensures { result ≡ head_in kind_of (of class) (words_of tokens.now) }
 {
@@ -352,9 +352,9 @@ pub fn expect_any<'t>(class: Class, tokens: &'t [Token<'t>]) -> Parsed<'t, Token
             if belongs(class, first.kind) {
                 Ok((*first, rest))
             } else {
-                Err(Failure::Fault(ReadError::Syntax { left: tokens.len() }))
+                Err(Failure::Error(ReadError::Syntax { left: tokens.len() }))
             }
         }
-        [] => Err(Failure::Fault(ReadError::Syntax { left: 0 })),
+        [] => Err(Failure::Error(ReadError::Syntax { left: 0 })),
     }
 }

@@ -1,1 +1,2 @@
 pub mod Alters
+pub mod Named

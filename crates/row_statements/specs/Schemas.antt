@@ -3,13 +3,14 @@ use Rattle.std.specs.Prelude.{false, List, Option}
 use Rattle.row_grammar.specs.Grammar.{word, both, either, made, many}
 use Rattle.row_tokens.specs.declared.token.TokenKind.{TokenKind}
 use Rattle.row_tokens.specs.declared.token.TokenKind.TheVariants as k
-use Rattle.row_ast.specs.Ast.{Name, Grant}
+use Rattle.value.specs.Names.{Name}
+use Rattle.row_ast.specs.Ast.{Grant}
 use Rattle.row_ast.specs.Statements.{Statement, GrantRole, RevokeRole, SetOwner, SetRowSecurity, GrantSelect, RevokeSelect, DropPolicy}
 use Rattle.row_reader.specs.Language.{Rule, is, maybe, after, enclosed}
 use Rattle.row_reader.specs.Expressions.{name, names}
 use Rattle.row_ast.specs.declared.statement.RowSecurity.{RowSecurity}
 use Rattle.row_ast.specs.declared.statement.RowSecurity.TheVariants as setting
-use Rattle.row_creates.specs.Creates.{create}
+use Rattle.row_statements.specs.Creates.{create}
 
 -- ---- ALTER
 
@@ -29,7 +30,7 @@ security_setting =
 unfoldable pub security : Rule RowSecurity
 security = made (λ p. p.0) (both security_setting (after (is k.Row) (after (is k.Level) (word (is k.Security)))))
 
--- what is altered of a table
+-- a change of a table
 pub data Alteration : Type 0 where
   new_owner : Name → Alteration
   new_security : RowSecurity → Alteration
@@ -58,7 +59,7 @@ granted = after (is k.Select) (both grant_columns (after (is k.On) name))
 abbrev pub grant_to : Option (List Name) × Name → List Name → Grant
 grant_to p roles = record { columns = p.0; table = p.1; roles = roles }
 
--- what follows GRANT and REVOKE
+-- the part of a statement after GRANT or REVOKE
 pub data GrantBody : Type 0 where
   of_select : Grant → GrantBody
   of_role : (group member : Name) → GrantBody

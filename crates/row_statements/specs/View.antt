@@ -1,4 +1,4 @@
--- What the parts of statements are that the parser joins.
+-- The views of the parts of statements that the parser joins, as spec data.
 use Rattle.row_ast.specs.View.{grant_of}
 use Rattle.row_statements.specs.Schemas as rules
 use Rattle.row_statements.specs.declared.statements.GrantBody.{GrantBody}

@@ -1,6 +1,7 @@
 //! Schema statements, from tokens.
 #![tactic(auto)]
 
+mod creating;
 mod statements;
 
 pub use statements::{schema, statement};

@@ -13,13 +13,12 @@ ghost use Rattle.row_statements.specs.Schemas as rules;
 ghost use Rattle.row_ast.specs.View.{statement_of};
 ghost use Rattle.row_statements.specs.View.{granting_of};
 
-use memory::Heap;
+use crate::creating::create;
+use memory::{Heap, Items, Text};
 use row_ast::{Grant, RowSecurity, Statement};
-use row_creates::create;
 use row_reader::names::{name, name_after, names};
 use row_reader::reader::{Parsed, Reader, before, closed, expect, meant, present, sees};
 use row_tokens::{Token, TokenKind};
-use text::{Items, Text};
 
 // `OWNER TO name`.
 #[tactic(auto, unfolding(crate::specs::Schemas::owner))]
@@ -130,7 +129,7 @@ fn names_after<'t, A: Heap>(
     names(reader, rest)
 }
 
-// What follows GRANT and REVOKE.
+// The part of a statement after GRANT or REVOKE.
 #[derive(Drop)]
 enum GrantBody<A: Heap> {
     // SELECT on a table, or on columns of it.
@@ -209,7 +208,7 @@ fn drop_policy<'t, A: Heap>(reader: Reader<A>, tokens: &'t [Token<'t>]) -> Parse
 }
 
 /// One of these statements.
-#[tactic(auto, unfolding(crate::specs::Schemas::statement, row_creates::specs::Creates::create, crate::specs::Schemas::alter, crate::specs::Schemas::alteration, crate::specs::Schemas::grant, crate::specs::Schemas::revoke))]
+#[tactic(auto, unfolding(crate::specs::Schemas::statement, crate::specs::Creates::create, crate::specs::Schemas::alter, crate::specs::Schemas::alteration, crate::specs::Schemas::grant, crate::specs::Schemas::revoke))]
 pub fn statement<'t, A: Heap>(
     reader: Reader<A>,
     tokens: &'t [Token<'t>],
@@ -241,8 +240,8 @@ fn ended_statement<'t, A: Heap>(
     meant(TokenKind::Semicolon, statement, rest)
 }
 
-// Whether a statement comes next.
-#[tactic(auto, unfolding(crate::specs::Schemas::ended_statement, crate::specs::Schemas::statement, row_creates::specs::Creates::create, crate::specs::Schemas::alter, crate::specs::Schemas::alteration, crate::specs::Schemas::grant, crate::specs::Schemas::revoke, crate::specs::Schemas::drop))]
+// True where a statement comes next.
+#[tactic(auto, unfolding(crate::specs::Schemas::ended_statement, crate::specs::Schemas::statement, crate::specs::Creates::create, crate::specs::Schemas::alter, crate::specs::Schemas::alteration, crate::specs::Schemas::grant, crate::specs::Schemas::revoke, crate::specs::Schemas::drop))]
 fn sees_statement(tokens: &[Token<'_>]) -> bool
     ensures { result ≡ head_in kind_of (first language nested_first rules.ended_statement) (words_of tokens.now) }
 {

@@ -1,5 +1,5 @@
-pub mod Words
-pub mod View
+pub mod Errors
 pub mod Keywords
 pub mod Slices
-pub mod Faults
+pub mod Tokens
+pub mod View

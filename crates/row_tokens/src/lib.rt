@@ -1,7 +1,7 @@
 //! The tokens of queries and schema statements.
 #![tactic(auto)]
 
-mod fault;
+mod error;
 mod keyword;
 mod laws;
 mod lexeme;
@@ -9,7 +9,7 @@ mod scanner;
 mod token;
 mod value;
 
-pub use fault::TokenError;
+pub use error::TokenError;
 pub use laws::law_tokens_stand_in_text;
 pub use scanner::{scan, tokenize};
 pub use token::{Token, TokenKind};

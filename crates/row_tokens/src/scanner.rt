@@ -2,11 +2,11 @@
 
 ghost use Rattle.std.specs.Prelude.{◌≡◌, ◌<◌, ◌≤◌, ◌^◌, length, Err, IfOk};
 ghost use Rattle.memory.specs.Gives.{Gives};
-ghost use Rattle.row_tokens.specs.Faults.{tokens_of};
+ghost use Rattle.row_tokens.specs.Errors.{tokens_of};
 ghost use Rattle.row_tokens.specs.View.{words_of};
-ghost use Rattle.row_tokens.specs.Words.{is_bad, words};
+ghost use Rattle.row_tokens.specs.Tokens.{is_bad, words};
 
-use crate::fault::TokenError;
+use crate::error::TokenError;
 use crate::lexeme::{first_lexeme, is_space};
 use crate::token::{Token, TokenKind};
 use memory::{Failure, Heap};
@@ -46,28 +46,28 @@ pub fn scan<'a, A: Heap>(alloc: A, text: &'a str) -> Result<Vec<Token<'a>, A>, A
     Ok(tokens)
 }
 
-// Whether a kind is that of bytes that are no token.
+// True for the kind of bytes that are no token.
 fn is_bad(kind: TokenKind) -> bool
     ensures { result ≡ is_bad kind }
 {
     matches!(kind, TokenKind::Bad)
 }
 
-/// The tokens of a text, in order, if none is bad; else the byte at which the first bad one starts.
+/// The tokens of a text, in order, if none is bad; else the offset of the first bad one.
 pub fn tokenize<'a, A: Heap>(
     alloc: A,
     text: &'a str,
 ) -> Result<Vec<Token<'a>, A>, Failure<TokenError>>
     ensures tokens { Gives (λ v. words_of v.items) result (tokens_of text.now) }
     // A text that is too long takes no memory.
-    ensures too_long { 2 ^ 32 ≤ length text.now → result ≡ Err (Failure.Fault TokenError.TooLong) }
+    ensures too_long { 2 ^ 32 ≤ length text.now → result ≡ Err (Failure.Error TokenError.TooLong) }
 {
     if text.len() > LONGEST {
-        return Err(Failure::Fault(TokenError::TooLong));
+        return Err(Failure::Error(TokenError::TooLong));
     }
     let tokens = scan(alloc, text)?;
     match tokens.as_slice().last() {
-        Some(token) if is_bad(token.kind) => Err(Failure::Fault(TokenError::Bad {
+        Some(token) if is_bad(token.kind) => Err(Failure::Error(TokenError::Bad {
             offset: token.offset,
         })),
         _ => Ok(tokens),

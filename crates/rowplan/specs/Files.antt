@@ -1,4 +1,4 @@
--- Where the files of tables are.
+-- The paths of the files of tables.
 use Rattle.std.specs.Prelude.{ℕ, List, ◌++◌, codes}
 
 -- the path of a table's file in a folder

@@ -1,18 +1,18 @@
-//! What stops the program before a reply.
+//! The errors that stop the program before a reply.
 
 use command_line::CommandLineError;
 use memory::Failure;
 use output::Output;
-use setup::{Fault, report};
+use setup::{SetupError, report};
 use std::alloc::{AllocError, Global};
 
-/// Why there is no reply.
+/// An error of a program without a reply.
 #[derive(Drop)]
 pub enum ProgramError {
-    /// The command line asks for no request.
+    /// The command line has no request.
     CommandLine(CommandLineError),
     /// There is no store.
-    Setup(Failure<Fault<Global>>),
+    Setup(Failure<SetupError<Global>>),
 }
 
 impl From<AllocError> for ProgramError {
@@ -21,8 +21,8 @@ impl From<AllocError> for ProgramError {
     }
 }
 
-impl From<Failure<Fault<Global>>> for ProgramError {
-    fn from(failure: Failure<Fault<Global>>) -> ProgramError {
+impl From<Failure<SetupError<Global>>> for ProgramError {
+    fn from(failure: Failure<SetupError<Global>>) -> ProgramError {
         ProgramError::Setup(failure)
     }
 }
@@ -33,7 +33,7 @@ impl From<CommandLineError> for ProgramError {
     }
 }
 
-fn report_failure(rt: &HostRuntime, failure: &Failure<Fault<Global>>) -> u8 {
+fn report_failure(rt: &HostRuntime, failure: &Failure<SetupError<Global>>) -> u8 {
     let mut out = Output {
         inner: rt.stderr(),
         failed: 0,
@@ -41,7 +41,8 @@ fn report_failure(rt: &HostRuntime, failure: &Failure<Fault<Global>>) -> u8 {
     report(rt.alloc(), failure, &mut out)
 }
 
-/// Prints what stopped the program, help to standard output and all else to standard error, and returns the exit status.
+/// Prints the error that stopped the program, help to standard output and all else to standard error, and returns the
+/// exit status.
 pub fn print_error(rt: &HostRuntime, error: &ProgramError) -> u8 {
     match error {
         ProgramError::CommandLine(CommandLineError::Help(text)) => {

@@ -4,23 +4,22 @@ ghost use Rattle.std.specs.Prelude.{◌≡◌, IfOk, string_bytes};
 ghost use Rattle.rowplan.specs.Files.{csv_path};
 ghost use Rattle.setup.specs.Loads.{IsOfFile};
 
-use memory::Failure;
-use setup::{Fault, Folder};
+use memory::{Failure, Text};
+use setup::{Folder, SetupError};
 use std::alloc::{AllocError, Global};
 use std::fs::File;
 use std::io::ErrorKind;
 use std::rt::Files;
 use std::{fs, io};
-use text::Text;
 
 // The failure of a file of that path that cannot be read.
-fn unreadable(alloc: Global, path: &str, error: &io::Error) -> Failure<Fault<Global>>
+fn unreadable(alloc: Global, path: &str, error: &io::Error) -> Failure<SetupError<Global>>
     ensures { IsOfFile path.now result }
 {
     match error.kind() {
         ErrorKind::OutOfMemory => Failure::OutOfMemory,
         _ => match Text::new(alloc, path) {
-            Ok(path) => Failure::Fault(Fault::Input { path }),
+            Ok(path) => Failure::Error(SetupError::Input { path }),
             Err(_) => Failure::OutOfMemory,
         },
     }
@@ -31,7 +30,7 @@ pub fn read_text(
     rt: &HostRuntime,
     alloc: Global,
     path: &str,
-) -> Result<String, Failure<Fault<Global>>> {
+) -> Result<String, Failure<SetupError<Global>>> {
     let text = if path == "-" {
         io::read_to_string(alloc, rt.stdin())
     } else {
@@ -68,7 +67,7 @@ impl<R: Files> Folder<Global> for Directory<'_, R> {
 
     ghost path = { λ folder table. csv_path folder.path.now table };
 
-    fn open(&self, alloc: Global, table: &str) -> Result<R::File, Failure<Fault<Global>>> {
+    fn open(&self, alloc: Global, table: &str) -> Result<R::File, Failure<SetupError<Global>>> {
         let path = path_of(alloc, self.path, table)?;
         match File::open(self.files, path.as_str()) {
             Ok(file) => Ok(file),

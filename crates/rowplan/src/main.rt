@@ -5,12 +5,12 @@ mod failure;
 mod files;
 
 use command_line::{QueryArguments, QueryText, Request, read_arguments};
+use diagnostics::codes_text;
 use failure::{ProgramError, print_error};
 use files::{Directory, read_text};
-use hints::codes_text;
 use memory::Failure;
 use output::{Output, write_whole};
-use setup::{Arguments, Fault, explain_refusal, open_store, reply};
+use setup::{Arguments, SetupError, explain_refusal, open_store, reply};
 use std::alloc::{AllocError, Global};
 use std::process::ExitCode;
 use std::{env, io};
@@ -21,7 +21,7 @@ fn store_of(
     rt: &HostRuntime,
     alloc: Global,
     words: &QueryArguments<'_>,
-) -> Result<Store<Global>, Failure<Fault<Global>>> {
+) -> Result<Store<Global>, Failure<SetupError<Global>>> {
     let schema = read_text(rt, alloc, words.schema)?;
     let folder = Directory {
         files: rt,
@@ -35,15 +35,15 @@ fn query_text(
     rt: &HostRuntime,
     alloc: Global,
     text: QueryText<'_>,
-) -> Result<String, Failure<Fault<Global>>> {
+) -> Result<String, Failure<SetupError<Global>>> {
     match text {
         QueryText::Given(text) => Ok(String::from_str(alloc, text)?),
         QueryText::File(path) => read_text(rt, alloc, path),
     }
 }
 
-// Writes the reply to standard output, what a refusal means to standard error where that is asked for, and returns the
-// status of the reply.
+// Writes the reply to standard output, the diagnostics of a refusal to standard error where they are asked for, and
+// returns the status of the reply.
 fn write_reply(
     rt: &HostRuntime,
     alloc: Global,
@@ -72,7 +72,7 @@ fn answer(
     alloc: Global,
     store: &Store<Global>,
     words: &QueryArguments<'_>,
-) -> Result<u8, Failure<Fault<Global>>> {
+) -> Result<u8, Failure<SetupError<Global>>> {
     let text = query_text(rt, alloc, words.text)?;
     let arguments = Arguments {
         schema: words.schema,
@@ -88,7 +88,7 @@ fn query(
     rt: &HostRuntime,
     alloc: Global,
     words: &QueryArguments<'_>,
-) -> Result<u8, Failure<Fault<Global>>> {
+) -> Result<u8, Failure<SetupError<Global>>> {
     let store = store_of(rt, alloc, words)?;
     answer(rt, alloc, &store, words)
 }

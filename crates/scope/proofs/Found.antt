@@ -1,4 +1,4 @@
--- How the search for tables continues.
+-- The steps of the search for tables.
 use Rattle.std.proofs.Common.{◌≡◌, ℕ, suc, ◌+◌, ◌<◌, ◌≤◌, List, [], ◌∷◌, length, map, get_or, drop, drop-cons, Result, Ok, Err, refl, sym, ap, ◌∙◌, arith}
 use Rattle.std.proofs.Math.ListN.{drop_of_length-le}
 use Rattle.memory.specs.Gives.{Gives}
@@ -8,10 +8,10 @@ use Rattle.scope.specs.Entry.{and_then}
 
 -- a failure of a part is one of the whole
 pub failed : {X Y Z W E : Type 0} (v : X → Y) (w : Z → W) (e : Failure E) (stated : Result Y E) (f : Y → Result W E) (whole : Result W E) → and_then stated f ≡ whole → Gives v (Err e) stated → Gives w (Err e) whole
-failed v w (failure.Fault fault) stated f whole so_far h = sym so_far ∙ ap (λ r. and_then r f) h
+failed v w (failure.Error fault) stated f whole so_far h = sym so_far ∙ ap (λ r. and_then r f) h
 failed v w failure.OutOfMemory stated f whole so_far h = tt
 
--- what is known grows by what each item gives, until one gives a fault
+-- the known part grows by the result of each item, until one gives an error
 module _ {W X B E : Type 0} (step : B → W → Result X E) (grown : B → X → B) (all : B → List W → Result B E) where
   module _ {Y : Type 0} (g : Y → W) (ys : List Y) (k : ℕ) (known : B) (whole : Result B E) (so_far : all known (map g (drop k ys)) ≡ whole) where
     -- nothing is left
@@ -30,6 +30,6 @@ module _ {W X B E : Type 0} (step : B → W → Result X E) (grown : B → X →
       pub walk_next : (x : X) → step known (g y) ≡ Ok x → (new : B) → new ≡ grown known x → all new (map g (drop (k + 1) ys)) ≡ whole
       walk_next x h new n = rw n (ap (λ r. and_then r (λ x. all (grown known x) (map g (drop (k + 1) ys)))) (sym h) ∙ walk_opened)
 
--- what follows a part that is given
+-- a function of a part that is given
 pub given : {X Y Z E : Type 0} (v : X → Y) (result : Result X (Failure E)) (stated : Result Z E) (z : Z) (f : Z → Result Y E) → stated ≡ Ok z → Gives v result (f z) → Gives v result (and_then stated f)
 given v result stated z f e h = rw e h

@@ -1,5 +1,4 @@
-pub mod Lists
-pub mod Found
-pub mod Walks
-pub mod Operands
 pub mod Binds
+pub mod Found
+pub mod Operands
+pub mod Walks

@@ -1,6 +1,6 @@
--- What a node with operands is, and that each operand is lighter.
+-- The views of nodes with operands, and that each operand is lighter.
 use Rattle.std.proofs.Common.{◌≡◌, ◌∙◌, ℕ, suc, ◌+◌, ◌<◌, Bool, Box, map, ap, sym, arith}
-use Rattle.text.specs.declared.Items.{Items}
+use Rattle.memory.specs.declared.text.Items.{Items}
 use Rattle.value.specs.Datum.{datum}
 use Rattle.value.specs.declared.types.ColType.{ColType}
 use Rattle.value.specs.declared.types.Value.{Value}

@@ -1,4 +1,4 @@
--- How a walk over the members of an expression continues.
+-- The steps of a walk over the members of an expression.
 use Rattle.std.proofs.Common.{◌≡◌, ℕ, suc, ◌+◌, ◌<◌, ◌≤◌, List, [], length, get_or, drop, drop-cons, Option, Some, None, Vec, Box, refl, sym, ap, ◌∙◌, arith}
 use Rattle.std.proofs.Math.ListN.{drop_of_length-le}
 use Rattle.row_ast.specs.Ast as ast
@@ -8,7 +8,7 @@ use Rattle.row_ast.specs.declared.expr.Arm.{Arm}
 use Rattle.row_ast.proofs.Trees.{exprs_hidden, arms_hidden}
 use Rattle.scope.specs.Weights.{weight, all_weight, arms_weight}
 
--- ---- what a node with members is
+-- ---- the views of nodes with members
 
 module _ {A : Type 0} (e : Expr A) (offset : ℕ) where
   module _ (v : Vec (Expr A) A) (es : List (Expr A)) (d : es ≡ v.items) where

@@ -1,32 +1,32 @@
--- Expressions with each column found and all else kept, or the first column that stands for nothing.
+-- Expressions with each column found and all else kept, or the first name that does not resolve.
 use Rattle.std.specs.Prelude.{ℕ, List, [], ◌∷◌, ◌++◌, Result, Ok}
 use Rattle.row_ast.specs.Ast as ast
 use Rattle.expr.specs.Bound as bound
 use Rattle.expr.specs.Bound.{BoundExpr, BoundOtherwise, bound_exprs_of, bound_arms_of}
-use Rattle.scope.specs.declared.fault.NameFault.{NameFault}
-use Rattle.scope.specs.declared.lookup.Reach.{Reach}
+use Rattle.scope.specs.declared.error.BindError.{BindError}
+use Rattle.scope.specs.declared.lookup.Scope.{Scope}
 use Rattle.scope.specs.Entry.{and_then, Entry}
 use Rattle.scope.specs.Lookup.{find_column}
 
-abbrev pub conjunction : ℕ → Result (List BoundExpr) NameFault → Result BoundExpr NameFault
+abbrev pub conjunction : ℕ → Result (List BoundExpr) BindError → Result BoundExpr BindError
 conjunction offset r = and_then r (λ es. Ok (bound.And offset (bound_exprs_of es)))
 
-abbrev pub disjunction : ℕ → Result (List BoundExpr) NameFault → Result BoundExpr NameFault
+abbrev pub disjunction : ℕ → Result (List BoundExpr) BindError → Result BoundExpr BindError
 disjunction offset r = and_then r (λ es. Ok (bound.Or offset (bound_exprs_of es)))
 
-abbrev pub as_otherwise : Result BoundExpr NameFault → Result BoundOtherwise NameFault
+abbrev pub as_otherwise : Result BoundExpr BindError → Result BoundOtherwise BindError
 as_otherwise r = and_then r (λ e. Ok (bound.Value e))
 
-abbrev pub choice : ℕ → Result (List (BoundExpr × BoundExpr)) NameFault → Result BoundOtherwise NameFault → Result BoundExpr NameFault
+abbrev pub choice : ℕ → Result (List (BoundExpr × BoundExpr)) BindError → Result BoundOtherwise BindError → Result BoundExpr BindError
 choice offset r o = and_then r (λ as_. and_then o (λ e. Ok (bound.Case offset (bound_arms_of as_) e)))
 
-abbrev pub pair : Result BoundExpr NameFault → Result BoundExpr NameFault → Result (BoundExpr × BoundExpr) NameFault
+abbrev pub pair : Result BoundExpr BindError → Result BoundExpr BindError → Result (BoundExpr × BoundExpr) BindError
 pair r s = and_then r (λ when. and_then s (λ result. Ok (when, result)))
 
-module _ (entries : List Entry) (reach : Reach) where
+module _ (entries : List Entry) (scope : Scope) where
   abbrev mutual
-    pub bound_expr : ast.Expr → Result BoundExpr NameFault
-    bound_expr (ast.Column c) = and_then (find_column entries reach c) (λ id. Ok (bound.Column id))
+    pub bound_expr : ast.Expr → Result BoundExpr BindError
+    bound_expr (ast.Column c) = and_then (find_column entries scope c) (λ id. Ok (bound.Column id))
     bound_expr (ast.Literal d) = Ok (bound.Literal d)
     bound_expr ast.CurrentUser = Ok bound.CurrentUser
     bound_expr (ast.Negate offset e) = and_then (bound_expr e) (λ x. Ok (bound.Negate offset x))
@@ -44,14 +44,14 @@ module _ (entries : List Entry) (reach : Reach) where
     bound_expr (ast.Call f offset e) = and_then (bound_expr e) (λ x. Ok (bound.Call f offset x))
 
     -- after those before
-    pub bound_members : List BoundExpr → ast.Exprs → Result (List BoundExpr) NameFault
+    pub bound_members : List BoundExpr → ast.Exprs → Result (List BoundExpr) BindError
     bound_members known ast.no_expr = Ok known
     bound_members known (ast.one_expr e es) = and_then (bound_expr e) (λ x. bound_members (known ++ x ∷ []) es)
 
-    pub bound_arms : List (BoundExpr × BoundExpr) → ast.Arms → Result (List (BoundExpr × BoundExpr)) NameFault
+    pub bound_arms : List (BoundExpr × BoundExpr) → ast.Arms → Result (List (BoundExpr × BoundExpr)) BindError
     bound_arms known ast.no_arm = Ok known
     bound_arms known (ast.one_arm when result as_) = and_then (pair (bound_expr when) (bound_expr result)) (λ p. bound_arms (known ++ p ∷ []) as_)
 
-    pub bound_otherwise : ast.Otherwise → Result BoundOtherwise NameFault
+    pub bound_otherwise : ast.Otherwise → Result BoundOtherwise BindError
     bound_otherwise ast.Nothing = Ok bound.Nothing
     bound_otherwise (ast.Value e) = as_otherwise (bound_expr e)

@@ -1,6 +1,5 @@
-pub mod Entry
-pub mod BoundQuery
-pub mod View
-pub mod Lookup
-pub mod Weights
 pub mod BoundExprs
+pub mod Entry
+pub mod Lookup
+pub mod View
+pub mod Weights

@@ -1,4 +1,4 @@
--- How large an expression is: each part of it is lighter.
+-- The size of an expression: each part of it is lighter.
 use Rattle.std.specs.Prelude.{ℕ, suc, ◌+◌}
 use Rattle.row_ast.specs.Ast.{Expr, Column, Literal, CurrentUser, Negate, Arithmetic, Comparison, Between, In, IsNull, Not, And, Or, Cast, Case, CountStar, Call, Exprs, no_expr, one_expr, Arms, no_arm, one_arm, Otherwise, Nothing, Value}
 

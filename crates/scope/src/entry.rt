@@ -11,7 +11,7 @@ pub struct Entry<'s, A: Heap> {
     pub table: Table<'s, A>,
     /// Its alias, or its name.
     pub alias: &'s str,
-    /// The number of the first entry of its comma item, from 0.
+    /// The index of the first entry of its comma item.
     pub first: usize,
     /// Its ON.
     pub on: Option<&'s Condition<A>>,

@@ -2,40 +2,38 @@
 
 ghost use Rattle.std.specs.Prelude.{[], map};
 ghost use Rattle.memory.specs.Gives.{Gives};
-ghost use Rattle.row_ast.specs.View.{expr_of, exprs};
-ghost use Rattle.row_ast.specs.View.{arms as arms_of};
+ghost use Rattle.row_ast.specs.View.{expr_of, exprs, arms as arms_of};
 ghost use Rattle.expr.specs.View.{bound_arm_pair, bound_expr_of};
 ghost use Rattle.scope.specs.BoundExprs as spec;
 ghost use Rattle.scope.specs.View.{entry_of};
 
 use crate::entry::Entry;
-use crate::lookup::{Reach, find_column};
+use crate::lookup::{Scope, find_column};
 use crate::nodes::{
     Arms, BindResult, Members, arithmetic, between, call, cast, column, comparison, conjunction,
     disjunction, literal, logical_not, made, membership, negation, null_check, with_arm,
     with_member, with_otherwise, without_otherwise,
 };
 use expr::BoundExpr;
-use memory::Heap;
+use memory::{Heap, Items};
 use row_ast::{Arm, Expr};
-use text::Items;
 
-/// The expression with each column found among the entries in reach, or the first that stands for nothing.
+/// The expression with each column found among the entries in scope, or the first name that does not resolve.
 #[cycle(bind)]
 pub fn bind_expr<A: Heap>(
     alloc: A,
     entries: &[Entry<'_, A>],
-    reach: Reach,
+    scope: Scope,
     expression: &Expr<A>,
 ) -> BindResult<A>
-    ensures { Gives (λ b. bound_expr_of b.value) result (spec.bound_expr (map (λ e. entry_of e) entries.now) reach (expr_of expression.now)) }
+    ensures { Gives (λ b. bound_expr_of b.value) result (spec.bound_expr (map (λ e. entry_of e) entries.now) scope (expr_of expression.now)) }
 {
     match expression {
-        Expr::Column(name) => column(alloc, find_column(entries, reach, name)),
+        Expr::Column(name) => column(alloc, find_column(entries, scope, name)),
         Expr::Literal(value) => literal(alloc, value),
         Expr::CurrentUser => made(alloc, BoundExpr::CurrentUser),
         Expr::Negate { offset, operand } => {
-            negation(alloc, *offset, bind_expr(alloc, entries, reach, operand))
+            negation(alloc, *offset, bind_expr(alloc, entries, scope, operand))
         }
         Expr::Arithmetic {
             operator,
@@ -43,8 +41,8 @@ pub fn bind_expr<A: Heap>(
             left,
             right,
         } => {
-            let left = bind_expr(alloc, entries, reach, left);
-            let right = bind_expr(alloc, entries, reach, right);
+            let left = bind_expr(alloc, entries, scope, left);
+            let right = bind_expr(alloc, entries, scope, right);
             arithmetic(alloc, *operator, *offset, left, right)
         }
         Expr::Comparison {
@@ -53,8 +51,8 @@ pub fn bind_expr<A: Heap>(
             left,
             right,
         } => {
-            let left = bind_expr(alloc, entries, reach, left);
-            let right = bind_expr(alloc, entries, reach, right);
+            let left = bind_expr(alloc, entries, scope, left);
+            let right = bind_expr(alloc, entries, scope, right);
             comparison(alloc, *operator, *offset, left, right)
         }
         Expr::Between {
@@ -64,9 +62,9 @@ pub fn bind_expr<A: Heap>(
             low,
             high,
         } => {
-            let operand = bind_expr(alloc, entries, reach, operand);
-            let low = bind_expr(alloc, entries, reach, low);
-            let high = bind_expr(alloc, entries, reach, high);
+            let operand = bind_expr(alloc, entries, scope, operand);
+            let low = bind_expr(alloc, entries, scope, low);
+            let high = bind_expr(alloc, entries, scope, high);
             between(alloc, *negated, *offset, operand, low, high)
         }
         Expr::In {
@@ -75,7 +73,7 @@ pub fn bind_expr<A: Heap>(
             values,
             operand,
         } => {
-            let operand = bind_expr(alloc, entries, reach, operand);
+            let operand = bind_expr(alloc, entries, scope, operand);
             membership(alloc, *negated, *offset, values.as_slice(), operand)
         }
         Expr::IsNull {
@@ -83,24 +81,24 @@ pub fn bind_expr<A: Heap>(
             offset,
             operand,
         } => {
-            let operand = bind_expr(alloc, entries, reach, operand);
+            let operand = bind_expr(alloc, entries, scope, operand);
             null_check(alloc, *negated, *offset, operand)
         }
         Expr::Not { offset, operand } => {
-            logical_not(alloc, *offset, bind_expr(alloc, entries, reach, operand))
+            logical_not(alloc, *offset, bind_expr(alloc, entries, scope, operand))
         }
         Expr::And { offset, members } => {
-            conjunction(alloc, *offset, bind_members(alloc, entries, reach, members))
+            conjunction(alloc, *offset, bind_members(alloc, entries, scope, members))
         }
         Expr::Or { offset, members } => {
-            disjunction(alloc, *offset, bind_members(alloc, entries, reach, members))
+            disjunction(alloc, *offset, bind_members(alloc, entries, scope, members))
         }
         Expr::Cast {
             offset,
             to,
             operand,
         } => {
-            let operand = bind_expr(alloc, entries, reach, operand);
+            let operand = bind_expr(alloc, entries, scope, operand);
             cast(alloc, *offset, *to, operand)
         }
         Expr::Case {
@@ -108,10 +106,10 @@ pub fn bind_expr<A: Heap>(
             arms,
             otherwise,
         } => {
-            let arms = bind_arms(alloc, entries, reach, arms);
+            let arms = bind_arms(alloc, entries, scope, arms);
             match otherwise {
                 Some(value) => {
-                    let value = bind_expr(alloc, entries, reach, value);
+                    let value = bind_expr(alloc, entries, scope, value);
                     with_otherwise(alloc, *offset, arms, value)
                 }
                 None => without_otherwise(alloc, *offset, arms),
@@ -123,7 +121,7 @@ pub fn bind_expr<A: Heap>(
             offset,
             argument,
         } => {
-            let argument = bind_expr(alloc, entries, reach, argument);
+            let argument = bind_expr(alloc, entries, scope, argument);
             call(alloc, *aggregate, *offset, argument)
         }
     }
@@ -134,14 +132,14 @@ pub fn bind_expr<A: Heap>(
 fn bind_members<A: Heap>(
     alloc: A,
     entries: &[Entry<'_, A>],
-    reach: Reach,
+    scope: Scope,
     members: &[Expr<A>],
 ) -> Members<A>
-    ensures { Gives (λ v. map bound_expr_of v.items) result (spec.bound_members (map (λ e. entry_of e) entries.now) reach [] (exprs members.now)) }
+    ensures { Gives (λ v. map bound_expr_of v.items) result (spec.bound_members (map (λ e. entry_of e) entries.now) scope [] (exprs members.now)) }
 {
     let mut all = Items::new(alloc);
     for member in members {
-        match with_member(all, bind_expr(alloc, entries, reach, member)) {
+        match with_member(all, bind_expr(alloc, entries, scope, member)) {
             Ok(more) => all = more,
             Err(failure) => return Err(failure),
         }
@@ -151,13 +149,13 @@ fn bind_members<A: Heap>(
 
 // The same of the arms of a CASE.
 #[cycle(bind)]
-fn bind_arms<A: Heap>(alloc: A, entries: &[Entry<'_, A>], reach: Reach, arms: &[Arm<A>]) -> Arms<A>
-    ensures { Gives (λ v. map bound_arm_pair v.items) result (spec.bound_arms (map (λ e. entry_of e) entries.now) reach [] (arms_of arms.now)) }
+fn bind_arms<A: Heap>(alloc: A, entries: &[Entry<'_, A>], scope: Scope, arms: &[Arm<A>]) -> Arms<A>
+    ensures { Gives (λ v. map bound_arm_pair v.items) result (spec.bound_arms (map (λ e. entry_of e) entries.now) scope [] (arms_of arms.now)) }
 {
     let mut all = Items::new(alloc);
     for next in arms {
-        let when = bind_expr(alloc, entries, reach, &next.when);
-        let result = bind_expr(alloc, entries, reach, &next.result);
+        let when = bind_expr(alloc, entries, scope, &next.when);
+        let result = bind_expr(alloc, entries, scope, &next.result);
         match with_arm(all, when, result) {
             Ok(more) => all = more,
             Err(failure) => return Err(failure),

@@ -1,4 +1,4 @@
-//! The column that a name stands for.
+//! The column that a name resolves to.
 
 ghost use Rattle.std.specs.Prelude.{◌≡◌, ◌+◌, ◌<◌, map};
 ghost use Rattle.row_ast.specs.View.{column_ref_of};
@@ -6,23 +6,23 @@ ghost use Rattle.scope.specs.View.{entry_of};
 ghost use Rattle.scope.specs.Lookup as spec;
 
 use crate::entry::Entry;
-use crate::fault::NameFault;
+use crate::error::BindError;
 use expr::ColumnId;
 use memory::Heap;
 use row_ast::ColumnRef;
-use row_objects::{is_qualified, place};
+use row_objects::{column_index, is_qualified};
 use value::Refusal;
 
-/// The entries from one number up to another, without that.
+/// The entries from one index up to another, without that.
 #[derive(Clone, Copy, Debug, PartialEq, Eq)]
-pub struct Reach {
+pub struct Scope {
     /// The first entry.
     pub from: usize,
     /// One more than the last.
     pub to: usize,
 }
 
-// What a name stands for among some entries.
+// The result of the search for a name among some entries.
 #[derive(Clone, Copy)]
 enum Search {
     // No entry has the name before the dot.
@@ -35,48 +35,48 @@ enum Search {
     Several,
 }
 
-/// The reach of items, WHERE, GROUP BY and HAVING: every entry.
-pub fn everywhere<A: Heap>(entries: &[Entry<'_, A>]) -> Reach
+/// The scope of items, WHERE, GROUP BY and HAVING: every entry.
+pub fn everywhere<A: Heap>(entries: &[Entry<'_, A>]) -> Scope
     ensures { result ≡ spec.everywhere (map (λ e. entry_of e) entries.now) }
 {
-    Reach {
+    Scope {
         from: 0,
         to: entries.len(),
     }
 }
 
-/// The reach of the ON of an entry: from the first entry of its comma item to the entry itself.
-pub fn on_reach<A: Heap>(number: usize, entry: &Entry<'_, A>) -> Reach
+/// The scope of the ON of an entry: from the first entry of its comma item to the entry itself.
+pub fn on_scope<A: Heap>(number: usize, entry: &Entry<'_, A>) -> Scope
     requires { number + 1 < 18446744073709551616 }
-    ensures { result ≡ spec.on_reach number (entry_of entry.now) }
+    ensures { result ≡ spec.on_scope number (entry_of entry.now) }
 {
-    Reach {
+    Scope {
         from: entry.first,
         to: number + 1,
     }
 }
 
-fn is_within(reach: Reach, entry: usize) -> bool
-    ensures { result ≡ spec.is_within reach entry }
+fn is_within(scope: Scope, entry: usize) -> bool
+    ensures { result ≡ spec.is_within scope entry }
 {
-    entry >= reach.from && entry < reach.to
+    entry >= scope.from && entry < scope.to
 }
 
 fn column_in_entry<A: Heap>(
-    reach: Reach,
+    scope: Scope,
     column: &ColumnRef<A>,
     number: usize,
     entry: &Entry<'_, A>,
 ) -> Search
-    ensures { result ≡ spec.column_in_entry reach (column_ref_of column.now) number (entry_of entry.now) }
+    ensures { result ≡ spec.column_in_entry scope (column_ref_of column.now) number (entry_of entry.now) }
 {
-    if !is_within(reach, number) {
+    if !is_within(scope, number) {
         return Search::NoEntry;
     }
     if !is_qualified(entry.alias, &column.table) {
         return Search::NoEntry;
     }
-    match place(entry.table.columns(), column.name.as_str()) {
+    match column_index(entry.table.columns(), column.name.as_str()) {
         Some(column) => Search::One(ColumnId {
             entry: number,
             column,
@@ -102,17 +102,17 @@ fn merge(a: Search, b: Search) -> Search
     }
 }
 
-/// The column that a name stands for, among the entries that it reaches.
+/// The column that a name resolves to, among the entries in scope.
 pub fn find_column<A: Heap>(
     entries: &[Entry<'_, A>],
-    reach: Reach,
+    scope: Scope,
     column: &ColumnRef<A>,
-) -> Result<ColumnId, NameFault>
-    ensures { result ≡ spec.find_column (map (λ e. entry_of e) entries.now) reach (column_ref_of column.now) }
+) -> Result<ColumnId, BindError>
+    ensures { result ≡ spec.find_column (map (λ e. entry_of e) entries.now) scope (column_ref_of column.now) }
 {
     let mut search = Search::NoEntry;
     for (number, entry) in entries.iter().enumerate() {
-        search = merge(search, column_in_entry(reach, column, number, entry));
+        search = merge(search, column_in_entry(scope, column, number, entry));
     }
     let code = match search {
         Search::One(id) => return Ok(id),
@@ -120,7 +120,7 @@ pub fn find_column<A: Heap>(
         Search::NoColumn => Refusal::UndefinedColumn,
         Search::Several => Refusal::AmbiguousColumn,
     };
-    Err(NameFault {
+    Err(BindError {
         code,
         offset: column.offset,
     })

@@ -1,4 +1,4 @@
-//! Bound nodes, each made of its parts as they were bound: it, or the first fault of a part.
+//! Bound nodes, each made of its parts as they were bound: it, or the first error of a part.
 
 ghost use Rattle.std.specs.Prelude.{◌≡◌, ◌++◌, [], ◌∷◌, IfOk, List, Result, Ok, Err, map};
 ghost use Rattle.std.specs.Result.{MatchResult};
@@ -8,32 +8,31 @@ ghost use Rattle.value.specs.Datum.{datum};
 ghost use Rattle.expr.specs.Bound as bound;
 ghost use Rattle.expr.specs.Bound.{BoundExpr as SpecExpr, Nothing};
 ghost use Rattle.expr.specs.View.{bound_arm_pair, bound_expr_of};
-ghost use Rattle.scope.specs.declared.fault.NameFault.{NameFault as SpecFault};
+ghost use Rattle.scope.specs.declared.error.BindError.{BindError as SpecFault};
 ghost use Rattle.scope.specs.BoundExprs as spec;
 ghost use Rattle.scope.specs.Entry.{and_then};
 
-use crate::fault::NameFault;
+use crate::error::BindError;
 use expr::{BoundArm, BoundExpr, ColumnId};
-use memory::{Failure, Heap, boxed};
+use memory::{Failure, Heap, Items, boxed};
 use std::alloc::AllocError;
-use text::Items;
 use value::{Aggregate, Arithmetic, ColType, Comparison, Value};
 
-/// A bound expression, or the first fault of its names.
-pub type BindResult<A> = Result<Box<BoundExpr<A>, A>, Failure<NameFault>>;
+/// A bound expression, or the first error of its names.
+pub type BindResult<A> = Result<Box<BoundExpr<A>, A>, Failure<BindError>>;
 
 // The same of several expressions.
-pub(crate) type Members<A> = Result<Vec<BoundExpr<A>, A>, Failure<NameFault>>;
+pub(crate) type Members<A> = Result<Vec<BoundExpr<A>, A>, Failure<BindError>>;
 
 // The same of the arms of a CASE.
-pub(crate) type Arms<A> = Result<Vec<BoundArm<A>, A>, Failure<NameFault>>;
+pub(crate) type Arms<A> = Result<Vec<BoundArm<A>, A>, Failure<BindError>>;
 
 // Both, or the first failure. What is not returned is dropped here and not in the caller, whose proof would contain the
 // whole drop of a tree.
 fn both<X: Drop, Y: Drop>(
-    x: Result<X, Failure<NameFault>>,
-    y: Result<Y, Failure<NameFault>>,
-) -> Result<(X, Y), Failure<NameFault>>
+    x: Result<X, Failure<BindError>>,
+    y: Result<Y, Failure<BindError>>,
+) -> Result<(X, Y), Failure<BindError>>
     ensures { result ≡ and_then x (λ a. and_then y (λ b. Ok (a, b))) }
 {
     match x {
@@ -45,11 +44,11 @@ fn both<X: Drop, Y: Drop>(
     }
 }
 
-// One item more, or the failure in its place. The list is dropped here, for the same reason.
+// One item more, or the failure instead. The list is dropped here, for the same reason.
 fn extended<T: Drop, A: Heap>(
     mut all: Items<T, A>,
-    next: Result<T, Failure<NameFault>>,
-) -> Result<Items<T, A>, Failure<NameFault>>
+    next: Result<T, Failure<BindError>>,
+) -> Result<Items<T, A>, Failure<BindError>>
     ensures { MatchResult next (λ x. MatchResult result (λ v. v ≡ all ++ x ∷ []) (λ e. e ≡ OutOfMemory)) (λ e. result ≡ Err e) }
 {
     match next {
@@ -79,12 +78,12 @@ pub(crate) fn made<A: Heap>(alloc: A, node: BoundExpr<A>) -> BindResult<A>
 }
 
 // A column.
-pub(crate) fn column<A: Heap>(alloc: A, found: Result<ColumnId, NameFault>) -> BindResult<A>
+pub(crate) fn column<A: Heap>(alloc: A, found: Result<ColumnId, BindError>) -> BindResult<A>
     ensures { Gives (λ b. bound_expr_of b.value) result (and_then found (λ id. Ok (bound.Column id))) }
 {
     match found {
         Ok(id) => made(alloc, BoundExpr::Column(id)),
-        Err(fault) => Err(Failure::Fault(fault)),
+        Err(fault) => Err(Failure::Error(fault)),
     }
 }
 
@@ -352,7 +351,7 @@ pub(crate) fn with_otherwise<A: Heap>(
 }
 
 // `WHEN when THEN then`.
-fn arm<A: Heap>(when: BindResult<A>, then: BindResult<A>) -> Result<BoundArm<A>, Failure<NameFault>>
+fn arm<A: Heap>(when: BindResult<A>, then: BindResult<A>) -> Result<BoundArm<A>, Failure<BindError>>
     ensures { (x y : Result SpecExpr SpecFault) → Gives (λ b. bound_expr_of b.value) when x → Gives (λ b. bound_expr_of b.value) then y → Gives (λ a. bound_arm_pair a) result (spec.pair x y) }
 {
     match both(when, then) {
@@ -368,7 +367,7 @@ fn arm<A: Heap>(when: BindResult<A>, then: BindResult<A>) -> Result<BoundArm<A>,
 pub(crate) fn with_member<A: Heap>(
     all: Items<BoundExpr<A>, A>,
     next: BindResult<A>,
-) -> Result<Items<BoundExpr<A>, A>, Failure<NameFault>>
+) -> Result<Items<BoundExpr<A>, A>, Failure<BindError>>
     ensures { (x : Result SpecExpr SpecFault) → Gives (λ b. bound_expr_of b.value) next x → Gives (λ v. map bound_expr_of v) result (and_then x (λ e. Ok (map bound_expr_of all ++ e ∷ []))) }
 {
     match next {
@@ -382,7 +381,7 @@ pub(crate) fn with_arm<A: Heap>(
     all: Items<BoundArm<A>, A>,
     when: BindResult<A>,
     then: BindResult<A>,
-) -> Result<Items<BoundArm<A>, A>, Failure<NameFault>>
+) -> Result<Items<BoundArm<A>, A>, Failure<BindError>>
     ensures { (x y : Result SpecExpr SpecFault) → Gives (λ b. bound_expr_of b.value) when x → Gives (λ b. bound_expr_of b.value) then y → Gives (λ v. map bound_arm_pair v) result (and_then (spec.pair x y) (λ p. Ok (map bound_arm_pair all ++ p ∷ []))) }
 {
     extended(all, arm(when, then))

@@ -8,8 +8,8 @@ use Rattle.memory.specs.Gives.{IsFailure}
 use Rattle.row_ast.specs.Statements.{Statement}
 use Rattle.store.specs.Database.{Database, changed_database}
 use Rattle.setup.specs.Schema.{StopsAfter, applied, applied_from, numbered, refused_by, root, then_apply}
-use Rattle.startup.specs.declared.fault.SchemaError.{SchemaError}
-use Rattle.startup.specs.declared.fault.SchemaError.TheVariants as errors
+use Rattle.setup.specs.declared.error.SchemaError.{SchemaError}
+use Rattle.setup.specs.declared.error.SchemaError.TheVariants as errors
 
 -- one statement more
 applied_more : (n : ℕ) (db mid after : Database) (acts : List Statement) (act : Statement) → applied_from n db acts ≡ Ok mid → changed_database mid root act ≡ Ok after → applied_from n db (acts ++ act ∷ []) ≡ Ok after
@@ -27,14 +27,14 @@ module _ {X : Type 0} (v : X → Statement) (xs : List X) (x : X) (i : ℕ) (bel
   rest : map v (drop i xs) ≡ v x ∷ map v (drop (i + 1) xs)
   rest = rw (add-one, drop-cons xs i x below, ← is) refl
 
-  front : map v (take (i + 1) xs) ≡ map v (take i xs) ++ v x ∷ []
-  front = rw (add-one, take-suc xs i x below, map-append, ← is) refl
+  prefix : map v (take (i + 1) xs) ≡ map v (take i xs) ++ v x ∷ []
+  prefix = rw (add-one, take-suc xs i x below, map-append, ← is) refl
 
   pub next : (n : ℕ) (db after : Database) → changed_database db root (v x) ≡ Ok after → applied_from n db (map v (drop i xs)) ≡ applied_from (n + 1) after (map v (drop (i + 1) xs))
   next n db after e = rw (rest, e) refl
 
   pub done : (n : ℕ) (old db after : Database) → applied_from n old (map v (take i xs)) ≡ Ok db → changed_database db root (v x) ≡ Ok after → applied_from n old (map v (take (i + 1) xs)) ≡ Ok after
-  done n old db after h e = rw front (applied_more n old db after (map v (take i xs)) (v x) h e)
+  done n old db after h e = rw prefix (applied_more n old db after (map v (take i xs)) (v x) h e)
 
   pub refused : (n : ℕ) (db : Database) (why : Refusal) → changed_database db root (v x) ≡ Err why → applied_from n db (map v (drop i xs)) ≡ Err (errors.Statement n why)
   refused n db why e = rw (rest, e) refl

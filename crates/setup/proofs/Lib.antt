@@ -1,3 +1,4 @@
 pub mod Fold
-pub mod Tables
 pub mod Opens
+pub mod Outcomes
+pub mod Tables

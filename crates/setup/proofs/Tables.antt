@@ -3,22 +3,20 @@ use Rattle.std.proofs.Common.{◌≡◌, inr, ℕ, zero, suc, ◌+◌, ◌<◌, 
 use Rattle.std.proofs.Math.Seq.{take-suc, drop-cons}
 use Rattle.std.proofs.lemmas.List.{take-append-drop}
 use Rattle.std.proofs.lemmas.Option.{slice_get_within, get_or_from_slice_get}
-use Rattle.std.proofs.lemmas.Slice.Eq.{bytes_eq-Decides}
 use Rattle.std.specs.List.{slice_get}
-use Rattle.std.specs.Str.{bytes_eq}
 use Rattle.csv_records.specs.Left.{records_of}
 use Rattle.value.specs.Datum.{Row}
 use Rattle.tables.specs.Loading.{TableRows, Fields}
 use Rattle.memory.specs.declared.failure.Failure as memory
 use Rattle.memory.specs.declared.failure.Failure.TheVariants as failure
-use Rattle.row_ast.specs.Ast.{Name}
+use Rattle.value.specs.Names.{Name}
 use Rattle.store.specs.declared.store.StoreError.{StoreError}
 use Rattle.catalog.specs.Checks.{first_changed}
 use Rattle.store.specs.Database.{is_named}
 use Rattle.store.specs.Loads.{IsLoad, IsLoadFrom, with_rows}
-use Rattle.setup.specs.Loads.{AreLoaded, IsFaultOf, IsRowFault, Knows, names_of}
-use Rattle.startup.specs.declared.fault.Fault.{Fault}
-use Rattle.startup.specs.declared.fault.Fault.TheVariants as fault
+use Rattle.setup.specs.Loads.{AreLoaded, IsErrorOf, IsRowFault, Knows, names_of}
+use Rattle.setup.specs.declared.error.SetupError.{SetupError}
+use Rattle.setup.specs.declared.error.SetupError.TheVariants as fault
 
 -- ---- the names stay
 
@@ -40,19 +38,6 @@ names_kept (Some bytes) old new name h = loaded_names old new name (records_of b
 
 -- ---- the table of a place
 
-same_bytes : (s t : List ℕ) → s ≡ t → bytes_eq s t ≡ true
-same_bytes s t e = grind (arith, bytes_eq-Decides)
-
--- its name is that of a table that is there
-pub named : (es : List (Name × TableRows)) (i : ℕ) (name : Name) → slice_get (names_of es) i ≡ Some name → IsSome (find (is_named name) es)
-named [] i name h = cc
-named (e ∷ es) zero name h = let same : e.0 ≡ name = cc in rw (same_bytes e.0 name same) refl
-named (e ∷ es) (suc i) name h = go (is_named name e) (named es i name h)
-  where
-    go : (b : Bool) → IsSome (find (is_named name) es) → is_some (cond b (Some e) (find (is_named name) es)) ≡ true
-    go true h = refl
-    go false h = h
-
 module _ (names : List Name) (i : ℕ) (name : Name) (at : slice_get names i ≡ Some name) where
   is : get_or names i name ≡ name
   is = get_or_from_slice_get names i name name at
@@ -63,8 +48,8 @@ module _ (names : List Name) (i : ℕ) (name : Name) (at : slice_get names i ≡
   pub parted : names ≡ take i names ++ name ∷ drop (i + 1) names
   parted = sym (take-append-drop i names) ∙ ap (λ back. take i names ++ back) (rw (add-one, drop-cons names i name below, is) refl)
 
-  front : take (i + 1) names ≡ take i names ++ name ∷ []
-  front = rw (add-one, take-suc names i name below, is) refl
+  prefix : take (i + 1) names ≡ take i names ++ name ∷ []
+  prefix = rw (add-one, take-suc names i name below, is) refl
 
   loaded_after : (bytes : Name → Option (List ℕ)) (done : List Name) (old mid new : List (Name × TableRows)) → AreLoaded bytes done old mid → IsLoadFrom (bytes name) mid new name (Ok tt)
       → AreLoaded bytes (done ++ name ∷ []) old new
@@ -74,7 +59,7 @@ module _ (names : List Name) (i : ℕ) (name : Name) (at : slice_get names i ≡
   -- one table more is loaded
   pub loaded_more : (bytes : Name → Option (List ℕ)) (old mid new : List (Name × TableRows)) → AreLoaded bytes (take i names) old mid → IsLoadFrom (bytes name) mid new name (Ok tt)
       → AreLoaded bytes (take (i + 1) names) old new
-  loaded_more bytes old mid new h l = rw front (loaded_after bytes (take i names) old mid new h l)
+  loaded_more bytes old mid new h l = rw prefix (loaded_after bytes (take i names) old mid new h l)
 
 -- ---- what is known of a file
 
@@ -83,10 +68,10 @@ load_known None None old new name r k h = h
 load_known None (Some bytes) old new name r k h = (records_of bytes, h.0)
 load_known (Some bytes) left old new name r k h = rw k at h
 
-pub fault_known : {A : Type 0} (path : List ℕ) (known left : Option (List ℕ)) (old : List (Name × TableRows)) (name : Name) (f : memory.Failure (Fault A)) → Knows known left → IsRowFault left old name f → IsFaultOf path known old name f
-fault_known path known left old name (failure.Fault (fault.Input p)) k h = absurd h
-fault_known path known left old name (failure.Fault (fault.Schema e)) k h = absurd h
-fault_known path known left old name (failure.Fault (fault.Data table column e)) k h = inr (h.0, h.1, load_known known left old old name _ k h.2)
+pub fault_known : {A : Type 0} (path : List ℕ) (known left : Option (List ℕ)) (old : List (Name × TableRows)) (name : Name) (f : memory.Failure (SetupError A)) → Knows known left → IsRowFault left old name f → IsErrorOf path known old name f
+fault_known path known left old name (failure.Error (fault.Input p)) k h = absurd h
+fault_known path known left old name (failure.Error (fault.Schema e)) k h = absurd h
+fault_known path known left old name (failure.Error (fault.Data table column e)) k h = inr (h.0, h.1, load_known known left old old name _ k h.2)
 fault_known path known left old name failure.OutOfMemory k h = inr tt
 
 -- ---- a fact of one outcome, from another fact
@@ -94,9 +79,3 @@ fault_known path known left old name failure.OutOfMemory k h = inr tt
 pub if_err : {T E : Type 0} (r : Result T E) (P Q : E → Type 0) → ((e : E) → P e → Q e) → IfErr r P → IfErr r Q
 if_err (Ok x) P Q f h = tt
 if_err (Err e) P Q f h = f e h
-
--- there is a table at each place below their number
-pub no_place : (es : List (Name × TableRows)) (i : ℕ) → i < length es → ◌≡◌ {A = Option Name} None (option_map (λ e. e.0) (slice_get es i)) → ⊥
-no_place [] i h e = absurd (omega arith)
-no_place (x ∷ es) zero h e = cc
-no_place (x ∷ es) (suc i) h e = no_place es i (omega arith) e

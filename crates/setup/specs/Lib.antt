@@ -1,3 +1,5 @@
-pub mod Schema
+pub mod Explanation
+pub mod Lines
 pub mod Loads
 pub mod Opening
+pub mod Schema

@@ -6,12 +6,12 @@ use Rattle.value.specs.Columns.{Column}
 use Rattle.tables.specs.Loading.{TableRows}
 use Rattle.tables.specs.declared.LoadError.{LoadError}
 use Rattle.tables.specs.declared.LoadError.TheVariants as load
-use Rattle.row_ast.specs.Ast.{Name}
+use Rattle.value.specs.Names.{Name}
 use Rattle.store.specs.declared.store.StoreError.TheVariants.{Data}
 use Rattle.store.specs.Database.{columns_in}
 use Rattle.store.specs.Loads.{IsLoadFrom}
-use Rattle.startup.specs.declared.fault.Fault.{Fault}
-use Rattle.startup.specs.declared.fault.Fault.TheVariants as fault
+use Rattle.setup.specs.declared.error.SetupError.{SetupError}
+use Rattle.setup.specs.declared.error.SetupError.TheVariants as fault
 
 -- the names of the tables, in order of creation
 abbrev pub names_of : List (Name × TableRows) → List Name
@@ -25,8 +25,8 @@ name_at (Some column) = column.name
 abbrev pub column_name : List Column → LoadError → Name
 column_name columns load.Header = []
 column_name columns (load.Reader row) = []
-column_name columns (load.Cell row place) = name_at (slice_get columns place)
-column_name columns (load.NotNull row place) = name_at (slice_get columns place)
+column_name columns (load.Cell row index) = name_at (slice_get columns index)
+column_name columns (load.NotNull row index) = name_at (slice_get columns index)
 column_name columns load.TooMany = []
 
 -- each table in turn has the rows of its file, whose bytes may be known
@@ -40,33 +40,33 @@ Knows None left = ⊤
 Knows (Some bytes) left = left ≡ Some bytes
 
 -- an error of opening the file of a path: it cannot be read, or memory ran out
-abbrev pub IsOfFile : {A : Type 0} → List ℕ → memory.Failure (Fault A) → Type 0
-IsOfFile path (failure.Fault (fault.Input p)) = p ≡ path
-IsOfFile path (failure.Fault (fault.Schema e)) = ⊥
-IsOfFile path (failure.Fault (fault.Data table column e)) = ⊥
+abbrev pub IsOfFile : {A : Type 0} → List ℕ → memory.Failure (SetupError A) → Type 0
+IsOfFile path (failure.Error (fault.Input p)) = p ≡ path
+IsOfFile path (failure.Error (fault.Schema e)) = ⊥
+IsOfFile path (failure.Error (fault.Data table column e)) = ⊥
 IsOfFile path failure.OutOfMemory = ⊤
 
--- why rows that are read were not loaded: their first fault, or memory ran out
-abbrev pub IsRowFault : {A : Type 0} → Option (List ℕ) → List (Name × TableRows) → Name → memory.Failure (Fault A) → Type 0
-IsRowFault bytes contents name (failure.Fault (fault.Input path)) = ⊥
-IsRowFault bytes contents name (failure.Fault (fault.Schema e)) = ⊥
-IsRowFault bytes contents name (failure.Fault (fault.Data table column e)) =
-    (table ≡ name) × (column ≡ column_name (columns_in contents name) e) × IsLoadFrom bytes contents contents name (Err (failure.Fault (Data e)))
+-- the error of rows that were read and not loaded: their first load error, or memory ran out
+abbrev pub IsRowFault : {A : Type 0} → Option (List ℕ) → List (Name × TableRows) → Name → memory.Failure (SetupError A) → Type 0
+IsRowFault bytes contents name (failure.Error (fault.Input path)) = ⊥
+IsRowFault bytes contents name (failure.Error (fault.Schema e)) = ⊥
+IsRowFault bytes contents name (failure.Error (fault.Data table column e)) =
+    (table ≡ name) × (column ≡ column_name (columns_in contents name) e) × IsLoadFrom bytes contents contents name (Err (failure.Error (Data e)))
 IsRowFault bytes contents name failure.OutOfMemory = ⊤
 
--- why the rows of a table were not loaded: its file cannot be read, or a fault of its rows
-abbrev pub IsFaultOf : {A : Type 0} → List ℕ → Option (List ℕ) → List (Name × TableRows) → Name → memory.Failure (Fault A) → Type 0
-IsFaultOf path bytes contents name f = IsOfFile path f ⊎ IsRowFault bytes contents name f
+-- the error of a table whose rows were not loaded: its file cannot be read, or a load error of its rows
+abbrev pub IsErrorOf : {A : Type 0} → List ℕ → Option (List ℕ) → List (Name × TableRows) → Name → memory.Failure (SetupError A) → Type 0
+IsErrorOf path bytes contents name f = IsOfFile path f ⊎ IsRowFault bytes contents name f
 
--- the table at a place, in order of creation, has the rows of its file
+-- the table at an index, in order of creation, has the rows of its file
 abbrev pub IsLoadedAt : (Name → Option (List ℕ)) → List (Name × TableRows) → List (Name × TableRows) → ℕ → Type 0
-IsLoadedAt bytes old new place = (name : Name) × (slice_get (names_of old) place ≡ Some name) × IsLoadFrom (bytes name) old new name (Ok tt)
+IsLoadedAt bytes old new index = (name : Name) × (slice_get (names_of old) index ≡ Some name) × IsLoadFrom (bytes name) old new name (Ok tt)
 
--- the fault is that of the table at a place
-abbrev pub IsFaultAt : {A : Type 0} → (Name → List ℕ) → (Name → Option (List ℕ)) → List (Name × TableRows) → ℕ → memory.Failure (Fault A) → Type 0
-IsFaultAt paths bytes old place f = (name : Name) × (slice_get (names_of old) place ≡ Some name) × IsFaultOf (paths name) (bytes name) old name f
+-- the error is that of the table at an index
+abbrev pub IsErrorAt : {A : Type 0} → (Name → List ℕ) → (Name → Option (List ℕ)) → List (Name × TableRows) → ℕ → memory.Failure (SetupError A) → Type 0
+IsErrorAt paths bytes old index f = (name : Name) × (slice_get (names_of old) index ≡ Some name) × IsErrorOf (paths name) (bytes name) old name f
 
--- the tables before one were loaded, and this is the fault of that one
-abbrev pub StopsAtTable : {A : Type 0} → (Name → List ℕ) → (Name → Option (List ℕ)) → List (Name × TableRows) → List (Name × TableRows) → memory.Failure (Fault A) → Type 0
+-- the tables before one were loaded, and this is the error of that one
+abbrev pub StopsAtTable : {A : Type 0} → (Name → List ℕ) → (Name → Option (List ℕ)) → List (Name × TableRows) → List (Name × TableRows) → memory.Failure (SetupError A) → Type 0
 StopsAtTable paths bytes old new f =
-    (front : List Name) × (name : Name) × (rest : List Name) × (names_of old ≡ front ++ name ∷ rest) × AreLoaded bytes front old new × IsFaultOf (paths name) (bytes name) new name f
+    (prefix : List Name) × (name : Name) × (rest : List Name) × (names_of old ≡ prefix ++ name ∷ rest) × AreLoaded bytes prefix old new × IsErrorOf (paths name) (bytes name) new name f

@@ -1,17 +1,17 @@
 -- The database that a schema text makes.
 use Rattle.std.specs.Prelude.{◌≡◌, ◌⊎◌, ℕ, ◌+◌, List, [], ◌∷◌, take, codes, Result, Ok, Err}
 use Rattle.memory.specs.declared.failure.Failure.{Failure}
-use Rattle.memory.specs.declared.failure.Failure.TheVariants.{Fault, OutOfMemory}
+use Rattle.memory.specs.declared.failure.Failure.TheVariants.{Error, OutOfMemory}
 use Rattle.value.specs.declared.refusal.Refusal.{Refusal}
 use Rattle.value.specs.declared.refusal.Refusal.TheVariants as code
-use Rattle.row_ast.specs.Ast.{Name}
+use Rattle.value.specs.Names.{Name}
 use Rattle.row_ast.specs.Statements.{Statement}
 use Rattle.syntax.specs.Parsing.{parsed_schema}
-use Rattle.syntax.specs.declared.fault.ParseError.{ParseError}
-use Rattle.syntax.specs.declared.fault.ParseError.TheVariants as parsing
+use Rattle.syntax.specs.declared.error.ParseError.{ParseError}
+use Rattle.syntax.specs.declared.error.ParseError.TheVariants as parsing
 use Rattle.store.specs.Database.{Database, changed_database}
-use Rattle.startup.specs.declared.fault.SchemaError.{SchemaError}
-use Rattle.startup.specs.declared.fault.SchemaError.TheVariants as errors
+use Rattle.setup.specs.declared.error.SchemaError.{SchemaError}
+use Rattle.setup.specs.declared.error.SchemaError.TheVariants as errors
 
 -- the superuser who is there from the start
 abbrev pub root : Name
@@ -25,7 +25,7 @@ numbered n (Err why) = Err (errors.Statement n why)
 -- the error of a statement that is refused by a code; out of memory is no refusal of the statement
 abbrev pub refused_by : ℕ → Refusal → Failure SchemaError
 refused_by n code.OutOfMemory = OutOfMemory
-refused_by n why = Fault (errors.Statement n why)
+refused_by n why = Error (errors.Statement n why)
 
 abbrev pub then_apply : Result Database SchemaError → (Database → Result Database SchemaError) → Result Database SchemaError
 then_apply (Err e) f = Err e
@@ -48,7 +48,7 @@ abbrev pub applied_text : Database → Result (List Statement) ParseError → Re
 applied_text db (Err e) = Err (schema_error e)
 applied_text db (Ok statements) = applied db statements
 
--- the database after a schema text, or why the text is refused
+-- the database after a schema text, or the error of a refused one
 abbrev pub schema_applied : Database → List ℕ → Result Database SchemaError
 schema_applied db text = applied_text db (parsed_schema text)
 
@@ -59,12 +59,12 @@ IsStep n old new s (Err e) = (new ≡ old) × (why : Refusal) × (e ≡ refused_
 
 -- the statements before the refused one were applied, and no more; where memory ran out, some were
 abbrev pub StopsAfter : Database → Database → List Statement → Failure SchemaError → Type 0
-StopsAfter old new statements (Fault (errors.Syntax offset)) = new ≡ old
-StopsAfter old new statements (Fault errors.Limit) = new ≡ old
-StopsAfter old new statements (Fault (errors.Statement n why)) = (k : ℕ) × (n ≡ k + 1) × (applied old (take k statements) ≡ Ok new)
+StopsAfter old new statements (Error (errors.Syntax offset)) = new ≡ old
+StopsAfter old new statements (Error errors.Limit) = new ≡ old
+StopsAfter old new statements (Error (errors.Statement n why)) = (k : ℕ) × (n ≡ k + 1) × (applied old (take k statements) ≡ Ok new)
 StopsAfter old new statements OutOfMemory = (k : ℕ) × (applied old (take k statements) ≡ Ok new)
 
--- what is left after a refused text; a text that is no schema changes nothing
+-- the database after a refused text; a text that is no schema changes nothing
 abbrev pub StopsAfterFront : Database → Database → Result (List Statement) ParseError → Failure SchemaError → Type 0
 StopsAfterFront old new (Ok statements) e = StopsAfter old new statements e
 StopsAfterFront old new (Err f) e = new ≡ old

@@ -1,24 +1,23 @@
 //! The rows of tables, from the files of a folder.
 
-ghost use Rattle.std.specs.Prelude.{◌≡◌, ◌<◌, ℕ, List, length, map, None, Option, Ok, IfErr, IfOk, IsSome, OnErr, OnOk, slice_get};
-ghost use Rattle.std.specs.List.{find};
+ghost use Rattle.std.specs.Prelude.{◌≡◌, ◌<◌, ℕ, List, length, map, None, Option, Ok, IfErr, IfOk, OnErr, OnOk, slice_get, true};
 ghost use Rattle.value.specs.Columns.{column_of};
-ghost use Rattle.store.specs.Database.{is_named, columns_in};
+ghost use Rattle.catalog.specs.Catalog.{is_table};
+ghost use Rattle.store.specs.Database.{columns_in};
 ghost use Rattle.store.specs.Loads.{IsLoadFrom};
-ghost use Rattle.setup.specs.Loads.{AreLoaded, IsFaultAt, IsFaultOf, IsLoadedAt, IsOfFile, IsRowFault, Knows, StopsAtTable, column_name, name_at, names_of};
+ghost use Rattle.setup.specs.Loads.{AreLoaded, IsErrorAt, IsErrorOf, IsLoadedAt, IsOfFile, IsRowFault, Knows, StopsAtTable, column_name, name_at, names_of};
 
-use memory::{Failure, Heap};
-use startup::Fault;
+use crate::error::SetupError;
+use memory::{Failure, Heap, Text};
 use std::alloc::AllocError;
 use std::io::Read;
-use store::{Store, StoreError};
+use store::Store;
 use tables::LoadError;
-use text::Text;
 use value::Column;
 
 /// The files of tables.
 pub trait Folder<A: Heap> {
-    // What a file is read from.
+    // The reader of a file.
     type File: Read + Drop;
 
     // The path of a table's file.
@@ -27,16 +26,16 @@ pub trait Folder<A: Heap> {
     // The bytes of a table's file, where they are known.
     ghost bytes: { Self → List ℕ → Option (List ℕ) } = { λ _ _. None };
 
-    /// Opens the file of a table. The fault is `Input`, with its path.
-    fn open(&self, alloc: A, table: &str) -> Result<Self::File, Failure<Fault<A>>>
+    /// Opens the file of a table. The error is `Input`, with its path.
+    fn open(&self, alloc: A, table: &str) -> Result<Self::File, Failure<SetupError<A>>>
         ensures bytes { IfOk result (λ file. Knows (bytes self.now table.now) (Self.File.remaining file)) }
         ensures fault { IfErr result (λ f. IsOfFile (path self.now table.now) f) };
 }
 
-fn name_at<A: Heap>(columns: &[Column<A>], place: u64) -> &str
-    ensures { result.now ≡ name_at (slice_get (map (λ c. column_of c) columns.now) place) }
+fn name_at<A: Heap>(columns: &[Column<A>], index: u64) -> &str
+    ensures { result.now ≡ name_at (slice_get (map (λ c. column_of c) columns.now) index) }
 {
-    match columns.get(place as usize) {
+    match columns.get(index as usize) {
         Some(column) => column.name.as_str(),
         None => "",
     }
@@ -59,37 +58,35 @@ fn data_fault<A: Heap>(
     store: &Store<A>,
     table: &str,
     error: LoadError,
-) -> Result<Fault<A>, AllocError>
-    ensures { IfOk result (λ f. f ≡ Fault.Data table.now (column_name (columns_in store.now.tables table.now) error) error) }
+) -> Result<SetupError<A>, AllocError>
+    requires { is_table store.now.catalog table.now ≡ true }
+    ensures { IfOk result (λ f. f ≡ SetupError.Data table.now (column_name (columns_in store.now.tables table.now) error) error) }
 {
-    let column = column_name(store.columns(table), error);
-    Ok(Fault::Data {
+    let column = column_name(store.contents_of(table).columns(), error);
+    Ok(SetupError::Data {
         table: Text::new(alloc, table)?,
         column: Text::new(alloc, column)?,
         error,
     })
 }
 
-/// Adds the rows of a file to a table that is there. The fault is `Data`, with the first fault of the rows; it
+/// Adds the rows of a file to a table that is there. The error is `Data`, with the first load error of the rows; it
 /// changes nothing.
 pub fn load_table<A: Heap, R: Read + Drop>(
     alloc: A,
     store: &mut Store<A>,
     table: &str,
     file: R,
-) -> Result<(), Failure<Fault<A>>>
-    requires { IsSome (find (is_named table.now) store.old.tables) }
+) -> Result<(), Failure<SetupError<A>>>
+    requires { is_table store.old.catalog table.now ≡ true }
     ensures catalog { store.new.catalog ≡ store.old.catalog }
     ensures loaded { OnOk result (IsLoadFrom (R.remaining file) store.old.tables store.new.tables table.now (Ok tt)) }
     ensures unchanged { OnErr result (store.new ≡ store.old) }
     ensures fault { IfErr result (λ f. IsRowFault (R.remaining file) store.old.tables table.now f) }
 {
-    match store.load(table, file) {
+    match store.append(table, file) {
         Ok(()) => Ok(()),
-        Err(Failure::Fault(StoreError::Data(error))) => {
-            Err(Failure::Fault(data_fault(alloc, store, table, error)?))
-        }
-        Err(Failure::Fault(StoreError::UndefinedTable)) => unreachable!(),
+        Err(Failure::Error(error)) => Err(Failure::Error(data_fault(alloc, store, table, error)?)),
         Err(Failure::OutOfMemory) => Err(Failure::OutOfMemory),
     }
 }
@@ -100,12 +97,12 @@ fn load_named<A: Heap, F: Folder<A>>(
     store: &mut Store<A>,
     folder: &F,
     table: &str,
-) -> Result<(), Failure<Fault<A>>>
-    requires { IsSome (find (is_named table.now) store.old.tables) }
+) -> Result<(), Failure<SetupError<A>>>
+    requires { is_table store.old.catalog table.now ≡ true }
     ensures catalog { store.new.catalog ≡ store.old.catalog }
     ensures loaded { OnOk result (IsLoadFrom (F.bytes folder.now table.now) store.old.tables store.new.tables table.now (Ok tt)) }
     ensures unchanged { OnErr result (store.new ≡ store.old) }
-    ensures fault { IfErr result (λ f. IsFaultOf (F.path folder.now table.now) (F.bytes folder.now table.now) store.old.tables table.now f) }
+    ensures fault { IfErr result (λ f. IsErrorOf (F.path folder.now table.now) (F.bytes folder.now table.now) store.old.tables table.now f) }
 {
     match folder.open(alloc, table) {
         Ok(file) => load_table(alloc, store, table, file),
@@ -113,23 +110,20 @@ fn load_named<A: Heap, F: Folder<A>>(
     }
 }
 
-// Loads the table at a place, in order of creation, from its file.
+// Loads the table at an index, in order of creation, from its file.
 fn load_at<A: Heap, F: Folder<A>>(
     alloc: A,
     store: &mut Store<A>,
     folder: &F,
-    place: usize,
-) -> Result<(), Failure<Fault<A>>>
-    requires { place < length store.old.tables }
+    index: usize,
+) -> Result<(), Failure<SetupError<A>>>
+    requires { index < length store.old.tables }
     ensures catalog { store.new.catalog ≡ store.old.catalog }
-    ensures loaded { OnOk result (IsLoadedAt (F.bytes folder.now) store.old.tables store.new.tables place) }
+    ensures loaded { OnOk result (IsLoadedAt (F.bytes folder.now) store.old.tables store.new.tables index) }
     ensures unchanged { OnErr result (store.new ≡ store.old) }
-    ensures fault { IfErr result (λ f. IsFaultAt (F.path folder.now) (F.bytes folder.now) store.old.tables place f) }
+    ensures fault { IfErr result (λ f. IsErrorAt (F.path folder.now) (F.bytes folder.now) store.old.tables index f) }
 {
-    let Some(name) = store.table_name(place) else {
-        unreachable!();
-    };
-    let Ok(name) = Text::new(alloc, name) else {
+    let Ok(name) = Text::new(alloc, store.table_name(index)) else {
         return Err(Failure::OutOfMemory);
     };
     let loaded = load_named(alloc, store, folder, name.as_str());
@@ -137,13 +131,13 @@ fn load_at<A: Heap, F: Folder<A>>(
     loaded
 }
 
-/// Loads each table, in order of creation, from its file in a folder. The first fault ends it; the tables before it keep
-/// their rows.
+/// Loads each table, in order of creation, from its file in a folder. The first error ends it; the tables before it
+/// keep their rows.
 pub fn load_tables<A: Heap, F: Folder<A>>(
     alloc: A,
     store: &mut Store<A>,
     folder: &F,
-) -> Result<(), Failure<Fault<A>>>
+) -> Result<(), Failure<SetupError<A>>>
     ensures catalog { store.new.catalog ≡ store.old.catalog }
     ensures loaded { OnOk result (AreLoaded (F.bytes folder.now) (names_of store.old.tables) store.old.tables store.new.tables) }
     ensures stops { IfErr result (λ f. StopsAtTable (F.path folder.now) (F.bytes folder.now) store.old.tables store.new.tables f) }

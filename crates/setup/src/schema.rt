@@ -6,9 +6,9 @@ ghost use Rattle.row_ast.specs.View.{statement_of};
 ghost use Rattle.syntax.specs.Parsing.{parsed_schema};
 ghost use Rattle.setup.specs.Schema.{IsStep, StopsAfter, StopsAfterFront, applied, refused_by, schema_applied};
 
+use crate::error::SchemaError;
 use memory::{Failure, Heap};
 use row_ast::Statement;
-use startup::SchemaError;
 use store::Store;
 use syntax::{ParseError, parse_schema};
 use value::Refusal;
@@ -19,7 +19,7 @@ fn refused_by(number: usize, code: Refusal) -> Failure<SchemaError>
 {
     match code {
         Refusal::OutOfMemory => Failure::OutOfMemory,
-        _ => Failure::Fault(SchemaError::Statement { number, code }),
+        _ => Failure::Error(SchemaError::Statement { number, code }),
     }
 }
 
@@ -66,10 +66,10 @@ pub fn apply_schema<A: Heap>(
 {
     match parse_schema(alloc, text) {
         Ok(statements) => apply_statements(store, statements.as_slice()),
-        Err(Failure::Fault(ParseError::Syntax { offset })) => {
-            Err(Failure::Fault(SchemaError::Syntax { offset }))
+        Err(Failure::Error(ParseError::Syntax { offset })) => {
+            Err(Failure::Error(SchemaError::Syntax { offset }))
         }
-        Err(Failure::Fault(ParseError::Limit)) => Err(Failure::Fault(SchemaError::Limit)),
+        Err(Failure::Error(ParseError::Limit)) => Err(Failure::Error(SchemaError::Limit)),
         Err(Failure::OutOfMemory) => Err(Failure::OutOfMemory),
     }
 }

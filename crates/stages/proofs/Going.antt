@@ -1,4 +1,4 @@
--- A stage goes on: what it has come to, and then the rest.
+-- A stage goes on: its values so far, and then the rest.
 use Rattle.std.proofs.Common.{◌≡◌, Bool, true, false, List, [], ◌∷◌, ◌++◌, map, refl, sym, ap, ap₂, subst, ◌∙◌, Result, Ok, Err, Option, Some, None}
 use Rattle.std.specs.List.{filter_map}
 use Rattle.std.specs.Prelude.{option_map}
@@ -14,7 +14,7 @@ use Rattle.stages.specs.Progress.{Adds, given, given_if}
 use Rattle.stages.specs.declared.stage.Stage.{Stage}
 use Rattle.stages.proofs.FaultOrder.{fault_total}
 
--- what a stage that has come to this makes of further outcomes
+-- the result of a stage from this state on, by further outcomes
 abbrev pub going_on : {Y : Type 0} → Option Fault → List Y → List (Fate Y) → Result (List Y) Fault
 going_on known ys [] = unless_fault known ys
 going_on known ys (Ok (Some y) ∷ fates) = going_on known (ys ++ y ∷ []) fates
@@ -41,7 +41,7 @@ one_more view (Ok (Some x)) fate old new rest due adds =
     ∙ ap₂ (λ f ys. going_on f ys rest) (sym adds.1) (sym (ap (map view) adds.0 ∙ map-append view old.given (x ∷ [])))
 one_more view (Ok None) fate old new rest due adds =
     ap (λ o. going_on old.least (map view old.given) (o ∷ rest)) due ∙ ap₂ (λ f xs. going_on f (map view xs) rest) (sym adds.1) (sym adds.0)
-one_more view (Err (failures.Fault f)) fate old new rest due adds =
+one_more view (Err (failures.Error f)) fate old new rest due adds =
     ap (λ o. going_on old.least (map view old.given) (o ∷ rest)) due ∙ ap₂ (λ f xs. going_on f (map view xs) rest) (sym adds.1) (sym adds.0)
 one_more view (Err failures.OutOfMemory) fate old new rest due adds = absurd adds
 
@@ -51,17 +51,17 @@ pub stage_next : {X Y A : Type 0} (view : X → Y) (outcome : Result (Option X) 
 stage_next view outcome fate old new fates rest whole first due adds so_far =
     sym (one_more view outcome fate old new rest due adds) ∙ ap (going_on old.least (map view old.given)) (sym first) ∙ so_far
 
--- where each gives a value
+-- each gives a value
 pub gives_some : {X Y : Type 0} (view : X → Y) (outcome : Result X (Failure Fault)) (due : Result Y Fault) → Gives view outcome due → Gives (option_map view) (given outcome) (gives due)
 gives_some view (Ok x) due h = ap gives h
-gives_some view (Err (failures.Fault f)) due h = ap gives h
+gives_some view (Err (failures.Error f)) due h = ap gives h
 gives_some view (Err failures.OutOfMemory) due h = tt
 
--- where those are given for which a test is true
+-- those are given for which a test is true
 pub gives_if_some : {X Y : Type 0} (view : X → Y) (x : X) (test : Result Bool (Failure Fault)) (due : Result Bool Fault) → Gives (λ b. b) test due → Gives (option_map view) (given_if x test) (gives_if (view x) due)
 gives_if_some view x (Ok true) due h = ap (gives_if (view x)) h
 gives_if_some view x (Ok false) due h = ap (gives_if (view x)) h
-gives_if_some view x (Err (failures.Fault f)) due h = ap (gives_if (view x)) h
+gives_if_some view x (Err (failures.Error f)) due h = ap (gives_if (view x)) h
 gives_if_some view x (Err failures.OutOfMemory) due h = tt
 
 over : {X Y : Type 0} → (X → Y) → Result (List X) Fault → Result (List Y) Fault
@@ -76,7 +76,7 @@ over_unless view (Some f) xs = refl
 gives_over : {X Y : Type 0} (view : X → Y) (result : Result (List X) (Failure Fault)) (due : Result (List X) Fault) → Gives (λ xs. xs) result due → Gives (map view) result (over view due)
 unfolding over
 gives_over view (Ok xs) due h = ap (over view) h
-gives_over view (Err (failures.Fault f)) due h = ap (over view) h
+gives_over view (Err (failures.Error f)) due h = ap (over view) h
 gives_over view (Err failures.OutOfMemory) due h = tt
 
 -- at the end

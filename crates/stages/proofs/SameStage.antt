@@ -29,7 +29,7 @@ alike_stage xs ys same =
     subst (λ o. Alike (stage xs) (unless_fault o (filter_map given_in ys))) (same_stage xs ys same)
     (alike_unless (least fault_cmp (filter_map fault_in xs)) (filter_map given_in xs) (filter_map given_in ys) (SameSums-filter_map xs ys same given_in))
 
--- what holds of the same bags and of the same fault
+-- a relation of the same bags and of the same fault
 pub alike_cases : {X : Type 0} (P : Result (List X) Fault → Result (List X) Fault → Type 0) → ((xs ys : List X) → SameSums xs ys → P (Ok xs) (Ok ys)) → ((e : Fault) → P (Err e) (Err e)) →
     (a b : Result (List X) Fault) → Alike a b → P a b
 alike_cases P h k (Ok xs) (Ok ys) same = h xs ys same
@@ -37,6 +37,6 @@ alike_cases P h k (Err e) (Err f) same = subst (λ g. P (Err e) (Err g)) same (k
 alike_cases P h k (Ok xs) (Err f) same = absurd same
 alike_cases P h k (Err e) (Ok ys) same = absurd same
 
--- what follows is the same where it is the same for the same bags
+-- a function is the same where it is the same for the same bags
 pub alike_next : {X Z : Type 0} (f : Result (List X) Fault → Z) → ((xs ys : List X) → SameSums xs ys → f (Ok xs) ≡ f (Ok ys)) → (a b : Result (List X) Fault) → Alike a b → f a ≡ f b
 alike_next f h a b same = alike_cases (λ x y. f x ≡ f y) h (λ e. refl) a b same

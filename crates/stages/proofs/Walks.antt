@@ -1,4 +1,4 @@
--- A walk along a list that stops at the first fault: what is done, and then the rest.
+-- A walk along a list that stops at the first fault: the part that is done, and then the rest.
 use Rattle.std.proofs.Common.{◌≡◌, ℕ, ◌+◌, ◌<◌, List, [], ◌∷◌, ◌++◌, drop, length, get_or, refl, sym, ap, ◌∙◌, Result, Ok, Err}
 use Rattle.std.proofs.lemmas.List.{append_assoc, append-nil, map-append, drop_more}
 use Rattle.memory.specs.Gives.{IsFailure}
@@ -13,7 +13,7 @@ use Rattle.stages.specs.Stages.{first_then}
 pub next : {X : Type 0} (xs : List X) (i : ℕ) (x : X) → i < length xs → x ≡ get_or xs i x → drop i xs ≡ x ∷ drop (i + 1) xs
 next xs i x lt is = drop_more xs i x lt ∙ ap (λ y. y ∷ drop (i + 1) xs) (sym is)
 
--- more after what is done, or the fault
+-- more after the part that is done, or the fault
 abbrev pub done_then : {X : Type 0} → List X → Result (List X) Fault → Result (List X) Fault
 done_then done (Ok xs) = Ok (done ++ xs)
 done_then done (Err fault) = Err fault
@@ -31,7 +31,7 @@ put_next {A} xs v r = ap (λ l. done_then l r) (map-append (λ (w : Value A). da
 
 -- a fault in the middle is the fault of all
 pub fails_here : {X : Type 0} (done : List X) (failure : Failure Fault) (o : Result X Fault) (rest whole : Result (List X) Fault) → IsFailure failure o → done_then done (first_then o rest) ≡ whole → IsFailure failure whole
-fails_here done (failures.Fault f) o rest whole h is = sym is ∙ ap (λ r. done_then done (first_then r rest)) h
+fails_here done (failures.Error f) o rest whole h is = sym is ∙ ap (λ r. done_then done (first_then r rest)) h
 fails_here done failures.OutOfMemory o rest whole h is = tt
 
 pub ruleset walks = (done_first, done_nothing, append-nil)

@@ -1,2 +1,2 @@
-pub mod Stages
 pub mod Progress
+pub mod Stages

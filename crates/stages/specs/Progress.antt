@@ -1,4 +1,4 @@
--- How a stage of the program goes on.
+-- The steps of a stage in Rust.
 use Rattle.std.specs.Prelude.{◌≡◌, Bool, true, false, [], ◌∷◌, ◌++◌, Option, Some, None, Result, Ok, Err}
 use Rattle.memory.specs.declared.failure.Failure.{Failure}
 use Rattle.memory.specs.declared.failure.Failure.TheVariants as failures
@@ -7,11 +7,11 @@ use Rattle.value.specs.declared.faults.Fault.{Fault}
 use Rattle.stages.specs.Stages.{fault_cmp}
 use Rattle.stages.specs.declared.stage.Stage.{Stage}
 
--- what comes of one more is added; out of memory is not
+-- the outcome of one more is added; out of memory is not
 abbrev pub Adds : {Y A : Type 0} → Result (Option Y) (Failure Fault) → Stage Y A → Stage Y A → Type 0
 Adds (Ok (Some y)) old new = (new.given ≡ old.given ++ y ∷ []) × (new.least ≡ old.least)
 Adds (Ok None) old new = (new.given ≡ old.given) × (new.least ≡ old.least)
-Adds (Err (failures.Fault f)) old new = (new.given ≡ old.given) × (new.least ≡ lesser fault_cmp old.least (Some f))
+Adds (Err (failures.Error f)) old new = (new.given ≡ old.given) × (new.least ≡ lesser fault_cmp old.least (Some f))
 Adds (Err failures.OutOfMemory) old new = ⊥
 
 abbrev pub given : {Y : Type 0} → Result Y (Failure Fault) → Result (Option Y) (Failure Fault)

@@ -1,4 +1,4 @@
--- What a stage of a query makes of its combinations or groups: all that they give, or the least of their faults.
+-- A stage of a query: the values of all its combinations or groups, or the least of their faults.
 use Rattle.std.specs.Prelude.{Bool, true, false, List, ◌∷◌, Option, Some, None, Result, Ok, Err}
 use Rattle.std.specs.List.{filter_map}
 use Rattle.std.specs.declared.cmp.Ordering.{Ordering}
@@ -13,7 +13,7 @@ use Rattle.value.specs.declared.faults.Fault.{Fault}
 abbrev pub fault_cmp : Fault → Fault → Ordering
 fault_cmp = then_cmp (on (λ f. f.offset) nat_cmp) (on (λ f. f.kind) kind_cmp)
 
--- ---- what comes of one combination or group
+-- ---- the outcome of one combination or group
 
 -- a value, nothing, or a fault
 abbrev pub Fate : Type 0 → Type 0
@@ -38,7 +38,7 @@ gives_if y (Ok true) = Ok (Some y)
 gives_if y (Ok false) = Ok None
 gives_if y (Err fault) = Err fault
 
--- one more value in front; the first fault from left to right
+-- one more value before the others; the first fault from left to right
 abbrev pub first_then : {X : Type 0} → Result X Fault → Result (List X) Fault → Result (List X) Fault
 first_then (Ok x) (Ok xs) = Ok (x ∷ xs)
 first_then (Ok x) (Err fault) = Err fault

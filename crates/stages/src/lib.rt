@@ -1,4 +1,4 @@
-//! The stages of a query: what each combination or group gives, or the least of their faults.
+//! The stages of a query: the values of all combinations or groups, or the least of their faults.
 #![tactic(auto)]
 
 mod faults;

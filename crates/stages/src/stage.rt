@@ -6,21 +6,20 @@ ghost use Rattle.stages.specs.Stages.{unless_fault};
 ghost use Rattle.stages.specs.Progress.{Adds, given, given_if};
 
 use crate::faults::lesser;
-use memory::{Failure, Heap};
+use memory::{Failure, Heap, Items};
 use std::alloc::AllocError;
-use text::Items;
 use value::Fault;
 
-/// What a stage has come to: it evaluates every combination or group, and keeps the least fault.
+/// The state of a stage: it evaluates every combination or group, and keeps the least fault.
 #[derive(Drop)]
 pub struct Stage<Y: Drop, A: Heap> {
-    /// What was given, in order.
+    /// The values so far, in order.
     pub given: Items<Y, A>,
     /// The least fault.
     pub least: Option<Fault>,
 }
 
-/// What a combination or group gives, where it does not fault.
+/// The outcome of a combination or group that gives a value where it does not fault.
 pub fn gives<Y: Drop>(outcome: Result<Y, Failure<Fault>>) -> Result<Option<Y>, Failure<Fault>>
     ensures { result ≡ given outcome }
 {
@@ -56,7 +55,7 @@ impl<Y: Drop, A: Heap> Stage<Y, A> {
         }
     }
 
-    /// Adds what comes of one more: a value, nothing or a fault. Where memory ran out, it is reported.
+    /// Adds the outcome of one more: a value, nothing or a fault. Where memory ran out, it is reported.
     pub fn add(&mut self, outcome: Result<Option<Y>, Failure<Fault>>) -> Result<(), AllocError>
         ensures { OnOk result (Adds outcome self.old self.new) }
     {
@@ -66,7 +65,7 @@ impl<Y: Drop, A: Heap> Stage<Y, A> {
                 Ok(())
             }
             Ok(None) => Ok(()),
-            Err(Failure::Fault(fault)) => {
+            Err(Failure::Error(fault)) => {
                 self.least = lesser(self.least, fault);
                 Ok(())
             }
@@ -80,7 +79,7 @@ impl<Y: Drop, A: Heap> Stage<Y, A> {
     {
         match self.least {
             None => Ok(self.given),
-            Some(fault) => Err(Failure::Fault(fault)),
+            Some(fault) => Err(Failure::Error(fault)),
         }
     }
 }

@@ -1,2 +1,3 @@
-pub mod Places
+pub mod Agreement
 pub mod Loads
+pub mod Places

@@ -1,4 +1,4 @@
--- A load at the place of a table, and a database by its parts.
+-- A load at the index of a table, and a database by its parts.
 use Rattle.std.proofs.Common.{◌≡◌, ◌⊎◌, inl, inr, ℕ, Bool, true, false, cond, ◌-◌, List, [], ◌++◌, append-nil, take, map, set, get_or, find, Option, Some, None, IfSome, Result, Ok, Err, refl, sym, ap, ◌∙◌, length}
 use Rattle.std.proofs.lemmas.List.{take_at}
 use Rattle.std.specs.List.{position_from}
@@ -13,17 +13,16 @@ use Rattle.tables.specs.Loading.{TableRows, Fields, StopsAfterGood, UnlessUnread
 use Rattle.tables.proofs.Follow.{fault_appended, rows_appended}
 use Rattle.memory.specs.Gives.{Gives, IsFailure}
 use Rattle.memory.specs.declared.failure.Failure.{Failure}
-use Rattle.memory.specs.declared.failure.Failure.TheVariants.{Fault, OutOfMemory}
-use Rattle.row_ast.specs.Ast.{Name}
+use Rattle.memory.specs.declared.failure.Failure.TheVariants.{Error, OutOfMemory}
+use Rattle.value.specs.Names.{Name}
 use Rattle.row_ast.specs.Statements.{Statement}
 use Rattle.catalog.specs.Catalog.{Catalog}
 use Rattle.store.specs.declared.store.StoreError.TheVariants as errors
-use Rattle.store.specs.declared.store.StoreError.{StoreError}
 use Rattle.store.specs.Database.{Database, is_named, with_catalog}
-use Rattle.store.specs.Loads.{IsFirstFault, IsLoad, IsLoadFrom, LoadStops, LoadsRows, due_rows, store_failure, with_rows}
+use Rattle.store.specs.Loads.{IsFirstFault, IsLoad, IsLoadFrom, LoadStops, LoadsRows, due_rows, store_failure, store_result, with_rows}
 use Rattle.store.proofs.Places.{set_at, found_at}
 
--- what holds of a value, if it is there
+-- a fact of a value, if it is there
 pub IfSome-map : {X : Type 0} (o : Option X) (P Q : X → Type 0) → ((x : X) → P x → Q x) → IfSome o P → IfSome o Q
 IfSome-map None P Q f h = tt
 IfSome-map (Some x) P Q f h = f x h
@@ -43,14 +42,9 @@ still_refused database statement due why (inr e) = inr (rw e refl)
 parts : (e e' : Name × TableRows) (rows : List Row) → e.0 ≡ e'.0 → e.1.columns ≡ e'.1.columns → e.1.rows ≡ e'.1.rows ++ rows → e ≡ with_rows rows e'
 parts e e' rows a b c = rw (← a, ← b, ← c)
 
--- the same of a whole result
-abbrev pub store_result : Result (Unit {0}) (Failure LoadError) → Result (Unit {0}) (Failure StoreError)
-store_result (Ok u) = Ok u
-store_result (Err e) = Err (store_failure e)
-
 module _ {X : Type 0} (v : X → Name × TableRows) (name : Name) (x : X) (xs : List X) (i : ℕ)
     (at : position_from (is_named name) 0 (map v xs) ≡ Some i) (is : x ≡ get_or xs i x) where
-  found : find (is_named name) (map v xs) ≡ Some (v x)
+  pub found : find (is_named name) (map v xs) ≡ Some (v x)
   found = found_at (is_named name) v x xs i at ∙ ap (λ (y : X). let o : Option (Name × TableRows) = Some (v y) in o) (sym is)
 
   -- the rows of the records came to the table's
@@ -61,18 +55,18 @@ module _ {X : Type 0} (v : X → Name × TableRows) (name : Name) (x : X) (xs : 
       let whole : v y ≡ with_rows h.0 (v x) = parts (v y) (v x) h.0 same_name same_columns h.2 in
       (v x, h.0, found, h.1, set_at (is_named name) v x (with_rows h.0) y xs i at (whole ∙ ap (λ (z : X). with_rows h.0 (v z)) is))
 
-  -- a fault of the records
+  -- an error of the records
   pub fault_reported : (recs : List Fields) (new : List (Name × TableRows)) (e : Failure LoadError) → IsFailure e (appended (v x).1.rows (due_rows (v x).1 recs)) → IsLoad (map v xs) new name recs (Err (store_failure e))
-  fault_reported recs new (Fault e) h = (v x, found, fault_appended (v x).1.rows (due_rows (v x).1 recs) e h)
+  fault_reported recs new (Error e) h = (v x, found, fault_appended (v x).1.rows (due_rows (v x).1 recs) e h)
   fault_reported recs new OutOfMemory h = (v x, found)
 
   -- the rows before one that was not read
   pub stops_loaded : (recs : List Fields) (r : Result (Unit {0}) (Failure LoadError)) → StopsAfterGood (v x).1.columns (MAX_ROWS - length (v x).1.rows) recs r → LoadStops (map v xs) name recs (store_result r)
   stops_loaded recs (Ok u) h = tt
-  stops_loaded recs (Err (Fault e)) h = (v x, found, h)
+  stops_loaded recs (Err (Error e)) h = (v x, found, h)
   stops_loaded recs (Err OutOfMemory) h = (v x, found)
 
-  first_fault : (old : List Row) (due : Result (List Row) LoadError) (e : LoadError) → UnlessUnread {Y = Unit {0}} (Err (Fault e)) (appended old due ≡ Err e) → IsFirstFault due e
+  first_fault : (old : List Row) (due : Result (List Row) LoadError) (e : LoadError) → UnlessUnread {Y = Unit {0}} (Err (Error e)) (appended old due ≡ Err e) → IsFirstFault due e
   first_fault old due faults.Header h = fault_appended old due faults.Header (h (λ row same. cc))
   first_fault old due (faults.Reader row) h = tt
   first_fault old due (faults.Cell row column) h = fault_appended old due (faults.Cell row column) (h (λ at same. cc))
@@ -83,18 +77,18 @@ module _ {X : Type 0} (v : X → Name × TableRows) (name : Name) (x : X) (xs : 
     loads_rows : (recs : List Fields) (r : Result (Unit {0}) (Failure LoadError)) → UnlessUnread r (Gives (λ _. (v y).1.rows) r (appended (v x).1.rows (due_rows (v x).1 recs)))
         → LoadsRows (map v xs) (map v (set xs i y)) name recs (store_result r)
     loads_rows recs (Ok u) h = rows_loaded recs y u same_name same_columns h
-    loads_rows recs (Err (Fault e)) h = (v x, found, first_fault (v x).1.rows (due_rows (v x).1 recs) e h)
+    loads_rows recs (Err (Error e)) h = (v x, found, first_fault (v x).1.rows (due_rows (v x).1 recs) e h)
     loads_rows recs (Err OutOfMemory) h = (v x, found)
 
     -- of records that are not known there are some
     loads_some : (r : Result (Unit {0}) (Failure LoadError)) → UnlessUnread r ((recs : List Fields) × Gives (λ _. (v y).1.rows) r (appended (v x).1.rows (due_rows (v x).1 recs)))
         → (recs : List Fields) × LoadsRows (map v xs) (map v (set xs i y)) name recs (store_result r)
     loads_some (Ok u) h = (h.0, loads_rows h.0 (Ok u) h.1)
-    loads_some (Err (Fault faults.Header)) h = let s = h (λ row same. cc) in (s.0, loads_rows s.0 (Err (Fault faults.Header)) (λ _. s.1))
-    loads_some (Err (Fault (faults.Reader row))) h = ([], (v x, found, tt))
-    loads_some (Err (Fault (faults.Cell row column))) h = let s = h (λ at same. cc) in (s.0, loads_rows s.0 (Err (Fault (faults.Cell row column))) (λ _. s.1))
-    loads_some (Err (Fault (faults.NotNull row column))) h = let s = h (λ at same. cc) in (s.0, loads_rows s.0 (Err (Fault (faults.NotNull row column))) (λ _. s.1))
-    loads_some (Err (Fault faults.TooMany)) h = let s = h (λ row same. cc) in (s.0, loads_rows s.0 (Err (Fault faults.TooMany)) (λ _. s.1))
+    loads_some (Err (Error faults.Header)) h = let s = h (λ row same. cc) in (s.0, loads_rows s.0 (Err (Error faults.Header)) (λ _. s.1))
+    loads_some (Err (Error (faults.Reader row))) h = ([], (v x, found, tt))
+    loads_some (Err (Error (faults.Cell row column))) h = let s = h (λ at same. cc) in (s.0, loads_rows s.0 (Err (Error (faults.Cell row column))) (λ _. s.1))
+    loads_some (Err (Error (faults.NotNull row column))) h = let s = h (λ at same. cc) in (s.0, loads_rows s.0 (Err (Error (faults.NotNull row column))) (λ _. s.1))
+    loads_some (Err (Error faults.TooMany)) h = let s = h (λ row same. cc) in (s.0, loads_rows s.0 (Err (Error faults.TooMany)) (λ _. s.1))
     loads_some (Err OutOfMemory) h = ([], (v x, found))
 
     -- a load from a reader whose bytes may be known
@@ -107,11 +101,11 @@ module _ {X : Type 0} (v : X → Name × TableRows) (name : Name) (x : X) (xs : 
     loaded_from (Some bytes) r exact some stops = (loads_rows (records_of bytes) r exact, stops_loaded (records_of bytes) r stops)
 
 -- there is no table of that name
-pub none_loaded : (known : Option (List ℕ)) (old new : List (Name × TableRows)) (name : Name) → find (is_named name) old ≡ None → IsLoadFrom known old new name (Err (Fault errors.UndefinedTable))
+pub none_loaded : (known : Option (List ℕ)) (old new : List (Name × TableRows)) (name : Name) → find (is_named name) old ≡ None → IsLoadFrom known old new name (Err (Error errors.UndefinedTable))
 none_loaded None old new name e = ([], e)
 none_loaded (Some bytes) old new name e = (e, tt)
 
--- what was pushed, or not, is taken back
-pub taken_back : {X : Type 0} (b : Bool) (front back : List X) (n : ℕ) → n ≡ length front → take n (cond b (front ++ back) front) ≡ front
-taken_back true front back n e = take_at front back n (sym e)
-taken_back false front back n e = rw append-nil at (take_at front [] n (sym e))
+-- a push, or none, is taken back
+pub taken_back : {X : Type 0} (b : Bool) (prefix back : List X) (n : ℕ) → n ≡ length prefix → take n (cond b (prefix ++ back) prefix) ≡ prefix
+taken_back true prefix back n e = take_at prefix back n (sym e)
+taken_back false prefix back n e = rw append-nil at (take_at prefix [] n (sym e))

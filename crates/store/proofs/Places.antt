@@ -1,22 +1,14 @@
--- An entry changed at its place.
+-- An entry changed at its index.
 use Rattle.std.proofs.Common.{◌≡◌, ℕ, zero, suc, ◌+◌, ◌≤◌, Bool, true, false, cond, List, [], ◌∷◌, map, set, get_or, find, Option, Some, None, refl, ap, ◌∙◌, arith}
 use Rattle.std.specs.List.{position_from}
+use Rattle.memory.proofs.Cases.{some_is, none_is_not, some_is_not}
 use Rattle.catalog.specs.Checks.{first_changed}
-
-some_is : (i j : ℕ) → ◌≡◌ {A = Option ℕ} (Some i) (Some j) → i ≡ j
-some_is i j e = cc
-
-none_is_not : (i : ℕ) → ◌≡◌ {A = Option ℕ} None (Some i) → ⊥
-none_is_not i e = cc
-
-some_is_not : (i : ℕ) → ◌≡◌ {A = Option ℕ} (Some i) None → ⊥
-some_is_not i e = cc
 
 some_of : (i j : ℕ) → i ≡ j → ◌≡◌ {A = Option ℕ} (Some i) (Some j)
 some_of i j e = cc
 
 module _ {E : Type 0} (p : E → Bool) where
-  -- a place is counted from the first number on
+  -- an index is counted from the first number on
   at_least : (es : List E) (k i : ℕ) → position_from p k es ≡ Some i → k ≤ i
   at_least [] k i h = absurd (none_is_not i h)
   at_least (e ∷ es) k i h = go (p e) h (at_least es (k + 1) i)
@@ -25,7 +17,7 @@ module _ {E : Type 0} (p : E → Bool) where
       go true h more = let q = some_is k i h in omega arith
       go false h more = let q = more h in omega arith
 
-  -- where there is none nothing changes, and nothing is found
+  -- no entry, so that nothing changes and nothing is found
   none_from : (f : E → E) (es : List E) (k : ℕ) → position_from p k es ≡ None → (first_changed p f es ≡ es) × (find p es ≡ None)
   none_from f [] k h = (refl, refl)
   none_from f (e ∷ es) k h = go (p e) h (none_from f es (k + 1))
@@ -54,7 +46,7 @@ module _ {E : Type 0} (p : E → Bool) where
         go true h more = absurd (let q = some_is k (k + suc i) h in omega arith)
         go false h more = more (h ∙ some_of (k + suc i) (k + 1 + i) (omega arith))
 
-    -- what is at the place is what is found
+    -- the entry at the index is the one that is found
     pub found_at : (xs : List X) (i : ℕ) → position_from p 0 (map v xs) ≡ Some i → find p (map v xs) ≡ Some (v (get_or xs i d))
     found_at xs i h = found_from xs 0 i (h ∙ some_of i (0 + i) (omega arith))
 
@@ -74,6 +66,6 @@ module _ {E : Type 0} (p : E → Bool) where
           go true h more = absurd (let q = some_is k (k + suc i) h in omega arith)
           go false h more = ap (λ l. v x ∷ l) (more (h ∙ some_of (k + suc i) (k + 1 + i) (omega arith)))
 
-      -- what is at the place is the one that changes
+      -- the entry at the index is the one that changes
       pub set_at : (xs : List X) (i : ℕ) → position_from p 0 (map v xs) ≡ Some i → v y ≡ f (v (get_or xs i d)) → map v (set xs i y) ≡ first_changed p f (map v xs)
       set_at xs i h is = set_from xs 0 i (h ∙ some_of i (0 + i) (omega arith)) is

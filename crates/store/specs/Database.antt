@@ -6,7 +6,7 @@ use Rattle.value.specs.Columns.{Column}
 use Rattle.value.specs.Datum.{Row}
 use Rattle.value.specs.declared.refusal.Refusal.{Refusal}
 use Rattle.tables.specs.Loading.{TableRows}
-use Rattle.row_ast.specs.Ast.{Name}
+use Rattle.value.specs.Names.{Name}
 use Rattle.row_ast.specs.Statements.{Statement, CreateTable}
 use Rattle.catalog.specs.Catalog.{Catalog, at_first}
 use Rattle.catalog.specs.Changes.{changed}

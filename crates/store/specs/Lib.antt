@@ -1,3 +1,4 @@
+pub mod Agreement
 pub mod Database
 pub mod Loads
 pub mod View

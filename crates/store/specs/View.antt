@@ -1,7 +1,7 @@
--- What a store is.
+-- The views of the Rust type of stores as spec data.
 use Rattle.std.specs.Prelude.{map}
 use Rattle.tables.specs.Loading.{TableRows}
-use Rattle.row_ast.specs.Ast.{Name}
+use Rattle.value.specs.Names.{Name}
 use Rattle.store.specs.declared.store.Stored.{Stored}
 use Rattle.store.specs.declared.store.Store.TheInside.{Inside}
 use Rattle.store.specs.Database.{Database}

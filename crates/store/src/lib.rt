@@ -8,6 +8,8 @@
 //! ```
 #![tactic(auto)]
 
+mod laws;
 mod store;
 
+pub use laws::law_tables_have_contents;
 pub use store::{Store, StoreError};

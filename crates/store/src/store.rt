@@ -1,25 +1,26 @@
 //! A catalogue with its tables.
 
-ghost use Rattle.std.specs.Prelude.{◌≡◌, List, IfOk, IfSome, IsErrOf, OnErr, OnOk, ◌<◌, None, length, map, option_map, slice_get, true};
+ghost use Rattle.std.specs.Prelude.{◌≡◌, List, IfOk, IfSome, IsErrOf, OnErr, OnOk, Some, ◌<◌, None, is_some, length, map, option_map, slice_get, true};
 ghost use Rattle.std.specs.List.{position_from};
 ghost use Rattle.tables.specs.Loading.{Fields, reported};
 ghost use Rattle.value.specs.Columns.{column_of};
 ghost use Rattle.row_ast.specs.Statements.{CreateTable};
 ghost use Rattle.row_ast.specs.View.{statement_of};
+ghost use Rattle.catalog.specs.Catalog.{is_table};
 ghost use Rattle.catalog.specs.Changes.{takes_no_memory, IsChange, IsExactChange};
-ghost use Rattle.store.specs.Database.{at_start, changed_database, columns_in, contents_named, empty_table, is_named};
-ghost use Rattle.store.specs.Loads.{IsLoad, IsLoadFrom, LoadStops, store_failure};
+ghost use Rattle.store.specs.Agreement.{Agrees};
+ghost use Rattle.store.specs.Database.{at_start, changed_database, contents_named, empty_table, is_named};
+ghost use Rattle.store.specs.Loads.{IsLoad, IsLoadFrom, LoadStops, store_failure, store_result};
 ghost use Rattle.store.specs.View.{stored_of};
 
 use catalog::Catalog;
 use csv_records::Records;
-use memory::{Failure, Heap};
+use memory::{Failure, Heap, Items, Text};
 use row_ast::Statement;
 use std::alloc::AllocError;
 use std::io::Read;
 use std::marker::Model;
 use tables::{LoadError, Table};
-use text::{Items, Text};
 use thiserror::Error;
 use value::{Column, Refusal, copy_columns};
 
@@ -30,7 +31,8 @@ struct Stored<A: Heap> {
     contents: Table<A>,
 }
 
-/// A catalogue with the contents of its tables.
+/// A catalogue with the contents of its tables: those at each index have the name and the columns of the table at that
+/// index of the catalogue.
 #[derive(Drop)]
 pub struct Store<A: Heap> {
     alloc: A,
@@ -45,32 +47,26 @@ impl<A: Heap> Model for Store<A> {
 
     ghost use Rattle.std.specs.Prelude.{ℕ};
     ghost use Rattle.std.specs.Coded.{codes, coded_ℕ};
-    ghost use Rattle.movable_expr.specs.declared.movable_expr.MovableExpr as movable_expr;
+    ghost use Rattle.predicates.specs.declared.movable_expr.MovableExpr as movable_expr;
 
     ghost coded = { Prim.hlevel (codes, movable_expr.the_code ℕ coded_ℕ) };
 
     ghost use Rattle.store.specs.View.{database_of};
 
     ghost view = { database_of };
+
+    ghost use Rattle.store.specs.Agreement.{Agrees};
+
+    ghost invariant = { λ s. Agrees (database_of s) };
 }
 
-// The contents of the table of that name.
-fn contents_named<'a, A: Heap>(tables: &'a [Stored<A>], name: &str) -> Option<&'a Table<A>>
-    ensures { option_map (λ t. t.now) result ≡ contents_named (map (λ t. stored_of t) tables.now) name.now }
-{
-    match table_place(tables, name) {
-        Some(place) => Some(&tables[place].contents),
-        None => None,
-    }
-}
-
-/// Why rows are not added.
+/// An error of rows that are not added.
 #[derive(Clone, Copy, Debug, Error, PartialEq, Eq)]
 pub enum StoreError {
     /// There is no table of that name (42P01).
     #[error("there is no table of that name")]
     UndefinedTable,
-    /// The first fault of the rows.
+    /// The first load error of the rows.
     #[error("{0}")]
     Data(LoadError),
 }
@@ -80,7 +76,7 @@ fn store_failure(failure: Failure<LoadError>) -> Failure<StoreError>
     ensures { result ≡ store_failure failure }
 {
     match failure {
-        Failure::Fault(error) => Failure::Fault(StoreError::Data(error)),
+        Failure::Error(error) => Failure::Error(StoreError::Data(error)),
         Failure::OutOfMemory => Failure::OutOfMemory,
     }
 }
@@ -97,19 +93,6 @@ fn new_table<A: Heap>(alloc: A, name: &str, columns: &[Column<A>]) -> Result<Sto
     })
 }
 
-// The place of the table of that name.
-fn table_place<A: Heap>(tables: &[Stored<A>], name: &str) -> Option<usize>
-    ensures place { result ≡ position_from (is_named name.now) 0 (map (λ t. stored_of t) tables.now) }
-    ensures within { IfSome result (λ i. i < length tables.now) }
-{
-    for (i, table) in tables.iter().enumerate() {
-        if table.name.as_str() == name {
-            return Some(i);
-        }
-    }
-    None
-}
-
 impl<A: Heap> Store<A> {
     /// A store with the superuser `root` and no table. It fails where memory runs out.
     pub fn new(alloc: A) -> Result<Store<A>, AllocError>
@@ -122,11 +105,24 @@ impl<A: Heap> Store<A> {
         })
     }
 
-    /// The catalogue.
+    /// The catalogue. The contents of the store are those of its tables.
     pub fn catalog(&self) -> &Catalog<A>
-        ensures { result.now ≡ self.now.catalog }
+        ensures catalog { result.now ≡ self.now.catalog }
+        ensures agree { Agrees self.now }
     {
         &self.catalog
+    }
+
+    // The index of the table of that name, which is that of its contents.
+    fn table_index(&self, name: &str) -> Option<usize>
+        ensures index { result ≡ position_from (is_named name.now) 0 self.now.tables }
+        ensures within { IfSome result (λ i. i < length self.now.tables) }
+        ensures there { is_some result ≡ is_table self.now.catalog name.now }
+    {
+        match self.catalog.find_table(name) {
+            Some((index, _)) => Some(index),
+            None => None,
+        }
     }
 
     // A new table, with no rows; a refused one adds nothing.
@@ -156,10 +152,10 @@ impl<A: Heap> Store<A> {
         }
     }
 
-    /// Applies a schema statement of an actor; a new table has no rows. It is refused by the first of its checks that fails,
-    /// as `Refusal::DuplicateTable` (42P07) where a table of that name is there, or where memory runs out (53200), and a
-    /// refused statement changes nothing. `store.change("root", &statement)` is what a schema text does.
-    /// REVOKE, the settings of row security and DROP POLICY take no memory.
+    /// Applies a schema statement of an actor; a new table has no rows. It is refused by the first of its checks that
+    /// fails, as `Refusal::DuplicateTable` (42P07) where a table of that name is there, or where memory runs out
+    /// (53200), and a refused statement changes nothing. A schema text is applied by `store.change("root",
+    /// &statement)`. REVOKE, the settings of row security and DROP POLICY take no memory.
     pub fn change(&mut self, actor: &str, statement: &Statement<A>) -> Result<(), Refusal>
         ensures change { IsChange self.old self.new (changed_database self.old actor.now (statement_of statement.now)) result }
         ensures exact { takes_no_memory (statement_of statement.now) ≡ true → IsExactChange self.old self.new (changed_database self.old actor.now (statement_of statement.now)) result }
@@ -172,44 +168,45 @@ impl<A: Heap> Store<A> {
         }
     }
 
-    /// The contents of the table of that name; none where it is not there.
+    /// The contents of the table of that name; none exactly where the catalogue has no such table.
     pub fn contents(&self, name: &str) -> Option<&Table<A>>
-        ensures { option_map (λ t. t.now) result ≡ contents_named self.now.tables name.now }
+        ensures contents { option_map (λ t. t.now) result ≡ contents_named self.now.tables name.now }
+        ensures there { is_some result ≡ is_table self.now.catalog name.now }
     {
-        contents_named(&self.tables, name)
-    }
-
-    /// The columns of the table of that name; none where it is not there.
-    pub fn columns(&self, table: &str) -> &[Column<A>]
-        ensures { map (λ c. column_of c) result.now ≡ columns_in self.now.tables table.now }
-    {
-        match contents_named(&self.tables, table) {
-            Some(contents) => contents.columns(),
-            None => &[],
-        }
-    }
-
-    /// The name of the table at a place, in order of creation, from 0.
-    pub fn table_name(&self, i: usize) -> Option<&str>
-        ensures { option_map (λ name. name.now) result ≡ option_map (λ t. t.0) (slice_get self.now.tables i) }
-    {
-        match self.tables.get(i) {
-            Some(table) => Some(table.name.as_str()),
+        match self.table_index(name) {
+            Some(index) => Some(&self.tables[index].contents),
             None => None,
         }
     }
 
-    /// How many tables there are.
+    /// The contents of a table of the catalogue.
+    pub fn contents_of(&self, table: &str) -> &Table<A>
+        requires { is_table self.now.catalog table.now ≡ true }
+        ensures { contents_named self.now.tables table.now ≡ Some result.now }
+    {
+        self.contents(table).unwrap()
+    }
+
+    /// The name of the table at an index, in order of creation.
+    pub fn table_name(&self, index: usize) -> &str
+        requires { index < length self.now.tables }
+        ensures name { option_map (λ t. t.0) (slice_get self.now.tables index) ≡ Some result.now }
+        ensures there { is_table self.now.catalog result.now ≡ true }
+    {
+        self.tables[index].name.as_str()
+    }
+
+    /// The number of tables.
     pub fn table_count(&self) -> usize
         ensures { result ≡ length self.now.tables }
     {
         self.tables.len()
     }
 
-    /// Adds the rows of the records that a reader gives, of which the first is the names of the columns, to the table of that
-    /// name; `UndefinedTable` where there is none, else `Data` with the first fault. A refusal changes nothing. A read may fail,
-    /// which is reported at the row that was not read; another fault is the first one of the records.
-    /// `store.load("t", "id\n1\n".as_bytes())` adds one row to a table of one column `id`.
+    /// Adds the rows of the records that a reader gives, of which the first is the names of the columns, to the table
+    /// of that name; `UndefinedTable` where there is none, else `Data` with the first load error. A refusal changes
+    /// nothing. A read may fail, which is reported at the row that was not read; another error is the first one of the
+    /// records. `store.load("t", "id\n1\n".as_bytes())` adds one row to a table of one column `id`.
     pub fn load<R: Read + Drop>(
         &mut self,
         table: &str,
@@ -219,17 +216,32 @@ impl<A: Heap> Store<A> {
         ensures unchanged { OnErr result (self.new ≡ self.old) }
         ensures loaded { IsLoadFrom (R.remaining reader) self.old.tables self.new.tables table.now result }
     {
-        let Some(i) = table_place(&self.tables, table) else {
-            return Err(Failure::Fault(StoreError::UndefinedTable));
-        };
-        match self.tables[i].contents.append(reader) {
+        if self.table_index(table).is_none() {
+            return Err(Failure::Error(StoreError::UndefinedTable));
+        }
+        match self.append(table, reader) {
             Ok(()) => Ok(()),
             Err(failure) => Err(store_failure(failure)),
         }
     }
 
+    /// Adds the rows that a reader gives to a table of the catalogue, as `load` does.
+    pub fn append<R: Read + Drop>(
+        &mut self,
+        table: &str,
+        reader: R,
+    ) -> Result<(), Failure<LoadError>>
+        requires { is_table self.old.catalog table.now ≡ true }
+        ensures catalog { self.new.catalog ≡ self.old.catalog }
+        ensures unchanged { OnErr result (self.new ≡ self.old) }
+        ensures loaded { IsLoadFrom (R.remaining reader) self.old.tables self.new.tables table.now (store_result result) }
+    {
+        let index = self.table_index(table).unwrap();
+        self.tables[index].contents.append(reader)
+    }
+
     /// Adds the rows of records, of which none was read before, as `load` does. A contract sees of the records why a read
-    /// failed, if one did. Where none did, a fault is the first one of the records; where one did, that is reported, at the row
+    /// failed, if one did. Where none did, an error is the first one of the records; where one did, that is reported, at the row
     /// that was not read.
     pub fn load_records<R: Read>(
         &mut self,
@@ -242,13 +254,13 @@ impl<A: Heap> Store<A> {
         ensures catalog { self.new.catalog ≡ self.old.catalog }
         ensures unchanged { OnErr result (self.new ≡ self.old) }
         ensures exact { records.new.failure ≡ None → IfSome records.old.records (λ recs. IsLoad self.old.tables self.new.tables table.now recs result) }
-        // The same of records that are not known: what was read were some records, as many as were given.
+        // The same of records that are not known: some records were read, as many as were given.
         ensures some_records { records.new.failure ≡ None → (recs : List Fields) × IsLoad self.old.tables self.new.tables table.now recs result × OnOk result (length recs ≡ records.new.given) }
         ensures failed { IfSome records.new.failure (λ why. IsErrOf result (store_failure (reported why records.new.given))) }
         ensures stops { IfSome records.old.records (λ recs. LoadStops self.old.tables table.now recs result) }
     {
-        let Some(i) = table_place(&self.tables, table) else {
-            return Err(Failure::Fault(StoreError::UndefinedTable));
+        let Some(i) = self.table_index(table) else {
+            return Err(Failure::Error(StoreError::UndefinedTable));
         };
         match self.tables[i].contents.append_records(records) {
             Ok(()) => Ok(()),

@@ -1,2 +1,3 @@
-pub mod Parsing
+pub mod Limits
 pub mod Literals
+pub mod Parsing

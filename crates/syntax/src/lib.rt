@@ -1,10 +1,11 @@
-//! Queries and schema statements, read from text.
+//! Queries and schema statements, read from text, and the limits on the size of a query.
 #![tactic(auto)]
 
-mod fault;
+mod error;
 mod laws;
+mod limits;
 mod parse;
 
-pub use fault::ParseError;
+pub use error::ParseError;
 pub use laws::law_no_null_literal;
 pub use parse::{law_parsing_is_determined, parse_query, parse_schema, parse_statement};

@@ -11,33 +11,32 @@ ghost use Rattle.row_reader.specs.Expressions.{grammar, run_limit, depth_limit};
 ghost use Rattle.row_reader.specs.Reading.{Parses};
 ghost use Rattle.row_statements.specs.Schemas as statements;
 ghost use Rattle.row_tokens.specs.View.{words_of};
-ghost use Rattle.row_tokens.specs.Words.{words};
-ghost use Rattle.syntax.specs.Parsing.{Spells, RefusesQuery, RefusesSchema, RefusesStatement, IsSmall, IsDetermined, Fits, query_bytes, schema_bytes, statement_bytes, read_within, parsed_query, parsed_schema, parsed_statement, offset_of, fault_of};
+ghost use Rattle.row_tokens.specs.Tokens.{words};
+ghost use Rattle.syntax.specs.Parsing.{Derives, RefusesQuery, RefusesSchema, RefusesStatement, IsSmall, IsDetermined, Fits, query_bytes, schema_bytes, statement_bytes, read_within, parsed_query, parsed_schema, parsed_statement, offset_of, fault_of};
 
-use crate::fault::ParseError;
-use memory::{Failure, Heap};
-use query_limits::is_small;
+use crate::error::ParseError;
+use crate::limits::within_limits;
+use memory::{Failure, Heap, Items};
 use row_ast::{Query, Statement};
 use row_grammar::ReadError;
 use row_queries::query;
 use row_reader::reader::{Parsed, Parser, Reader};
 use row_statements::{schema, statement};
 use row_tokens::{Token, scan};
-use text::Items;
 
-/// How many bytes a query's text may have.
+/// The most bytes of a query's text.
 const QUERY_BYTES: usize = 65_536;
 
-/// How many bytes the text of a statement alone may have.
+/// The most bytes of the text of a statement alone.
 const STATEMENT_BYTES: usize = 65_536;
 
-/// How many bytes a schema's text may have.
+/// The most bytes of a schema's text.
 const SCHEMA_BYTES: usize = 1_048_576;
 
-/// How many operands may follow the first of a run.
+/// The number of operands that may follow the first of a run.
 const RUN_LIMIT: usize = 63;
 
-/// How deep a text may nest.
+/// The most levels of a text.
 const DEPTH_LIMIT: usize = 64;
 
 // Reads from the start of a text.
@@ -53,7 +52,7 @@ fn reader<A: Heap>(alloc: A) -> Reader<A>
     }
 }
 
-// The offset of the token from which on there are so many; the end of the text for none.
+// The offset of the token of this number from the end; the end of the text for none.
 fn offset_of(text: &str, tokens: &[Token<'_>], left: usize) -> u32
     requires short { length text.now < 2 ^ 32 }
     requires scanned { words_of tokens.now ≡ words text.now }
@@ -65,7 +64,7 @@ fn offset_of(text: &str, tokens: &[Token<'_>], left: usize) -> u32
     }
 }
 
-// Why reading stops, at a byte of the text.
+// The error of reading, at an offset in the text.
 fn fault_of(text: &str, tokens: &[Token<'_>], error: ReadError) -> ParseError
     requires short { length text.now < 2 ^ 32 }
     requires scanned { words_of tokens.now ≡ words text.now }
@@ -136,7 +135,7 @@ impl<A: Heap> Parser<A> for StatementParser {
     }
 }
 
-// What tokens are by a rule, all of them.
+// The tree of tokens by a rule, of all of them.
 #[tactic(auto, unfolding(row_grammar::specs::Limits::whole_at))]
 fn whole<A: Heap, P: Parser<A>>(
     alloc: A,
@@ -147,11 +146,11 @@ fn whole<A: Heap, P: Parser<A>>(
     let (tree, rest) = P::parse(reader(alloc), tokens)?;
     match rest {
         [] => Ok(tree),
-        [_, ..] => Err(Failure::Fault(ReadError::Syntax { left: rest.len() })),
+        [_, ..] => Err(Failure::Error(ReadError::Syntax { left: rest.len() })),
     }
 }
 
-// What a text is by a rule, with parts of any size, where it has at most so many bytes.
+// The tree of a text by a rule, with parts of any size, where it has at most so many bytes.
 fn read_text<A: Heap, P: Parser<A>>(
     alloc: A,
     text: &str,
@@ -161,83 +160,82 @@ fn read_text<A: Heap, P: Parser<A>>(
     ensures { Gives P.view result (read_within most P.rule text.now) }
 {
     if text.len() > most {
-        return Err(Failure::Fault(ParseError::Limit));
+        return Err(Failure::Error(ParseError::Limit));
     }
     let tokens = scan(alloc, text)?;
     match whole::<A, P>(alloc, tokens.as_slice()) {
         Ok(tree) => Ok(tree),
-        Err(Failure::Fault(error)) => {
-            Err(Failure::Fault(fault_of(text, tokens.as_slice(), error)))
+        Err(Failure::Error(error)) => {
+            Err(Failure::Error(fault_of(text, tokens.as_slice(), error)))
         }
         Err(Failure::OutOfMemory) => Err(Failure::OutOfMemory),
     }
 }
 
-// The query that a text is, within the limits.
+// The query of a text, within limits.
 #[tactic(auto, unfolding(crate::specs::Parsing::parsed_query))]
-fn small_query<A: Heap>(alloc: A, text: &str) -> Result<Query<A>, Failure<ParseError>>
+fn query_within_limits<A: Heap>(alloc: A, text: &str) -> Result<Query<A>, Failure<ParseError>>
     ensures { Gives (λ q. query_of q) result (parsed_query text.now) }
 {
     let query = read_text::<A, QueryParser>(alloc, text, QUERY_BYTES)?;
-    if is_small(&query) {
+    if within_limits(&query) {
         Ok(query)
     } else {
         drop(query);
-        Err(Failure::Fault(ParseError::Limit))
+        Err(Failure::Error(ParseError::Limit))
     }
 }
 
-/// The query that a text is. The fault is `Syntax` (42601) at the first token that cannot continue it,
-/// and `Limit` (54000) for more than 65,536 bytes, for nesting or a run beyond the limit or, in a
-/// text of the grammar, for parts that are too many.
+/// The query of a text. The error is `Syntax` (42601) at the first token that cannot continue it, and `Limit` (54000)
+/// for more than 65,536 bytes, for nesting or a run beyond the limit or, in a text of the grammar, for parts that are
+/// too many.
 pub fn parse_query<A: Heap>(alloc: A, text: &str) -> Result<Query<A>, Failure<ParseError>>
     ensures reading { Gives (λ q. query_of q) result (parsed_query text.now) }
-    // What is found is spelled so.
-    ensures found { IfOk result (λ q. Spells queries.query text.now (query_of q)) }
-    // What is spelled so, and within the limits, is found, unless memory runs out.
-    ensures only { (q : ast.Query) → Spells queries.query text.now q → length text.now ≤ query_bytes → IsSmall q → Gives (λ q. query_of q) result (Ok q) }
-    // A refusal is at the byte after the longest front, or a limit is passed.
+    // The grammar derives what is found.
+    ensures found { IfOk result (λ q. Derives queries.query text.now (query_of q)) }
+    // A tree that the grammar derives, within limits, is found, unless memory runs out.
+    ensures only { (q : ast.Query) → Derives queries.query text.now q → length text.now ≤ query_bytes → IsSmall q → Gives (λ q. query_of q) result (Ok q) }
+    // A refusal is at the token after the longest viable prefix, or a limit is passed.
     ensures refused { IfErr result (λ e. RefusesQuery text.now e) }
 {
-    small_query(alloc, text)
+    query_within_limits(alloc, text)
 }
 
-/// The statements that a schema text is, each followed by a semicolon. The fault is `Syntax` (42601) at the first token
-/// that cannot continue it, and `Limit` (54000) for more than 1,048,576 bytes or for nesting or
-/// a run beyond the limit.
+/// The statements of a schema text, each followed by a semicolon. The error is `Syntax` (42601) at the first token that
+/// cannot continue it, and `Limit` (54000) for more than 1,048,576 bytes or for nesting or a run beyond the limit.
 #[tactic(auto, unfolding(crate::specs::Parsing::parsed_schema))]
 pub fn parse_schema<A: Heap>(
     alloc: A,
     text: &str,
 ) -> Result<Items<Statement<A>, A>, Failure<ParseError>>
     ensures reading { Gives (λ acts. map (λ s. statement_of s) acts) result (parsed_schema text.now) }
-    // What is found is spelled so.
-    ensures found { IfOk result (λ acts. Spells statements.schema text.now (map (λ s. statement_of s) acts)) }
-    // What is spelled so, and within the limits, is found, unless memory runs out.
-    ensures only { (acts : List statement_ast.Statement) → Spells statements.schema text.now acts → length text.now ≤ schema_bytes → Gives (λ found. map (λ s. statement_of s) found) result (Ok acts) }
-    // A refusal is at the byte after the longest front, or a limit is passed.
+    // The grammar derives what is found.
+    ensures found { IfOk result (λ acts. Derives statements.schema text.now (map (λ s. statement_of s) acts)) }
+    // A tree that the grammar derives, within limits, is found, unless memory runs out.
+    ensures only { (acts : List statement_ast.Statement) → Derives statements.schema text.now acts → length text.now ≤ schema_bytes → Gives (λ found. map (λ s. statement_of s) found) result (Ok acts) }
+    // A refusal is at the token after the longest viable prefix, or a limit is passed.
     ensures refused { IfErr result (λ e. RefusesSchema text.now e) }
 {
     read_text::<A, SchemaParser>(alloc, text, SCHEMA_BYTES)
 }
 
-/// The schema statement that a text is, without a semicolon. The fault is `Syntax` (42601) at the byte from which
-/// on the grammar does not go on, and `Limit` (54000) for more than 65,536 bytes or for nesting or a run that goes
-/// on beyond the limit.
+/// The schema statement of a text, without a semicolon. The error is `Syntax` (42601) at the first token that cannot
+/// continue it, and `Limit` (54000) for more than 65,536 bytes or for nesting or a run that goes on beyond the limit.
 #[tactic(auto, unfolding(crate::specs::Parsing::parsed_statement))]
 pub fn parse_statement<A: Heap>(alloc: A, text: &str) -> Result<Statement<A>, Failure<ParseError>>
     ensures reading { Gives (λ s. statement_of s) result (parsed_statement text.now) }
-    // What is found is spelled so.
-    ensures found { IfOk result (λ s. Spells statements.statement text.now (statement_of s)) }
-    // What is spelled so, and within the limits, is found, unless memory runs out.
-    ensures only { (act : statement_ast.Statement) → Spells statements.statement text.now act → length text.now ≤ statement_bytes → Gives (λ s. statement_of s) result (Ok act) }
-    // A refusal is at the byte after the longest front, or a limit is passed.
+    // The grammar derives what is found.
+    ensures found { IfOk result (λ s. Derives statements.statement text.now (statement_of s)) }
+    // A tree that the grammar derives, within limits, is found, unless memory runs out.
+    ensures only { (act : statement_ast.Statement) → Derives statements.statement text.now act → length text.now ≤ statement_bytes → Gives (λ s. statement_of s) result (Ok act) }
+    // A refusal is at the token after the longest viable prefix, or a limit is passed.
     ensures refused { IfErr result (λ e. RefusesStatement text.now e) }
 {
     read_text::<A, StatementParser>(alloc, text, STATEMENT_BYTES)
 }
 
-/// The functions `parsed_query`, `parsed_schema` and `parsed_statement` are what spelling and fronts determine.
+/// The functions `parsed_query`, `parsed_schema` and `parsed_statement` are determined by derivations and viable
+/// prefixes.
 pub fn law_parsing_is_determined()
     ensures query { IsDetermined queries.query query_bytes IsSmall parsed_query }
     ensures schema { IsDetermined statements.schema schema_bytes Fits parsed_schema }

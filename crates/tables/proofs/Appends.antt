@@ -51,7 +51,7 @@ more_held read columns n items rows new same count grown all few more room =
     let fits : length (items ++ rows) ≤ MAX_ROWS = rw length-append (omega (arith, few, room, count)) in
     rw grown (All-append (λ r. length r ≡ length columns) items rows all wide, fits)
 
--- ---- where no rows came
+-- ---- no rows came
 
 pub at_err : {T E : Type 0} {P : Type 0} (r : Result T E) → P → OnErr r P
 at_err (Ok x) p = tt
@@ -68,7 +68,7 @@ exit_stops cols room (Some recs) e (Ok x) is stops = tt
 exit_stops cols room (Some recs) e (Err y) is stops = λ row same pos. stops row (sym is ∙ same) pos
 
 module _ (A : Type 0) (cols cols' : List Column) (n : ℕ) (old : List Row) (known : Option (List Fields)) (left : Left) (at : cols ≡ cols') (count : n ≡ length old) where
-  -- the fault is theirs
+  -- the error is theirs
   module _ (e : Failure LoadError) (r : Result (Unit {0}) (Failure LoadError)) (is : IsErrAnd r (λ y. y ≡ e)) (follows : LoadFollows {A = A} cols (MAX_ROWS - n) known left (Err e)) where
     same_fault : LoadFollows {A = A} cols' (MAX_ROWS - length old) known left (Err e)
     same_fault = same_load {A = A} cols cols' (MAX_ROWS - n) (MAX_ROWS - length old) known left (Err e) at (ap (λ (m : ℕ). MAX_ROWS - m) count) follows
@@ -102,7 +102,7 @@ module _ (A : Type 0) (cols cols' : List Column) (n : ℕ) (old : List Row) (kno
     pub loaded_some : (recs : List Fields) × Gives {X = Unit {0}} (λ _. rows_data new) (Ok tt) (appended old (load_of cols' (MAX_ROWS - length old) recs)) × (length recs ≡ left.given)
     loaded_some = rows_of_some cols' (MAX_ROWS - length old) known left rows old (rows_data new) same_rows all_rows
 
--- ---- where memory ran out
+-- ---- memory ran out
 
 module _ {X : Type 0} (r : Result X (Failure LoadError)) (is : IsErrAnd r (λ e. e ≡ OutOfMemory)) where
   pub memory_known : (view : X → List Row) (due : List Fields → Result (List Row) LoadError) (known : Option (List Fields)) → IfSome known (λ recs. Gives view r (due recs))

@@ -3,18 +3,18 @@ use Rattle.std.proofs.Common.{ℕ, ◌≡◌, ◌≢◌, List, Option, Some, Non
 use Rattle.std.specs.Prelude.{IsErrOf}
 use Rattle.csv_records.specs.declared.RecordError.{RecordError}
 use Rattle.memory.specs.declared.failure.Failure.{Failure}
-use Rattle.memory.specs.declared.failure.Failure.TheVariants.{Fault, OutOfMemory}
+use Rattle.memory.specs.declared.failure.Failure.TheVariants.{Error, OutOfMemory}
 use Rattle.csv_records.specs.Left.{records_of}
 use Rattle.tables.specs.declared.LoadError.{LoadError}
 use Rattle.tables.specs.declared.LoadError.TheVariants as error
 use Rattle.tables.specs.Loading.{Fields, UnlessUnread, reported}
 
 -- an error that is reported of a failure is out of memory, unless a row was not read
-reported_memory : (why : Failure RecordError) (given : ℕ) (e : Failure LoadError) → e ≡ reported why given → ((row : ℕ) → e ≢ Fault (error.Reader row)) → e ≡ OutOfMemory
-reported_memory (Fault why) given e is read = absurd (read given is)
+reported_memory : (why : Failure RecordError) (given : ℕ) (e : Failure LoadError) → e ≡ reported why given → ((row : ℕ) → e ≢ Error (error.Reader row)) → e ≡ OutOfMemory
+reported_memory (Error why) given e is read = absurd (read given is)
 reported_memory OutOfMemory given e is read = is
 
--- what holds where no read failed, and at out of memory, holds unless a row was not read
+-- a fact where no read failed, and at out of memory, holds unless a row was not read
 pub unless_failed : {Y : Type 0} (failure : Option (Failure RecordError)) (given : ℕ) (r : Result Y (Failure LoadError)) (fact : Type 0) → (failure ≡ None → fact) → IfSome failure (λ why. IsErrOf r (reported why given))
     → (IsErrOf r OutOfMemory → fact) → UnlessUnread r fact
 unless_failed None given (Ok y) fact whole failed memory = whole refl

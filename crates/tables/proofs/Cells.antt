@@ -8,7 +8,7 @@ use Rattle.value.specs.Datum.{Datum, datum, row_of}
 use Rattle.value.specs.declared.types.Value.{Value}
 use Rattle.value.specs.Texts.{null_mark, value_at}
 use Rattle.memory.specs.declared.failure.Failure.{Failure}
-use Rattle.memory.specs.declared.failure.Failure.TheVariants.{Fault, OutOfMemory}
+use Rattle.memory.specs.declared.failure.Failure.TheVariants.{Error, OutOfMemory}
 use Rattle.memory.specs.Gives.{Gives, IsFailure}
 use Rattle.tables.specs.declared.LoadError.{LoadError}
 use Rattle.tables.specs.declared.LoadError.TheVariants as error
@@ -22,7 +22,7 @@ use Rattle.tables.proofs.Records.{after, after-nil}
 pub cell_of-spelled : (c : Column) (row column : ℕ) (f : List ℕ) (d : Datum) → bytes_eq f null_mark ≡ false → is_utf8 f ≡ true → value_at c.data_type f ≡ Ok d → cell_of c row column f ≡ Ok d
 cell_of-spelled c row column f d other utf8 spelled = rw (other, utf8, spelled) refl
 
--- a list from a place on
+-- a list from an index on
 pub drop-field_at : (fs : Fields) (i : ℕ) (f : List ℕ) → Some f ≡ field_at fs i → drop i fs ≡ f ∷ drop (i + 1) fs
 unfolding field_at
 drop-field_at [] i f e = cc e
@@ -36,7 +36,7 @@ drop-no_field_at [] (suc i) e = refl
 drop-no_field_at (x ∷ xs) zero e = cc e
 drop-no_field_at (x ∷ xs) (suc i) e = drop-no_field_at xs i e
 
--- there is a field at each place below the number of fields
+-- there is a field at each index below the number of fields
 pub field_missing : (fs : Fields) (i : ℕ) → i < length fs → None ≡ field_at fs i → ⊥
 unfolding field_at
 field_missing [] i lt e = omega (arith, lt)
@@ -68,7 +68,7 @@ one_cell columns fs row i x f xs whole lt is at e = e ∙ ap (after xs) (cells_s
 cell_refused : {X Y : Type 0} (view : X → Datum) (views : Y → List Datum) (e : Failure LoadError) (xs : List Datum) (cell : Result Datum LoadError) (rest whole : Result (List Datum) LoadError)
     → whole ≡ after xs (both cell rest) → Gives view (Err e) cell → Gives views (Err e) whole
 cell_refused view views OutOfMemory xs cell rest whole is gives = tt
-cell_refused view views (Fault e) xs cell rest whole is gives = rw gives at is
+cell_refused view views (Error e) xs cell rest whole is gives = rw gives at is
 
 -- the cell of this column is refused
 pub one_refused : {A : Type 0} (columns : List (declared.Column A)) (fs : Fields) (row i : ℕ) (x : declared.Column A) (f : List ℕ) (xs : List Datum) (e : Failure LoadError) (whole : Result (List Datum) LoadError)
@@ -112,11 +112,11 @@ pub exit_fails : {X Y : Type 0} (r : Result X (Failure LoadError)) (f : Failure 
 exit_fails (Ok x) f m is fails = tt
 exit_fails (Err e) f m is fails = rw is fails
 
-pub exit_no_reader : {X : Type 0} (r : Result X (Failure LoadError)) (f : Failure LoadError) → IsErrAnd r (λ e. e ≡ f) → ((row : ℕ) → f ≢ Fault (error.Reader row)) → IfErr r (λ e. (row : ℕ) → e ≢ Fault (error.Reader row))
+pub exit_no_reader : {X : Type 0} (r : Result X (Failure LoadError)) (f : Failure LoadError) → IsErrAnd r (λ e. e ≡ f) → ((row : ℕ) → f ≢ Error (error.Reader row)) → IfErr r (λ e. (row : ℕ) → e ≢ Error (error.Reader row))
 exit_no_reader (Ok x) f is none = tt
 exit_no_reader (Err e) f is none = λ row same. none row (sym is ∙ same)
 
-pub memory_is_no_reader : (row : ℕ) → OutOfMemory ≢ Fault (error.Reader row)
+pub memory_is_no_reader : (row : ℕ) → OutOfMemory ≢ Error (error.Reader row)
 memory_is_no_reader row same = cc same
 
 -- the row was added

@@ -1,4 +1,4 @@
--- What was read follows from the records.
+-- The rows that were read follow from the records.
 use Rattle.std.proofs.Common.{ℕ, zero, suc, ◌≡◌, ◌≢◌, ◌+◌, ◌-◌, ◌<◌, ◌≤◌, ◌^◌, Bool, true, false, List, [], ◌∷◌, ◌++◌, length, take, Option, Some, None, Result, Ok, Err, IfSome, All, map, refl, sym, ap, ◌∙◌, arith, rules, length-append, subst, Vec}
 use Rattle.std.proofs.lemmas.List.{length-map, map-append}
 use Rattle.std.proofs.lemmas.List.Elements.{All-push}
@@ -6,7 +6,7 @@ use Rattle.std.specs.Option.{unwrap_or}
 use Rattle.std.specs.Prelude.{IsErrAnd, IsErrOf, MatchOption}
 use Rattle.csv_records.specs.Left.{Left, counted, failure_after, Fits_length, NextIsUneven, TakesFirst, TakesNext}
 use Rattle.memory.specs.declared.failure.Failure.{Failure}
-use Rattle.memory.specs.declared.failure.Failure.TheVariants.{Fault, OutOfMemory}
+use Rattle.memory.specs.declared.failure.Failure.TheVariants.{Error, OutOfMemory}
 use Rattle.memory.specs.Gives.{Gives, IsFailure}
 use Rattle.csv_records.specs.declared.RecordError.{RecordError}
 use Rattle.csv_records.specs.declared.RecordError.TheVariants as why
@@ -64,9 +64,9 @@ out_of_memory A cols room known new e is = rw is (unwrap_or known [], known_are 
 -- a cell of the next record is refused
 row_refused : (A : Type 0) {X : Type 0} (view : X → Row) (cols : List Column) (room done : ℕ) (rows : List Row) (known : Option (List Fields)) (old new : Left) (r : Fields) (e : Failure LoadError) → done < room
     → SeenRows cols room done rows known old.records → TakesNext old new true r → old.expected ≡ Some (length cols)
-    → Gives view (Err e) (cells_of cols (done + 1) 0 r) → ((row : ℕ) → e ≢ Fault (error.Reader row)) → RowsFollow {A = A} cols room known new (Err e)
+    → Gives view (Err e) (cells_of cols (done + 1) 0 r) → ((row : ℕ) → e ≢ Error (error.Reader row)) → RowsFollow {A = A} cols room known new (Err e)
 row_refused A view cols room done rows known old new r OutOfMemory lt seen gives expected cells other = out_of_memory A cols room known new OutOfMemory refl
-row_refused A view cols room done rows known old new r (Fault e) lt (seen, len, was, leaves) gives expected cells other =
+row_refused A view cols room done rows known old new r (Error e) lt (seen, len, was, leaves) gives expected cells other =
     let rest = leaves_some known (seen ++ r ∷ []) new.records (leaves_one_less known seen old.records new.records r leaves gives.0) in
     let n = (width (length cols) old new r gives expected).0 in (
       (seen ++ r ∷ []) ++ rest.0,
@@ -78,26 +78,26 @@ row_refused A view cols room done rows known old new r (Fault e) lt (seen, len, 
 
 -- there is no room for the next record
 no_room_left : (A : Type 0) (cols : List Column) (room done : ℕ) (rows : List Row) (known : Option (List Fields)) (old new : Left) (r : Fields) → done ≡ room
-    → SeenRows cols room done rows known old.records → TakesNext old new true r → old.expected ≡ Some (length cols) → RowsFollow {A = A} cols room known new (Err (Fault error.TooMany))
+    → SeenRows cols room done rows known old.records → TakesNext old new true r → old.expected ≡ Some (length cols) → RowsFollow {A = A} cols room known new (Err (Error error.TooMany))
 no_room_left A cols room done rows known old new r same (seen, len, was, leaves) gives expected =
     let rest = leaves_some known (seen ++ r ∷ []) new.records (leaves_one_less known seen old.records new.records r leaves gives.0) in
     let n = (width (length cols) old new r gives expected).0 in
     ((seen ++ r ∷ []) ++ rest.0, rest.1, λ fault. too_many cols room seen rows r rest.0 (len ∙ same) was n, tt, λ row is. cc is)
 
-reader_row : (row done : ℕ) → Fault (error.Reader (done + 1)) ≡ Fault (error.Reader row) → row - 1 ≡ done
+reader_row : (row done : ℕ) → Error (error.Reader (done + 1)) ≡ Error (error.Reader row) → row - 1 ≡ done
 reader_row row done is = let same : row ≡ done + 1 = cc is in omega arith
 
 seen_within : (seen rest : List Fields) (n : ℕ) → length seen ≡ n → n ≤ length (seen ++ rest)
 seen_within seen rest n e = rw length-append (omega (arith, e))
 
 -- the records before it were read
-before_unread : (cols : List Column) (room done : ℕ) (seen rest : List Fields) (rows : List Row) → length seen ≡ done → rows_of cols room 1 seen ≡ Ok rows → (row : ℕ) → Fault (error.Reader (done + 1)) ≡ Fault (error.Reader row)
+before_unread : (cols : List Column) (room done : ℕ) (seen rest : List Fields) (rows : List Row) → length seen ≡ done → rows_of cols room 1 seen ≡ Ok rows → (row : ℕ) → Error (error.Reader (done + 1)) ≡ Error (error.Reader row)
     → (row - 1 ≤ length (seen ++ rest)) × (rows : List Row) × (rows_of cols room 1 (take (row - 1) (seen ++ rest)) ≡ Ok rows)
 before_unread cols room done seen rest rows len was row is = (rw (reader_row row done is) (seen_within seen rest done len), rows, rw (reader_row row done is, take-seen seen rest done len) was)
 
 -- the next record is uneven
 uneven_row : (A : Type 0) (cols : List Column) (room done : ℕ) (rows : List Row) (known : Option (List Fields)) (old new : Left) → done ≤ room
-    → SeenRows cols room done rows known old.records → old.expected ≡ Some (length cols) → NextIsUneven old → RowsFollow {A = A} cols room known new (Err (Fault (error.Reader (done + 1))))
+    → SeenRows cols room done rows known old.records → old.expected ≡ Some (length cols) → NextIsUneven old → RowsFollow {A = A} cols room known new (Err (Error (error.Reader (done + 1))))
 uneven_row A cols room done rows known old new le (seen, len, was, leaves) expected next =
     let n : next.0 ≡ length cols = cc (next.1, expected) in
     let o = leaves_other known seen old.records next.0 leaves next.2 in (
@@ -112,21 +112,21 @@ uneven_row A cols room done rows known old new le (seen, len, was, leaves) expec
 failed_row : (A : Type 0) (cols : List Column) (room done : ℕ) (rows : List Row) (known left : Option (List Fields)) (new : Left) (why : Failure RecordError) → new.failure ≡ Some why
     → SeenRows cols room done rows known left → (e : Failure LoadError) → e ≡ reported why (done + 1) → RowsFollow {A = A} cols room known new (Err e)
 failed_row A cols room done rows known left new OutOfMemory failed seen e is = out_of_memory A cols room known new e is
-failed_row A cols room done rows known left new (Fault why) failed (seen, len, was, leaves) e is =
+failed_row A cols room done rows known left new (Error why) failed (seen, len, was, leaves) e is =
     let rest = leaves_some known seen left leaves in
     rw (is, failed) (seen ++ rest.0, rest.1, λ fault. cc fault, tt, before_unread cols room done seen rest.0 rows len was)
 
--- why the next record was not read, after an error of a read
-pub unread : (row : ℕ) (old new : Left) (e : Failure RecordError) → new.failure ≡ failure_after e → (e ≡ Fault why.Uneven → NextIsUneven old) → Refuses row old new (reported e row)
-unread row old new (Fault why.Uneven) keeps uneven = rw keeps (refl, uneven refl)
-unread row old new (Fault why.Failed) keeps uneven = rw keeps refl
+-- the error of a read, where the next record was not read
+pub unread : (row : ℕ) (old new : Left) (e : Failure RecordError) → new.failure ≡ failure_after e → (e ≡ Error why.Uneven → NextIsUneven old) → Refuses row old new (reported e row)
+unread row old new (Error why.Uneven) keeps uneven = rw keeps (refl, uneven refl)
+unread row old new (Error why.Failed) keeps uneven = rw keeps refl
 unread row old new OutOfMemory keeps uneven = rw keeps refl
 
 -- the next record was not read
 refused : (A : Type 0) (cols : List Column) (room done : ℕ) (rows : List Row) (known : Option (List Fields)) (old new : Left) (e : Failure LoadError) → done ≤ room
     → SeenRows cols room done rows known old.records → old.expected ≡ Some (length cols) → Refuses (done + 1) old new e → RowsFollow {A = A} cols room known new (Err e)
 refused A cols room done rows known old new e le seen expected refuses = by_failure new.failure refl refuses where
-  by_failure : (failure : Option (Failure RecordError)) → new.failure ≡ failure → MatchOption failure ((e ≡ Fault (error.Reader (done + 1))) × NextIsUneven old) (λ why. e ≡ reported why (done + 1)) → RowsFollow {A = A} cols room known new (Err e)
+  by_failure : (failure : Option (Failure RecordError)) → new.failure ≡ failure → MatchOption failure ((e ≡ Error (error.Reader (done + 1))) × NextIsUneven old) (λ why. e ≡ reported why (done + 1)) → RowsFollow {A = A} cols room known new (Err e)
   by_failure None none (is, uneven) = rw is (uneven_row A cols room done rows known old new le seen expected uneven)
   by_failure (Some why) failed is = failed_row A cols room done rows known old.records new why failed seen e is
 
@@ -154,13 +154,13 @@ module _ {A : Type 0} (columns : List (declared.Column A)) (room done : ℕ) (ro
 
   -- a cell of the next record is refused, or memory ran out
   pub exit_row : (new : Left) (filling : Vec (List (Value A)) A) (fs : Fields) (found : Bool) (e : Failure LoadError) (r : Result (Unit {0}) (Failure LoadError)) → done < room → TakesNext old new found fs → found ≡ true
-      → IsFailure e (cells_of (map column_of columns) (done + 1) 0 fs) → ((row : ℕ) → e ≢ Fault (error.Reader row)) → IsErrAnd r (λ y. y ≡ e) → RowsFollow (map column_of columns) room known new (filled filling r)
+      → IsFailure e (cells_of (map column_of columns) (done + 1) 0 fs) → ((row : ℕ) → e ≢ Error (error.Reader row)) → IsErrAnd r (λ y. y ≡ e) → RowsFollow (map column_of columns) room known new (filled filling r)
   exit_row new filling fs found e r lt gives is_found fails other is =
       exit_rows (map column_of columns) room known new filling r e is
       (row_refused A (λ (x : Row). x) (map column_of columns) room done (rows_data rows.items) known old new fs e lt seen (found_is found true old new fs is_found gives) (as_many columns old expected) fails other)
 
   -- there is no room for the next record
-  pub exit_room : (new : Left) (fs : Fields) (found : Bool) → done ≤ room → room ≤ done → TakesNext old new found fs → found ≡ true → RowsFollow {A = A} (map column_of columns) room known new (Err (Fault error.TooMany))
+  pub exit_room : (new : Left) (fs : Fields) (found : Bool) → done ≤ room → room ≤ done → TakesNext old new found fs → found ≡ true → RowsFollow {A = A} (map column_of columns) room known new (Err (Error error.TooMany))
   exit_room new fs found le ge gives is_found =
       no_room_left A (map column_of columns) room done (rows_data rows.items) known old new fs (omega (arith, le, ge)) seen (found_is found true old new fs is_found gives) (as_many columns old expected)
 
@@ -194,7 +194,7 @@ one_more_counted cols row done fs items new count (values, all, long, cells) = o
 
 pub no_header : (A : Type 0) (cols : List Column) (room : ℕ) (old new : Left) (e : Failure LoadError) → HeaderIs cols old new (Err e) → LoadFollows {A = A} cols room old.records new (Err e)
 no_header A cols room old new OutOfMemory none = (unwrap_or old.records [], known_are old.records, tt, tt, λ row same pos. cc same)
-no_header A cols room old new (Fault e) (fault, at) = (unwrap_or old.records [], known_are old.records, λ is. fault is room, tt, λ row same pos. let is : e ≡ error.Reader row = cc same in absurd (not_first row (at row is) pos)) where
+no_header A cols room old new (Error e) (fault, at) = (unwrap_or old.records [], known_are old.records, λ is. fault is room, tt, λ row same pos. let is : e ≡ error.Reader row = cc same in absurd (not_first row (at row is) pos)) where
   not_first : (row : ℕ) → row ≡ 0 → 0 < row → ⊥
   not_first row e lt = omega arith
 
@@ -230,12 +230,12 @@ header_then_rows {A} cols room old mid new (Err e) (h, named, gives) (recs, know
   λ row same pos. let s = stops row same in (one_more row (length recs) pos s.0, s.1, load-take cols room row h recs named pos ∙ s.2),
 )
 
--- ---- where a read failed
+-- ---- a read failed
 
 -- the error is the one that is reported of the failure
 pub refuses_unread : (Y : Type 0) (row given : ℕ) (old new : Left) (e : Failure LoadError) → given ≡ row → Refuses row old new e → IfSome new.failure (λ why. IsErrOf {T = Y} (Err e) (reported why given))
 refuses_unread Y row given old new e same refuses = by_failure new.failure refuses where
-  by_failure : (failure : Option (Failure RecordError)) → MatchOption failure ((e ≡ Fault (error.Reader row)) × NextIsUneven old) (λ why. e ≡ reported why row) → IfSome failure (λ why. IsErrOf {T = Y} (Err e) (reported why given))
+  by_failure : (failure : Option (Failure RecordError)) → MatchOption failure ((e ≡ Error (error.Reader row)) × NextIsUneven old) (λ why. e ≡ reported why row) → IfSome failure (λ why. IsErrOf {T = Y} (Err e) (reported why given))
   by_failure None h = tt
   by_failure (Some why) is = ap Err (rw same is)
 
@@ -265,7 +265,7 @@ pub same_load : {A : Type 0} (cols cols' : List Column) (room room' : ℕ) (know
 same_load cols cols' room room' known left result is at follows =
     subst (λ (c : List Column). LoadFollows c room' known left result) is (subst (λ (n : ℕ). LoadFollows cols n known left result) at follows)
 
--- ---- what came to the rows that were there
+-- ---- the rows that were there
 
 fault_exactly : (failure : Option (Failure RecordError)) (e : LoadError) → failure ≡ None → is_fault failure e ≡ true
 fault_exactly failure error.Header none = refl
@@ -274,17 +274,17 @@ fault_exactly failure (error.Cell row column) none = refl
 fault_exactly failure (error.NotNull row column) none = refl
 fault_exactly failure error.TooMany none = refl
 
--- a fault of records
+-- an error of records
 pub fault_of_known : (A : Type 0) (cols : List Column) (room : ℕ) (known : Option (List Fields)) (left : Left) (e : Failure LoadError) (old new : List Row) → LoadFollows {A = A} cols room known left (Err e)
     → left.failure ≡ None → IfSome known (λ recs. Gives {X = Unit {0}} (λ _. new) (Err e) (appended old (load_of cols room recs)))
 fault_of_known A cols room None left e old new follows none = tt
 fault_of_known A cols room (Some known) left OutOfMemory old new follows none = tt
-fault_of_known A cols room (Some known) left (Fault e) old new (recs, are, due, many, stops) none = rw are (ap (appended old) (due (fault_exactly left.failure e none)))
+fault_of_known A cols room (Some known) left (Error e) old new (recs, are, due, many, stops) none = rw are (ap (appended old) (due (fault_exactly left.failure e none)))
 
 pub fault_of_some : (A : Type 0) (cols : List Column) (room : ℕ) (known : Option (List Fields)) (left : Left) (e : Failure LoadError) (old new : List Row) → LoadFollows {A = A} cols room known left (Err e)
     → left.failure ≡ None → (recs : List Fields) × Gives {X = Unit {0}} (λ _. new) (Err e) (appended old (load_of cols room recs)) × Unit {0}
 fault_of_some A cols room known left OutOfMemory old new (recs, are, due, many, stops) none = (recs, tt, tt)
-fault_of_some A cols room known left (Fault e) old new (recs, are, due, many, stops) none = (recs, ap (appended old) (due (fault_exactly left.failure e none)), tt)
+fault_of_some A cols room known left (Error e) old new (recs, are, due, many, stops) none = (recs, ap (appended old) (due (fault_exactly left.failure e none)), tt)
 
 pub stops_of_known : (A : Type 0) (cols : List Column) (room : ℕ) (known : Option (List Fields)) (left : Left) (e : Failure LoadError) → LoadFollows {A = A} cols room known left (Err e)
     → IfSome known (λ recs. StopsAfterGood {Y = Unit {0}} cols room recs (Err e))
@@ -301,7 +301,7 @@ pub rows_of_some : {A : Type 0} (cols : List Column) (room : ℕ) (known : Optio
     → new ≡ old ++ rows_data rows.items → (recs : List Fields) × Gives {X = Unit {0}} (λ _. new) (Ok tt) (appended old (load_of cols room recs)) × (length recs ≡ left.given)
 rows_of_some cols room known left rows old new (recs, are, due, many, stops) all = (recs, ap (appended old) due ∙ ap Ok (sym all), many)
 
--- ---- for callers: what was appended
+-- ---- for callers: the rows that were appended
 
 pub rows_appended : (old new : List Row) (due : Result (List Row) LoadError) → appended old due ≡ Ok new → (rows : List Row) × (due ≡ Ok rows) × (new ≡ old ++ rows)
 rows_appended old new (Ok rows) is = (rows, refl, cc is)

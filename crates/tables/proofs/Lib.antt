@@ -1,9 +1,9 @@
-pub mod Records
+pub mod Appends
+pub mod Bytes
 pub mod Cells
+pub mod Follow
 pub mod Names
+pub mod NullText
+pub mod Records
 pub mod Utf8
 pub mod Wide
-pub mod Follow
-pub mod NullText
-pub mod Bytes
-pub mod Appends

@@ -1,4 +1,4 @@
--- What a table's fields hold.
+-- The invariant of a table's fields.
 use Rattle.std.specs.Prelude.{◌≡◌, ◌≤◌, length, map, All}
 use Rattle.tables.specs.declared.TheConstants.{MAX_ROWS}
 use Rattle.tables.specs.declared.table.Table.TheInside.{Inside}

@@ -1,3 +1,3 @@
+pub mod Holding
 pub mod Loading
 pub mod Reading
-pub mod Holding

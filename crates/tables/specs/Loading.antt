@@ -1,4 +1,4 @@
--- The rows that the records of a text give, or the first fault.
+-- The rows that the records of a text give, or the first load error.
 use Rattle.std.specs.Prelude.{ℕ, zero, suc, ◌+◌, ◌<◌, ◌≤◌, ◌==◌, ◌&&◌, ◌≡◌, ◌≢◌, Bool, true, false, List, [], ◌∷◌, ◌++◌, length, map, take, get_or, Option, is_none, Result, Ok, Err, IfErr, All, if◌then◌else◌, ⊤}
 use Rattle.std.specs.Str.{bytes_eq, is_utf8}
 use Rattle.value.specs.declared.types.FaultKind.{FaultKind}
@@ -8,11 +8,11 @@ use Rattle.value.specs.Columns.{Column}
 use Rattle.value.specs.Texts.{IsNoNullMark, null_mark, value_at}
 use Rattle.csv_records.specs.declared.RecordError.{RecordError}
 use Rattle.memory.specs.declared.failure.Failure.{Failure}
-use Rattle.memory.specs.declared.failure.Failure.TheVariants.{Fault, OutOfMemory}
+use Rattle.memory.specs.declared.failure.Failure.TheVariants.{Error, OutOfMemory}
 use Rattle.tables.specs.declared.LoadError.{LoadError}
 use Rattle.tables.specs.declared.LoadError.TheVariants as error
 
--- what a table holds
+-- a table's columns and rows
 pub record TableRows : Type 0 where
   pub columns : List Column
   pub rows : List Row
@@ -21,13 +21,13 @@ pub record TableRows : Type 0 where
 abbrev pub Fields : Type 0
 Fields = List (List ℕ)
 
--- one more item in front, or else the first fault
+-- one more item before others, or else the first error
 abbrev pub both : {X : Type 0} → Result X LoadError → Result (List X) LoadError → Result (List X) LoadError
 both (Err e) r = Err e
 both (Ok x) (Err e) = Err e
 both (Ok x) (Ok xs) = Ok (x ∷ xs)
 
--- a text that is not a value of the type is reported with its place
+-- a text that is not a value of the type is reported with its row and column
 abbrev pub placed : ℕ → ℕ → Result Datum FaultKind → Result Datum LoadError
 placed row column (Ok d) = Ok d
 placed row column (Err k) = Err (error.Cell row column)
@@ -69,10 +69,10 @@ NoTextIsNull = (cols : List Column) (room : ℕ) (recs : List Fields) (rows : Li
 
 -- the error that is reported where the record of a row was not read
 abbrev pub reported : Failure RecordError → ℕ → Failure LoadError
-reported (Fault why) row = Fault (error.Reader row)
+reported (Error why) row = Error (error.Reader row)
 reported OutOfMemory row = OutOfMemory
 
--- whether an error is sure to be a fault of the records: a row that was not read is one if no read failed
+-- an error that is sure to be one of the records: a row that was not read is one if no read failed
 abbrev pub is_fault : Option (Failure RecordError) → LoadError → Bool
 is_fault failure error.Header = true
 is_fault failure (error.Reader row) = is_none failure
@@ -83,10 +83,10 @@ is_fault failure error.TooMany = true
 -- a call gives the stated result, where it is sure to be of the records, unless memory ran out
 abbrev pub Follows : {X Y : Type 0} → (Y → X) → Option (Failure RecordError) → Result X LoadError → Result Y (Failure LoadError) → Type 0
 Follows view failure stated (Ok y) = stated ≡ Ok (view y)
-Follows view failure stated (Err (Fault e)) = is_fault failure e ≡ true → stated ≡ Err e
+Follows view failure stated (Err (Error e)) = is_fault failure e ≡ true → stated ≡ Err e
 Follows view failure stated (Err OutOfMemory) = ⊤
 
--- rows after those that are there, or the fault
+-- rows after those that are there, or the error
 abbrev pub appended : List Row → Result (List Row) LoadError → Result (List Row) LoadError
 appended old (Ok rows) = Ok (old ++ rows)
 appended old (Err e) = Err e
@@ -94,12 +94,12 @@ appended old (Err e) = Err e
 -- the fact holds, unless the error is that a row was not read
 abbrev pub UnlessUnread : {Y : Type 0} → Result Y (Failure LoadError) → Type 0 → Type 0
 UnlessUnread (Ok y) fact = fact
-UnlessUnread (Err e) fact = ((row : ℕ) → e ≢ Fault (error.Reader row)) → fact
+UnlessUnread (Err e) fact = ((row : ℕ) → e ≢ Error (error.Reader row)) → fact
 
--- where a row was not read, the header and the rows before it are there and without fault
+-- a row was not read, and the header and the rows before it are there and without error
 abbrev pub StopsAfterGood : {Y : Type 0} → List Column → ℕ → List Fields → Result Y (Failure LoadError) → Type 0
 StopsAfterGood cols room recs result =
-    IfErr result (λ e. (row : ℕ) → e ≡ Fault (error.Reader row) → 0 < row → (row ≤ length recs) × (rows : List Row) × (load_of cols room (take row recs) ≡ Ok rows))
+    IfErr result (λ e. (row : ℕ) → e ≡ Error (error.Reader row) → 0 < row → (row ≤ length recs) × (rows : List Row) × (load_of cols room (take row recs) ≡ Ok rows))
 
 abbrev pub rows_data : {A : Type 0} → List (List (Value A)) → List Row
 rows_data rs = map (λ r. row_of r) rs

@@ -1,10 +1,10 @@
--- How a text is read, record by record.
+-- The reading of a text, record by record.
 use Rattle.std.specs.Prelude.{ℕ, ◌+◌, ◌-◌, ◌≤◌, ◌≡◌, true, List, [], ◌∷◌, ◌++◌, length, take, Option, Some, None, MatchOption, unwrap_or, Result, Ok, Err, IfErr, OnOk, ⊤, Vec}
 use Rattle.csv_records.specs.Left.{Left, NextIsUneven, TakesFirst}
 use Rattle.value.specs.declared.types.Value.{Value}
 use Rattle.value.specs.Datum.{Row, row_of}
 use Rattle.memory.specs.declared.failure.Failure.{Failure}
-use Rattle.memory.specs.declared.failure.Failure.TheVariants.{Fault, OutOfMemory}
+use Rattle.memory.specs.declared.failure.Failure.TheVariants.{Error, OutOfMemory}
 use Rattle.tables.specs.declared.LoadError.{LoadError}
 use Rattle.tables.specs.declared.LoadError.TheVariants as error
 use Rattle.tables.specs.Loading.{Fields, Follows, StopsAfterGood, cells_of, is_fault, load_of, names, reported, rows_data, rows_of}
@@ -15,32 +15,32 @@ abbrev pub AreKnown : Option (List Fields) → List Fields → Type 0
 AreKnown None recs = ⊤
 AreKnown (Some known) recs = known ≡ recs
 
--- why the next record was not read: a read failed, or else the record is uneven
+-- the next record was not read: a read failed, or else the record is uneven
 abbrev pub Refuses : ℕ → Left → Left → Failure LoadError → Type 0
-Refuses row old new e = MatchOption new.failure ((e ≡ Fault (error.Reader row)) × NextIsUneven old) (λ why. e ≡ reported why row)
+Refuses row old new e = MatchOption new.failure ((e ≡ Error (error.Reader row)) × NextIsUneven old) (λ why. e ≡ reported why row)
 
 -- the first record was read and is the header, or there is no header
 abbrev pub HeaderIs : List Column → Left → Left → Result (Unit {0}) (Failure LoadError) → Type 0
 HeaderIs cols old new (Ok u) = (h : Fields) × (names cols h ≡ true) × TakesFirst old.records new.records true h
 HeaderIs cols old new (Err OutOfMemory) = ⊤
-HeaderIs cols old new (Err (Fault e)) = (is_fault new.failure e ≡ true → (room : ℕ) → load_of cols room (unwrap_or old.records []) ≡ Err e)
+HeaderIs cols old new (Err (Error e)) = (is_fault new.failure e ≡ true → (room : ℕ) → load_of cols room (unwrap_or old.records []) ≡ Err e)
     × ((row : ℕ) → e ≡ error.Reader row → row ≡ 0)
 
 -- the row that the fields spell was added
 abbrev pub AddsRow : {A : Type 0} → List Column → ℕ → Fields → List (List (Value A)) → List (List (Value A)) → Type 0
 AddsRow {A} cols row fs old new = (values : List (Value A)) × (new ≡ old ++ values ∷ []) × (length values ≡ length cols) × (cells_of cols row 0 fs ≡ Ok (row_of values))
 
--- what was filled, where the result is ok
+-- the value that was filled, where the result is ok
 abbrev pub filled : {X Y E : Type 0} → Y → Result X E → Result Y E
 filled y (Ok x) = Ok y
 filled y (Err e) = Err e
 
--- the rows after the header are those of some records, which are those that are known, or the fault is theirs
+-- the rows after the header are those of some records, which are those that are known, or the error is theirs
 abbrev pub RowsFollow : {A : Type 0} → List Column → ℕ → Option (List Fields) → Left → Result (Vec (List (Value A)) A) (Failure LoadError) → Type 0
 RowsFollow cols room known left result = (recs : List Fields) × AreKnown known recs
     × Follows (λ rows. rows_data rows.items) left.failure (rows_of cols room 1 recs) result
     × OnOk result (length recs + 1 ≡ left.given)
-    × IfErr result (λ e. (row : ℕ) → e ≡ Fault (error.Reader row) → (row - 1 ≤ length recs) × (rows : List Row) × (rows_of cols room 1 (take (row - 1) recs) ≡ Ok rows))
+    × IfErr result (λ e. (row : ℕ) → e ≡ Error (error.Reader row) → (row - 1 ≤ length recs) × (rows : List Row) × (rows_of cols room 1 (take (row - 1) recs) ≡ Ok rows))
 
 -- the same of a text with its header
 abbrev pub LoadFollows : {A : Type 0} → List Column → ℕ → Option (List Fields) → Left → Result (Vec (List (Value A)) A) (Failure LoadError) → Type 0

@@ -3,11 +3,11 @@
 
 use thiserror::Error;
 
-/// How many rows a table holds at most.
+/// The most rows of a table.
 pub const MAX_ROWS: u64 = 4_000_000_000;
 
-/// Why a text gave no rows. Rows count from 1 after the header, which is row 0, and columns from 0. Of several faults the
-/// first row decides, and then the first column.
+/// An error of a text that gave no rows. Rows count from 1 after the header, which is row 0, and columns from 0. Of
+/// several errors the first row decides, and then the first column.
 #[derive(Clone, Copy, Debug, Error, PartialEq, Eq)]
 pub enum LoadError {
     /// The first record is not the names of the columns, in order and byte by byte.

@@ -3,7 +3,7 @@
 ghost use Rattle.std.specs.Prelude.{◌≡◌, ◌≢◌, ◌+◌, ◌-◌, ◌<◌, ◌≤◌, ◌^◌, ℕ, [], length, map, true, None, Some, All, IfOk, IfErr, IfSome, IsErrOf, OnErr, OnOk};
 ghost use Rattle.csv.specs.Records.{fields_of};
 ghost use Rattle.memory.specs.Gives.{Gives, IsFailure};
-ghost use Rattle.memory.specs.declared.failure.Failure.TheVariants.{Fault};
+ghost use Rattle.memory.specs.declared.failure.Failure.TheVariants.{Error};
 ghost use Rattle.csv_records.specs.Left.{TakesNext, counted};
 ghost use Rattle.value.specs.Datum.{datum, row_of};
 ghost use Rattle.tables.specs.Loading.{cell_of, cells_of, names, reported};
@@ -14,10 +14,9 @@ ghost use Rattle.tables.specs.declared.LoadError.TheVariants.{Reader};
 use crate::LoadError;
 use csv::ByteRecord;
 use csv_records::{RecordError, Records};
-use memory::{Failure, Heap};
+use memory::{Failure, Heap, Items};
 use std::io::Read;
 use std::str;
-use text::Items;
 use value::{Column, Value, read_value};
 
 // The value of a cell.
@@ -29,20 +28,20 @@ fn read_cell<A: Heap>(
     at: u64,
 ) -> Result<Value<A>, Failure<LoadError>>
     ensures cell { Gives datum result (cell_of (column_of column.now) row at field.now) }
-    ensures no_reader { IfErr result (λ e. (r : ℕ) → e ≢ Fault (Reader r)) }
+    ensures no_reader { IfErr result (λ e. (r : ℕ) → e ≢ Error (Reader r)) }
 {
     if field == b"\\N".as_slice() {
         if column.not_null {
-            return Err(Failure::Fault(LoadError::NotNull { row, column: at }));
+            return Err(Failure::Error(LoadError::NotNull { row, column: at }));
         }
         return Ok(Value::Null);
     }
     let Ok(text) = str::from_utf8(field) else {
-        return Err(Failure::Fault(LoadError::Cell { row, column: at }));
+        return Err(Failure::Error(LoadError::Cell { row, column: at }));
     };
     match read_value(alloc, column.data_type, text) {
         Ok(value) => Ok(value),
-        Err(Failure::Fault(_)) => Err(Failure::Fault(LoadError::Cell { row, column: at })),
+        Err(Failure::Error(_)) => Err(Failure::Error(LoadError::Cell { row, column: at })),
         Err(Failure::OutOfMemory) => Err(Failure::OutOfMemory),
     }
 }
@@ -59,11 +58,11 @@ fn add_cells<A: Heap>(
     requires wide { length (fields_of cells.now) ≡ length columns.now }
     ensures wide { OnOk result (length values.new.items ≡ length columns.now) }
     ensures cells { Gives (λ _. row_of values.new.items) result (cells_of (map column_of columns.now) row 0 (fields_of cells.now)) }
-    ensures no_reader { IfErr result (λ e. (r : ℕ) → e ≢ Fault (Reader r)) }
+    ensures no_reader { IfErr result (λ e. (r : ℕ) → e ≢ Error (Reader r)) }
 {
     for (i, column) in columns.iter().enumerate() {
         let Some(field) = cells.get(i) else {
-            return Err(Failure::Fault(LoadError::Reader { row }));
+            return Err(Failure::Error(LoadError::Reader { row }));
         };
         values.push(read_cell(alloc, column, field, row, i as u64)?)?;
     }
@@ -81,7 +80,7 @@ fn add_row<A: Heap>(
     requires { length (fields_of cells.now) ≡ length columns.now }
     ensures row { OnOk result (AddsRow (map column_of columns.now) row (fields_of cells.now) rows.old.items rows.new.items) }
     ensures refused { IfErr result (λ e. IsFailure e (cells_of (map column_of columns.now) row 0 (fields_of cells.now))) }
-    ensures no_reader { IfErr result (λ e. (r : ℕ) → e ≢ Fault (Reader r)) }
+    ensures no_reader { IfErr result (λ e. (r : ℕ) → e ≢ Error (Reader r)) }
 {
     let mut values = Vec::with_capacity(alloc, columns.len())?;
     add_cells(alloc, columns, cells, row, &mut values)?;
@@ -94,12 +93,12 @@ fn reported(error: Failure<RecordError>, row: u64) -> Failure<LoadError>
     ensures { result ≡ reported error row }
 {
     match error {
-        Failure::Fault(_) => Failure::Fault(LoadError::Reader { row }),
+        Failure::Error(_) => Failure::Error(LoadError::Reader { row }),
         Failure::OutOfMemory => Failure::OutOfMemory,
     }
 }
 
-// Reads the next record, and reports whether there was one.
+// Reads the next record: true where there was one.
 fn next_record<R: Read>(
     records: &mut Records<R>,
     cells: &mut ByteRecord,
@@ -144,7 +143,7 @@ fn add_rows<A: Heap, R: Read>(
         add_row(alloc, columns, cells, row, rows)?;
     }
     if next_record(records, cells, room + 1)? {
-        return Err(Failure::Fault(LoadError::TooMany));
+        return Err(Failure::Error(LoadError::TooMany));
     }
     Ok(())
 }
@@ -171,7 +170,7 @@ fn read_rows<A: Heap, R: Read>(
     Ok(rows)
 }
 
-// Whether the fields are the names of the columns.
+// True where the fields are the names of the columns.
 fn has_names<A: Heap>(columns: &[Column<A>], cells: &ByteRecord) -> bool
     ensures names { result ≡ names (map column_of columns.now) (fields_of cells.now) }
     ensures len { result ≡ true → length (fields_of cells.now) ≡ length columns.now }
@@ -209,7 +208,7 @@ fn read_header<A: Heap, R: Read>(
     if next_record(records, &mut cells, 0)? && has_names(columns, &cells) {
         Ok(())
     } else {
-        Err(Failure::Fault(LoadError::Header))
+        Err(Failure::Error(LoadError::Header))
     }
 }
 

@@ -11,10 +11,9 @@ ghost use Rattle.tables.specs.declared.TheConstants.{MAX_ROWS};
 use crate::load::read_table;
 use crate::{LoadError, MAX_ROWS};
 use csv_records::Records;
-use memory::{Failure, Heap};
+use memory::{Failure, Heap, Items};
 use std::io::Read;
 use std::marker::Model;
-use text::Items;
 use value::{Column, Val, Value};
 
 /// A table: its columns, and its rows in the order in which they were read.
@@ -50,9 +49,9 @@ impl<A: Heap> Table<A> {
         }
     }
 
-    /// The table of the records that a reader gives, of which the first is the names of the columns (PostgreSQL: COPY with
-    /// `FORMAT csv`, `HEADER MATCH` and `NULL '\N'`, but here a quoted `\N` is null too). A read that failed is
-    /// reported at the row that was not read, or as out of memory; another fault is the first one of the records.
+    /// The table of the records that a reader gives, of which the first is the names of the columns (PostgreSQL: COPY
+    /// with `FORMAT csv`, `HEADER MATCH` and `NULL '\N'`, but here a quoted `\N` is null too). A read that failed is
+    /// reported at the row that was not read, or as out of memory; another error is the first one of the records.
     pub fn load<R: Read + Drop>(
         alloc: A,
         reader: R,
@@ -60,7 +59,7 @@ impl<A: Heap> Table<A> {
     ) -> Result<Table<A>, Failure<LoadError>>
         ensures columns { IfOk result (λ t. t.columns ≡ map column_of columns) }
         ensures exact { IfSome (R.remaining reader) (λ bytes. UnlessUnread result (Gives (λ t. t.rows) result (load_of (map column_of columns) MAX_ROWS (records_of bytes)))) }
-        // The same of bytes that are not known: what was read were some records.
+        // The same of bytes that are not known: some records were read.
         ensures some_records { UnlessUnread result ((recs : List Fields) × Gives (λ t. t.rows) result (load_of (map column_of columns) MAX_ROWS recs)) }
         ensures stops { IfSome (R.remaining reader) (λ bytes. StopsAfterGood (map column_of columns) MAX_ROWS (records_of bytes) result) }
     {
@@ -68,12 +67,12 @@ impl<A: Heap> Table<A> {
         Table::load_records(alloc, &mut records, columns)
     }
 
-    /// Adds all the rows of the records that a reader gives, as `load` reads them, or reports a fault and adds none.
+    /// Adds all the rows of the records that a reader gives, as `load` reads them, or reports an error and adds none.
     pub fn append<R: Read + Drop>(&mut self, reader: R) -> Result<(), Failure<LoadError>>
         ensures columns { self.new.columns ≡ self.old.columns }
         ensures unchanged { OnErr result (self.new ≡ self.old) }
         ensures exact { IfSome (R.remaining reader) (λ bytes. UnlessUnread result (Gives (λ _. self.new.rows) result (appended self.old.rows (load_of self.old.columns (MAX_ROWS - length self.old.rows) (records_of bytes))))) }
-        // The same of bytes that are not known: what was read were some records.
+        // The same of bytes that are not known: some records were read.
         ensures some_records { UnlessUnread result ((recs : List Fields) × Gives (λ _. self.new.rows) result (appended self.old.rows (load_of self.old.columns (MAX_ROWS - length self.old.rows) recs))) }
         ensures stops { IfSome (R.remaining reader) (λ bytes. StopsAfterGood self.old.columns (MAX_ROWS - length self.old.rows) (records_of bytes) result) }
     {
@@ -81,8 +80,9 @@ impl<A: Heap> Table<A> {
         self.append_records(&mut records)
     }
 
-    /// The table of records, of which none was read before, as `load` reads them. A contract sees why a read failed, if one
-    /// did: then the error is the one that is reported of it; otherwise a fault is the first one of the records.
+    /// The table of records, of which none was read before, as `load` reads them. A contract sees the failure of a
+    /// read, if there was one: then the error is the one that is reported of it; otherwise it is the first one of the
+    /// records.
     pub fn load_records<R: Read>(
         alloc: A,
         records: &mut Records<R>,
@@ -93,7 +93,7 @@ impl<A: Heap> Table<A> {
         requires fresh { records.old.failure ≡ None }
         ensures columns { IfOk result (λ t. t.columns ≡ map column_of columns) }
         ensures exact { records.new.failure ≡ None → IfSome records.old.records (λ recs. Gives (λ t. t.rows) result (load_of (map column_of columns) MAX_ROWS recs)) }
-        // The same of records that are not known: what was read were some records, as many as were given.
+        // The same of records that are not known: some records were read, as many as were given.
         ensures some_records { records.new.failure ≡ None → (recs : List Fields) × Gives (λ t. t.rows) result (load_of (map column_of columns) MAX_ROWS recs) × OnOk result (length recs ≡ records.new.given) }
         ensures failed { IfSome records.new.failure (λ why. IsErrOf result (reported why records.new.given)) }
         ensures stops { IfSome records.old.records (λ recs. StopsAfterGood (map column_of columns) MAX_ROWS recs result) }
@@ -103,7 +103,7 @@ impl<A: Heap> Table<A> {
         Ok(table)
     }
 
-    /// Adds all the rows of records, as `load_records` reads them, or reports a fault and adds none.
+    /// Adds all the rows of records, as `load_records` reads them, or reports an error and adds none.
     pub fn append_records<R: Read>(
         &mut self,
         records: &mut Records<R>,
@@ -114,7 +114,7 @@ impl<A: Heap> Table<A> {
         ensures columns { self.new.columns ≡ self.old.columns }
         ensures unchanged { OnErr result (self.new ≡ self.old) }
         ensures exact { records.new.failure ≡ None → IfSome records.old.records (λ recs. Gives (λ _. self.new.rows) result (appended self.old.rows (load_of self.old.columns (MAX_ROWS - length self.old.rows) recs))) }
-        // The same of records that are not known: what was read were some records, as many as were given.
+        // The same of records that are not known: some records were read, as many as were given.
         ensures some_records { records.new.failure ≡ None → (recs : List Fields) × Gives (λ _. self.new.rows) result (appended self.old.rows (load_of self.old.columns (MAX_ROWS - length self.old.rows) recs)) × OnOk result (length recs ≡ records.new.given) }
         ensures failed { IfSome records.new.failure (λ why. IsErrOf result (reported why records.new.given)) }
         ensures stops { IfSome records.old.records (λ recs. StopsAfterGood self.old.columns (MAX_ROWS - length self.old.rows) recs result) }
@@ -132,7 +132,7 @@ impl<A: Heap> Table<A> {
         self.columns.as_slice()
     }
 
-    /// How many rows there are.
+    /// The number of rows.
     pub fn rows(&self) -> u64
         ensures rows { result ≡ length self.now.rows }
         ensures few { result ≤ MAX_ROWS }

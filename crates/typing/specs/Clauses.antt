@@ -6,14 +6,14 @@ use Rattle.value.specs.declared.refusal.Refusal.TheVariants as r
 use Rattle.row_ast.specs.Ast as ast
 use Rattle.row_ast.specs.Ast.{is_empty}
 use Rattle.expr.specs.declared.bound.ColumnId.{ColumnId}
-use Rattle.scope.specs.declared.fault.NameFault.{NameFault}
-use Rattle.scope.specs.declared.lookup.Reach.{Reach}
+use Rattle.scope.specs.declared.error.BindError.{BindError}
+use Rattle.scope.specs.declared.lookup.Scope.{Scope}
 use Rattle.scope.specs.Entry.{Entry, fault}
-use Rattle.scope.specs.Lookup.{everywhere, on_reach}
-use Rattle.grouping.specs.Offsets.{least_of}
+use Rattle.scope.specs.Lookup.{everywhere, on_scope}
+use Rattle.typing.specs.Offsets.{least_of}
 use Rattle.typing.specs.Typing.{Typed, typed, typed_condition}
 use Rattle.expr.specs.Bound.{is_column}
-use Rattle.grouping.specs.Grouping.{misplaced}
+use Rattle.typing.specs.Grouping.{misplaced}
 
 -- ---- aggregates
 
@@ -23,12 +23,12 @@ misplaced_items entries group_by of_groups known [] = known
 misplaced_items entries group_by of_groups known (i ∷ more) =
     misplaced_items entries group_by of_groups (least_of known (misplaced entries (everywhere entries) group_by of_groups i.value)) more
 
--- each column of an entry, from that at a place, is one of GROUP BY
+-- each column of an entry, from an index on, is one of GROUP BY
 abbrev pub are_grouped : List ColumnId → ℕ → ℕ → List Column → Bool
 are_grouped group_by entry column [] = true
 are_grouped group_by entry column (c ∷ cs) = list_any (is_column (record { entry = entry; column = column })) group_by && are_grouped group_by entry (column + 1) cs
 
--- each column of the entries, from that of a number, is one of GROUP BY
+-- each column of the entries, from an index on, is one of GROUP BY
 abbrev pub every_grouped : List ColumnId → ℕ → List Entry → Bool
 every_grouped group_by entry [] = true
 every_grouped group_by entry (e ∷ more) = are_grouped group_by entry 0 e.table.columns && every_grouped group_by (entry + 1) more
@@ -79,16 +79,16 @@ abbrev pub mistyped_select : List Entry → ast.SelectList → Option ℕ
 mistyped_select entries (ast.All offset) = None
 mistyped_select entries (ast.Items items) = mistyped_items entries None items
 
-abbrev pub mistyped_condition : List Entry → Reach → Option ast.Condition → Option ℕ
-mistyped_condition entries reach None = None
-mistyped_condition entries reach (Some c) = mistyped (typed_condition entries reach c.offset c.predicate)
+abbrev pub mistyped_condition : List Entry → Scope → Option ast.Condition → Option ℕ
+mistyped_condition entries scope None = None
+mistyped_condition entries scope (Some c) = mistyped (typed_condition entries scope c.offset c.predicate)
 
--- in the ONs from that of a number, after those before
+-- in the ONs from an index on, after those before
 abbrev pub mistyped_ons : List Entry → ℕ → Option ℕ → List Entry → Option ℕ
 mistyped_ons entries number known [] = known
-mistyped_ons entries number known (e ∷ more) = mistyped_ons entries (number + 1) (least_of known (mistyped_condition entries (on_reach number e) e.on)) more
+mistyped_ons entries number known (e ∷ more) = mistyped_ons entries (number + 1) (least_of known (mistyped_condition entries (on_scope number e) e.on)) more
 
--- the least offset of what is of the wrong type
+-- the least offset of a type error
 abbrev pub mistyped_in : List Entry → ast.Query → Option ℕ
 mistyped_in entries q =
     least_of (mistyped_select entries q.select)
@@ -97,15 +97,15 @@ mistyped_in entries q =
 -- ---- both checks
 
 -- 42803 at an offset, or else 42804 at the other, if there is one
-abbrev pub first_fault : Option ℕ → Option ℕ → Option NameFault
+abbrev pub first_fault : Option ℕ → Option ℕ → Option BindError
 first_fault (Some offset) other = Some (fault r.GroupingError offset)
 first_fault None (Some offset) = Some (fault r.DatatypeMismatch offset)
 first_fault None None = None
 
 -- of a query with the columns of its GROUP BY
-abbrev pub clause_fault : List Entry → List ColumnId → ast.Query → Option NameFault
-clause_fault entries group_by q = first_fault (misplaced_in entries group_by q) (mistyped_in entries q)
+abbrev pub clause_error : List Entry → List ColumnId → ast.Query → Option BindError
+clause_error entries group_by q = first_fault (misplaced_in entries group_by q) (mistyped_in entries q)
 
 -- of the condition of a policy, which starts at an offset; no aggregate is allowed in it
-abbrev pub condition_fault : List Entry → ℕ → ast.Expr → Option NameFault
-condition_fault entries offset e = first_fault (misplaced entries (everywhere entries) [] false e) (mistyped (typed_condition entries (everywhere entries) offset e))
+abbrev pub condition_error : List Entry → ℕ → ast.Expr → Option BindError
+condition_error entries offset e = first_fault (misplaced entries (everywhere entries) [] false e) (mistyped (typed_condition entries (everywhere entries) offset e))

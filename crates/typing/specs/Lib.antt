@@ -1,2 +1,4 @@
-pub mod Typing
 pub mod Clauses
+pub mod Grouping
+pub mod Offsets
+pub mod Typing

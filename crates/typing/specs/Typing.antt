@@ -1,4 +1,4 @@
--- The type of an expression, or the least offset of what is of the wrong type in it.
+-- The type of an expression, or the least offset of a type error in it.
 use Rattle.std.specs.Prelude.{ℕ, Bool, true, false, ◌&&◌, List, [], ◌∷◌, Option, Some, None, option_map, option_and_then, slice_get, Result, Ok, Err, if◌then◌else◌}
 use Rattle.value.specs.Datum.{Datum, null, int, text, bool}
 use Rattle.value.specs.declared.types.ColType.{ColType}
@@ -7,11 +7,11 @@ use Rattle.value.specs.declared.operators.Aggregate.{Aggregate}
 use Rattle.value.specs.declared.operators.Aggregate.TheVariants.{Count, Sum, Min, Max}
 use Rattle.row_ast.specs.Ast as ast
 use Rattle.expr.specs.declared.bound.ColumnId.{ColumnId}
-use Rattle.scope.specs.declared.fault.NameFault.{NameFault}
-use Rattle.scope.specs.declared.lookup.Reach.{Reach}
+use Rattle.scope.specs.declared.error.BindError.{BindError}
+use Rattle.scope.specs.declared.lookup.Scope.{Scope}
 use Rattle.scope.specs.Entry.{and_then, Entry}
 use Rattle.scope.specs.Lookup.{find_column}
-use Rattle.grouping.specs.Offsets.{both}
+use Rattle.typing.specs.Offsets.{both}
 
 -- a type, or none: that of NULL, which fits every type
 abbrev pub TypeOf : Type 0
@@ -74,12 +74,12 @@ abbrev pub common_of_all : Option TypeOf → List Datum → Option TypeOf
 common_of_all known [] = known
 common_of_all known (d ∷ ds) = common_of_all (common_with known (type_of d)) ds
 
--- none at a place that is not there, which no column that was found has
+-- none for a column that is not there, as no column that was found is
 abbrev pub column_type : List Entry → ColumnId → TypeOf
 column_type entries id = option_and_then (λ e. option_map (λ c. c.data_type) (slice_get e.table.columns id.column)) (slice_get entries id.entry)
 
--- none for a name that stands for nothing, which is reported before types are checked
-abbrev pub found_type : List Entry → Result ColumnId NameFault → TypeOf
+-- none for a name that does not resolve, which is reported before types are checked
+abbrev pub found_type : List Entry → Result ColumnId BindError → TypeOf
 found_type entries (Ok id) = column_type entries id
 found_type entries (Err fault) = None
 
@@ -88,7 +88,7 @@ found_type entries (Err fault) = None
 abbrev pub type_if : ℕ → Bool → TypeOf → Typed
 type_if offset holds t = if holds then Ok t else Err offset
 
--- what compares values of one type
+-- the type of a comparison of values of one type
 abbrev pub truth_if_common : ℕ → Option TypeOf → Typed
 truth_if_common offset None = Err offset
 truth_if_common offset (Some t) = Ok (Some Boolean)
@@ -156,10 +156,10 @@ case_type offset known otherwise = and_then (both known otherwise) (λ p. result
 
 -- ---- expressions
 
-module _ (entries : List Entry) (reach : Reach) where
+module _ (entries : List Entry) (scope : Scope) where
   abbrev mutual
     pub typed : ast.Expr → Typed
-    typed (ast.Column c) = Ok (found_type entries (find_column entries reach c))
+    typed (ast.Column c) = Ok (found_type entries (find_column entries scope c))
     typed (ast.Literal d) = Ok (type_of d)
     typed ast.CurrentUser = Ok (Some Text)
     typed (ast.Negate offset e) = negation_type offset (typed e)
@@ -176,12 +176,12 @@ module _ (entries : List Entry) (reach : Reach) where
     typed (ast.CountStar offset) = Ok (Some Bigint)
     typed (ast.Call aggregate offset e) = call_type offset aggregate (typed e)
 
-    -- whether each member is a condition, after those before
+    -- true where each member is a condition, after those before
     pub typed_members : Result Bool ℕ → ast.Exprs → Result Bool ℕ
     typed_members known ast.no_expr = known
     typed_members known (ast.one_expr e es) = typed_members (and_condition known (typed e)) es
 
-    -- whether each WHEN is a condition, and the one type of the results, after those before
+    -- true where each WHEN is a condition, and the one type of the results, after those before
     pub typed_arms : Result (Bool × Option TypeOf) ℕ → ast.Arms → Result (Bool × Option TypeOf) ℕ
     typed_arms known ast.no_arm = known
     typed_arms known (ast.one_arm when result as_) = typed_arms (and_arm known (typed when) (typed result)) as_
@@ -191,6 +191,6 @@ module _ (entries : List Entry) (reach : Reach) where
     typed_otherwise ast.Nothing = Ok None
     typed_otherwise (ast.Value e) = typed e
 
-  -- an expression that is to be a condition, and where it starts
+  -- an expression that is to be a condition, and its offset
   abbrev pub typed_condition : ℕ → ast.Expr → Typed
   typed_condition offset e = and_then (typed e) (λ t. type_if offset (fits Boolean t) t)

@@ -6,12 +6,13 @@ ghost use Rattle.row_ast.specs.View.{condition_of, expr_of, query_of, select_ite
 ghost use Rattle.scope.specs.View.{entry_of};
 ghost use Rattle.typing.specs.Clauses as spec;
 
+use crate::grouped::{is_among, misplaced};
+use crate::offsets::least_of;
 use crate::types::{Typed, typed, typed_condition};
 use expr::ColumnId;
-use grouping::{is_among, least_of, misplaced};
 use memory::Heap;
 use row_ast::{Condition, Expr, Query, SelectItem, SelectList};
-use scope::{Entry, NameFault, Reach, everywhere, on_reach};
+use scope::{BindError, Entry, Scope, everywhere, on_scope};
 use value::{Column, Refusal};
 
 // ---- aggregates
@@ -24,12 +25,12 @@ fn misplaced_items<A: Heap>(
 ) -> Option<u32>
     ensures { result ≡ spec.misplaced_items (map (λ e. entry_of e) entries.now) group_by.now of_groups None (map (λ i. select_item_of i) items.now) }
 {
-    let reach = everywhere(entries);
+    let scope = everywhere(entries);
     let mut known = None;
     for item in items {
         known = least_of(
             known,
-            misplaced(entries, reach, group_by, of_groups, &item.value),
+            misplaced(entries, scope, group_by, of_groups, &item.value),
         );
     }
     known
@@ -117,7 +118,7 @@ fn misplaced_ons<A: Heap>(entries: &[Entry<'_, A>], group_by: &[ColumnId]) -> Op
     known
 }
 
-/// Whether a query has GROUP BY, HAVING, or an aggregate in an item.
+/// True where a query has GROUP BY, HAVING, or an aggregate in an item.
 pub fn is_grouped<A: Heap>(entries: &[Entry<'_, A>], query: &Query<A>) -> bool
     ensures { result ≡ spec.is_grouped (map (λ e. entry_of e) entries.now) (query_of query.now) }
 {
@@ -159,10 +160,10 @@ fn mistyped(typed: Typed) -> Option<u32>
 fn mistyped_items<A: Heap>(entries: &[Entry<'_, A>], items: &[SelectItem<A>]) -> Option<u32>
     ensures { result ≡ spec.mistyped_items (map (λ e. entry_of e) entries.now) None (map (λ i. select_item_of i) items.now) }
 {
-    let reach = everywhere(entries);
+    let scope = everywhere(entries);
     let mut known = None;
     for item in items {
-        known = least_of(known, mistyped(typed(entries, reach, &item.value)));
+        known = least_of(known, mistyped(typed(entries, scope, &item.value)));
     }
     known
 }
@@ -178,16 +179,16 @@ fn mistyped_select<A: Heap>(entries: &[Entry<'_, A>], select: &SelectList<A>) ->
 
 fn mistyped_condition<A: Heap>(
     entries: &[Entry<'_, A>],
-    reach: Reach,
+    scope: Scope,
     condition: Option<&Condition<A>>,
 ) -> Option<u32>
-    ensures { result ≡ spec.mistyped_condition (map (λ e. entry_of e) entries.now) reach (option_map (λ c. condition_of c.now) condition.entry) }
+    ensures { result ≡ spec.mistyped_condition (map (λ e. entry_of e) entries.now) scope (option_map (λ c. condition_of c.now) condition.entry) }
 {
     match condition {
         None => None,
         Some(condition) => mistyped(typed_condition(
             entries,
-            reach,
+            scope,
             condition.offset,
             &condition.predicate,
         )),
@@ -199,7 +200,7 @@ fn mistyped_ons<A: Heap>(entries: &[Entry<'_, A>]) -> Option<u32>
 {
     let mut known = None;
     for (number, entry) in entries.iter().enumerate() {
-        let on = mistyped_condition(entries, on_reach(number, entry), entry.on);
+        let on = mistyped_condition(entries, on_scope(number, entry), entry.on);
         known = least_of(known, on);
     }
     known
@@ -208,58 +209,58 @@ fn mistyped_ons<A: Heap>(entries: &[Entry<'_, A>]) -> Option<u32>
 fn mistyped_in<A: Heap>(entries: &[Entry<'_, A>], query: &Query<A>) -> Option<u32>
     ensures { result ≡ spec.mistyped_in (map (λ e. entry_of e) entries.now) (query_of query.now) }
 {
-    let reach = everywhere(entries);
+    let scope = everywhere(entries);
     let select = mistyped_select(entries, &query.select);
     let ons = mistyped_ons(entries);
-    let filter = mistyped_condition(entries, reach, query.filter.as_ref());
-    let having = mistyped_condition(entries, reach, query.having.as_ref());
+    let filter = mistyped_condition(entries, scope, query.filter.as_ref());
+    let having = mistyped_condition(entries, scope, query.having.as_ref());
     least_of(select, least_of(ons, least_of(filter, having)))
 }
 
 // ---- both checks
 
-fn first_fault(misplaced: Option<u32>, mistyped: Option<u32>) -> Option<NameFault>
+fn first_fault(misplaced: Option<u32>, mistyped: Option<u32>) -> Option<BindError>
     ensures { result ≡ spec.first_fault misplaced mistyped }
 {
     if let Some(offset) = misplaced {
-        return Some(NameFault {
+        return Some(BindError {
             code: Refusal::GroupingError,
             offset,
         });
     }
     match mistyped {
         None => None,
-        Some(offset) => Some(NameFault {
+        Some(offset) => Some(BindError {
             code: Refusal::DatatypeMismatch,
             offset,
         }),
     }
 }
 
-/// The fault of a query with the columns of its GROUP BY: the aggregate or column at the least offset that is not allowed
-/// there (42803), or else the least offset of a wrong type (42804).
-pub fn clause_fault<A: Heap>(
+/// The error of a query with the columns of its GROUP BY: the aggregate or column at the least offset that is not
+/// allowed there (42803), or else the least offset of a wrong type (42804).
+pub fn clause_error<A: Heap>(
     entries: &[Entry<'_, A>],
     group_by: &[ColumnId],
     query: &Query<A>,
-) -> Option<NameFault>
-    ensures { result ≡ spec.clause_fault (map (λ e. entry_of e) entries.now) group_by.now (query_of query.now) }
+) -> Option<BindError>
+    ensures { result ≡ spec.clause_error (map (λ e. entry_of e) entries.now) group_by.now (query_of query.now) }
 {
     let misplaced = misplaced_in(entries, group_by, query);
     first_fault(misplaced, mistyped_in(entries, query))
 }
 
-/// The fault of the condition of a policy, which starts at an offset: the least offset of an aggregate (42803), or else of
-/// a wrong type (42804).
-pub fn condition_fault<A: Heap>(
+/// The error of the condition of a policy, which starts at an offset: the least offset of an aggregate (42803), or else
+/// of a wrong type (42804).
+pub fn condition_error<A: Heap>(
     entries: &[Entry<'_, A>],
     offset: u32,
     predicate: &Expr<A>,
-) -> Option<NameFault>
-    ensures { result ≡ spec.condition_fault (map (λ e. entry_of e) entries.now) offset (expr_of predicate.now) }
+) -> Option<BindError>
+    ensures { result ≡ spec.condition_error (map (λ e. entry_of e) entries.now) offset (expr_of predicate.now) }
 {
-    let reach = everywhere(entries);
-    let aggregate = misplaced(entries, reach, &[], false, predicate);
-    let typed = typed_condition(entries, reach, offset, predicate);
+    let scope = everywhere(entries);
+    let aggregate = misplaced(entries, scope, &[], false, predicate);
+    let typed = typed_condition(entries, scope, offset, predicate);
     first_fault(aggregate, mistyped(typed))
 }

@@ -2,6 +2,8 @@
 #![tactic(auto)]
 
 mod clauses;
+mod grouped;
+mod offsets;
 mod types;
 
-pub use clauses::{clause_fault, condition_fault, is_grouped};
+pub use clauses::{clause_error, condition_error, is_grouped};

@@ -2,22 +2,21 @@
 
 ghost use Rattle.std.specs.Prelude.{◌≡◌, Ok, Some, None, true, map, option_map, slice_get};
 ghost use Rattle.value.specs.Datum.{datum};
-ghost use Rattle.row_ast.specs.View.{expr_of, exprs};
-ghost use Rattle.row_ast.specs.View.{arms as arms_of};
+ghost use Rattle.row_ast.specs.View.{expr_of, exprs, arms as arms_of};
 ghost use Rattle.scope.specs.View.{entry_of};
 ghost use Rattle.typing.specs.Typing as spec;
 
+use crate::offsets::both;
 use expr::ColumnId;
-use grouping::both;
 use memory::Heap;
 use row_ast::{Arm, Expr};
-use scope::{Entry, NameFault, Reach, find_column};
+use scope::{BindError, Entry, Scope, find_column};
 use value::{Aggregate, ColType, Value};
 
 /// A type, or none: that of NULL, which fits every type.
 pub type TypeOf = Option<ColType>;
 
-/// A type, or the least offset of what is of the wrong type.
+/// A type, or the least offset of a type error.
 pub type Typed = Result<TypeOf, u32>;
 
 fn is_type(a: ColType, b: ColType) -> bool
@@ -79,7 +78,7 @@ fn can_cast(to: ColType, from: TypeOf) -> bool
     }
 }
 
-// Whether min and max take the type.
+// True where min and max take the type.
 fn is_ordered(of: TypeOf) -> bool
     ensures { result ≡ spec.is_ordered of }
 {
@@ -128,7 +127,7 @@ fn column_type<A: Heap>(entries: &[Entry<'_, A>], id: ColumnId) -> TypeOf
     }
 }
 
-fn found_type<A: Heap>(entries: &[Entry<'_, A>], found: Result<ColumnId, NameFault>) -> TypeOf
+fn found_type<A: Heap>(entries: &[Entry<'_, A>], found: Result<ColumnId, BindError>) -> TypeOf
     ensures { result ≡ spec.found_type (map (λ e. entry_of e) entries.now) found }
 {
     match found {
@@ -252,7 +251,7 @@ fn conditions_type(offset: u32, known: Result<bool, u32>) -> Typed
     type_if(offset, holds, Some(ColType::Boolean))
 }
 
-// Whether each WHEN is a condition, and the one type of the results; or the least offset of what is wrong.
+// True where each WHEN is a condition, and the one type of the results; or the least offset of a type error.
 type Arms = Result<(bool, Option<TypeOf>), u32>;
 
 fn and_arm(known: Arms, when: Typed, then: Typed) -> Arms
@@ -280,15 +279,15 @@ fn case_type(offset: u32, known: Arms, otherwise: Typed) -> Typed
 
 /// The type of an expression, or the least offset of an operation that is wrong although its operands are well typed.
 #[cycle(typed)]
-pub fn typed<A: Heap>(entries: &[Entry<'_, A>], reach: Reach, expression: &Expr<A>) -> Typed
-    ensures { result ≡ spec.typed (map (λ e. entry_of e) entries.now) reach (expr_of expression.now) }
+pub fn typed<A: Heap>(entries: &[Entry<'_, A>], scope: Scope, expression: &Expr<A>) -> Typed
+    ensures { result ≡ spec.typed (map (λ e. entry_of e) entries.now) scope (expr_of expression.now) }
 {
     match expression {
-        Expr::Column(column) => Ok(found_type(entries, find_column(entries, reach, column))),
+        Expr::Column(column) => Ok(found_type(entries, find_column(entries, scope, column))),
         Expr::Literal(value) => Ok(type_of(value)),
         Expr::CurrentUser => Ok(Some(ColType::Text)),
         Expr::Negate { offset, operand } => {
-            negation_type(*offset, typed(entries, reach, operand))
+            negation_type(*offset, typed(entries, scope, operand))
         }
         Expr::Arithmetic {
             offset,
@@ -296,8 +295,8 @@ pub fn typed<A: Heap>(entries: &[Entry<'_, A>], reach: Reach, expression: &Expr<
             right,
             ..
         } => {
-            let a = typed(entries, reach, left);
-            arithmetic_type(*offset, a, typed(entries, reach, right))
+            let a = typed(entries, scope, left);
+            arithmetic_type(*offset, a, typed(entries, scope, right))
         }
         Expr::Comparison {
             offset,
@@ -305,8 +304,8 @@ pub fn typed<A: Heap>(entries: &[Entry<'_, A>], reach: Reach, expression: &Expr<
             right,
             ..
         } => {
-            let a = typed(entries, reach, left);
-            comparison_type(*offset, a, typed(entries, reach, right))
+            let a = typed(entries, scope, left);
+            comparison_type(*offset, a, typed(entries, scope, right))
         }
         Expr::Between {
             offset,
@@ -315,9 +314,9 @@ pub fn typed<A: Heap>(entries: &[Entry<'_, A>], reach: Reach, expression: &Expr<
             high,
             ..
         } => {
-            let operand = typed(entries, reach, operand);
-            let low = typed(entries, reach, low);
-            let high = typed(entries, reach, high);
+            let operand = typed(entries, scope, operand);
+            let low = typed(entries, scope, low);
+            let high = typed(entries, scope, high);
             between_type(*offset, operand, low, high)
         }
         Expr::In {
@@ -326,30 +325,30 @@ pub fn typed<A: Heap>(entries: &[Entry<'_, A>], reach: Reach, expression: &Expr<
             operand,
             ..
         } => {
-            let of = typed(entries, reach, operand);
+            let of = typed(entries, scope, operand);
             membership_type(*offset, of, values.as_slice())
         }
-        Expr::IsNull { operand, .. } => null_check_type(typed(entries, reach, operand)),
-        Expr::Not { offset, operand } => not_type(*offset, typed(entries, reach, operand)),
+        Expr::IsNull { operand, .. } => null_check_type(typed(entries, scope, operand)),
+        Expr::Not { offset, operand } => not_type(*offset, typed(entries, scope, operand)),
         Expr::And { offset, members } => {
-            conditions_type(*offset, typed_members(entries, reach, members))
+            conditions_type(*offset, typed_members(entries, scope, members))
         }
         Expr::Or { offset, members } => {
-            conditions_type(*offset, typed_members(entries, reach, members))
+            conditions_type(*offset, typed_members(entries, scope, members))
         }
         Expr::Cast {
             offset,
             to,
             operand,
-        } => { cast_type(*offset, *to, typed(entries, reach, operand)) }
+        } => { cast_type(*offset, *to, typed(entries, scope, operand)) }
         Expr::Case {
             offset,
             arms,
             otherwise,
         } => {
-            let known = typed_arms(entries, reach, arms);
+            let known = typed_arms(entries, scope, arms);
             match otherwise {
-                Some(value) => case_type(*offset, known, typed(entries, reach, value)),
+                Some(value) => case_type(*offset, known, typed(entries, scope, value)),
                 None => case_type(*offset, known, Ok(None)),
             }
         }
@@ -358,35 +357,35 @@ pub fn typed<A: Heap>(entries: &[Entry<'_, A>], reach: Reach, expression: &Expr<
             aggregate,
             offset,
             argument,
-        } => { call_type(*offset, *aggregate, typed(entries, reach, argument)) }
+        } => { call_type(*offset, *aggregate, typed(entries, scope, argument)) }
     }
 }
 
-// Whether each member is a condition.
+// True where each member is a condition.
 #[cycle(typed)]
 fn typed_members<A: Heap>(
     entries: &[Entry<'_, A>],
-    reach: Reach,
+    scope: Scope,
     members: &[Expr<A>],
 ) -> Result<bool, u32>
-    ensures { result ≡ spec.typed_members (map (λ e. entry_of e) entries.now) reach (Ok true) (exprs members.now) }
+    ensures { result ≡ spec.typed_members (map (λ e. entry_of e) entries.now) scope (Ok true) (exprs members.now) }
 {
     let mut known = Ok(true);
     for member in members {
-        known = and_condition(known, typed(entries, reach, member));
+        known = and_condition(known, typed(entries, scope, member));
     }
     known
 }
 
 // The same of each WHEN, and the one type of the results.
 #[cycle(typed)]
-fn typed_arms<A: Heap>(entries: &[Entry<'_, A>], reach: Reach, arms: &[Arm<A>]) -> Arms
-    ensures { result ≡ spec.typed_arms (map (λ e. entry_of e) entries.now) reach (Ok (true, Some None)) (arms_of arms.now) }
+fn typed_arms<A: Heap>(entries: &[Entry<'_, A>], scope: Scope, arms: &[Arm<A>]) -> Arms
+    ensures { result ≡ spec.typed_arms (map (λ e. entry_of e) entries.now) scope (Ok (true, Some None)) (arms_of arms.now) }
 {
     let mut known = Ok((true, Some(None)));
     for arm in arms {
-        let when = typed(entries, reach, &arm.when);
-        known = and_arm(known, when, typed(entries, reach, &arm.result));
+        let when = typed(entries, scope, &arm.when);
+        known = and_arm(known, when, typed(entries, scope, &arm.result));
     }
     known
 }
@@ -394,12 +393,12 @@ fn typed_arms<A: Heap>(entries: &[Entry<'_, A>], reach: Reach, arms: &[Arm<A>]) 
 /// The type of an expression that is to be a condition and starts at an offset.
 pub fn typed_condition<A: Heap>(
     entries: &[Entry<'_, A>],
-    reach: Reach,
+    scope: Scope,
     offset: u32,
     expression: &Expr<A>,
 ) -> Typed
-    ensures { result ≡ spec.typed_condition (map (λ e. entry_of e) entries.now) reach offset (expr_of expression.now) }
+    ensures { result ≡ spec.typed_condition (map (λ e. entry_of e) entries.now) scope offset (expr_of expression.now) }
 {
-    let of = typed(entries, reach, expression)?;
+    let of = typed(entries, scope, expression)?;
     type_if(offset, fits(ColType::Boolean, of), of)
 }

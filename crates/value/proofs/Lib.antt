@@ -1,4 +1,4 @@
-pub mod Spelling
-pub mod OneSpelling
 pub mod DatumOrder
+pub mod OneSpelling
 pub mod ReadBack
+pub mod Spelling

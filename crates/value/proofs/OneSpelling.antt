@@ -8,6 +8,7 @@ use Rattle.std.specs.Str.Parse.{digits_value}
 use Rattle.std.proofs.lemmas.Fmt.{decimal_digit, first_decimal, digits_decimal, digits_value-decimal, decimal-digits_value}
 use Rattle.std.proofs.lemmas.Slice.Eq.{bytes_eq-Decides}
 use Rattle.std.proofs.lemmas.Bool.Decides.{nat_tests}
+use Rattle.memory.proofs.Cases.{ok_is}
 use Rattle.value.specs.declared.types.FaultKind.{FaultKind}
 use Rattle.value.specs.declared.types.FaultKind.TheVariants.{BadText, Range}
 use Rattle.value.specs.Exact.{in_range, is_bigint}
@@ -18,7 +19,7 @@ pub chosen : {A : Type 0} (b : Bool) (x y z : A) → cond b x y ≡ z → ((b �
 chosen true x y z h = inl (refl, h)
 chosen false x y z h = inr (refl, h)
 
--- ---- what is written is read again
+-- ---- a written bigint is read again
 
 positive : (ds : List ℕ) → all_ascii_digits ds ≡ true → 48 < get_or ds 0 0 → is_positive ds ≡ true
 positive [] h k = absurd (omega arith)
@@ -51,9 +52,6 @@ read_again (pos (suc n)) h = read_positive (suc n) (omega arith) (grind (arith, 
 read_again (negsuc n) h = read_negative n (grind (arith, nat_tests))
 
 -- ---- nothing else is read as it
-
-ok_is : (x z : ℤ) → ◌≡◌ {A = Result ℤ FaultKind} (Ok x) (Ok z) → x ≡ z
-ok_is x z h = cc
 
 err_is : (k : FaultKind) (z : ℤ) → ◌≡◌ {A = Result ℤ FaultKind} (Err k) (Ok z) → ⊥
 err_is k z h = cc

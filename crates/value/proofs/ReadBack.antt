@@ -3,6 +3,7 @@ use Rattle.std.proofs.Common.{◌≡◌, ℕ, ℤ, Bool, true, false, cond, List
 use Rattle.std.specs.Str.{bytes_eq}
 use Rattle.std.specs.Fmt.{signed_decimal}
 use Rattle.std.proofs.lemmas.Slice.Eq.{bytes_eq-Decides}
+use Rattle.memory.proofs.Cases.{some_is, ok_is}
 use Rattle.value.specs.Datum.{Datum, null, int, text, bool}
 use Rattle.value.specs.declared.types.FaultKind.{FaultKind}
 use Rattle.value.specs.declared.types.FaultKind.TheVariants.{BadText}
@@ -12,13 +13,10 @@ use Rattle.value.specs.Exact.{is_bigint, as_number}
 use Rattle.value.specs.Texts.{bigint_at, boolean_at, value_at, text_at, is_of}
 use Rattle.value.proofs.OneSpelling.{chosen, read_again, one_spelling}
 
-some_is : (s t : List ℕ) → Some s ≡ Some t → s ≡ t
-some_is s t h = cc
-
 no_text : (t : List ℕ) → ◌≡◌ {A = Option (List ℕ)} None (Some t) → ⊥
 no_text t h = cc
 
--- ---- what is written reads back
+-- ---- a written value reads back
 
 bigint_back : (n : ℤ) (t : List ℕ) → is_bigint n ≡ true → signed_decimal n ≡ t → as_number (bigint_at t) ≡ Ok (int n)
 bigint_back n t h e = ap as_number (ap bigint_at (sym e) ∙ read_again n h)
@@ -41,10 +39,7 @@ written types.Boolean null t h e = cc
 written types.Boolean (int n) t h e = cc
 written types.Boolean (text s) t h e = cc
 
--- ---- what reads is what is written
-
-ok_is : (x d : Datum) → ◌≡◌ {A = Result Datum FaultKind} (Ok x) (Ok d) → x ≡ d
-ok_is x d h = cc
+-- ---- a text that reads as a value is the written one
 
 err_is : (k : FaultKind) (d : Datum) → ◌≡◌ {A = Result Datum FaultKind} (Err k) (Ok d) → ⊥
 err_is k d h = cc

@@ -1,4 +1,4 @@
--- What `parse` gives of a text that is spelled as a bigint.
+-- The result of `parse` on a text that is spelled as a bigint.
 use Rattle.std.proofs.Common.{◌≡◌, ℕ, ℤ, Bool, true, false, ◌&&◌, not, ◌==◌, cond, List, [], ◌∷◌, Err, refl, sym, ◌∙◌, ap, arith, FitsSigned, w64}
 use Rattle.std.specs.List.{list_all}
 use Rattle.std.specs.Str.{all_ascii_digits}

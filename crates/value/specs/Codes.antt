@@ -1,4 +1,4 @@
--- The codes of refusals, and what they mean.
+-- The codes of refusals, and their meanings.
 use Rattle.std.specs.Prelude.{ℕ, List, codes}
 use Rattle.value.specs.declared.refusal.Refusal.{Refusal}
 use Rattle.value.specs.declared.refusal.Refusal.TheVariants as r

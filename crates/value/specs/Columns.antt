@@ -5,7 +5,7 @@ use Rattle.value.specs.declared.column.Column as declared
 use Rattle.value.specs.declared.types.ColType.{ColType}
 use Rattle.value.specs.declared.types.ColType.TheVariants as types
 
--- a column: its name, its type, and whether no row may be null there
+-- a column: its name, its type, and true where no row may be null there
 pub record Column : Type 0 where
   pub name : List ℕ
   pub data_type : ColType

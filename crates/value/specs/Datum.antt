@@ -1,4 +1,4 @@
--- A value without its place in memory.
+-- Values as spec data.
 use Rattle.std.specs.Prelude.{ℕ, ℤ, Bool, List, map, Result, Ok, Err}
 use Rattle.std.specs.Cow.{cow_str_bytes}
 use Rattle.value.specs.declared.types.Value.{Value}
@@ -16,14 +16,14 @@ pub data Datum : Type 0 where
 abbrev pub Row : Type 0
 Row = List Datum
 
--- what a value of the program is
+-- the view of a Rust value as spec data
 abbrev pub datum : {A : Type 0} → Value A → Datum
 datum owned.Null = null
 datum (owned.Int n) = int n
 datum (owned.Text s) = text s
 datum (owned.Bool b) = bool b
 
--- what a lent value is
+-- the view of a lent value
 abbrev pub datum_of : {A : Type 0} → Val A → Datum
 datum_of lent.Null = null
 datum_of (lent.Int n) = int n
@@ -33,7 +33,7 @@ datum_of (lent.Bool b) = bool b
 abbrev pub row_of : {A : Type 0} → List (Value A) → Row
 row_of values = map datum values
 
--- what a function of values returned
+-- the view of the result of a function of values
 abbrev pub datums_of : {A E : Type 0} → Result (Val A) E → Result Datum E
 datums_of (Ok v) = Ok (datum_of v)
 datums_of (Err e) = Err e

@@ -1,4 +1,4 @@
--- The kinds of faults: their order, their codes, and what they mean.
+-- The kinds of faults: their order, their codes, and their meanings.
 use Rattle.std.specs.Prelude.{ℕ, List, codes}
 use Rattle.std.specs.declared.cmp.Ordering.{Ordering}
 use Rattle.std.specs.Ordering.{nat_cmp, on}

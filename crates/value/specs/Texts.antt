@@ -31,7 +31,7 @@ spelled (c ∷ cs) = if c == 45 then neg_ℤ (pos (digits_value 10 cs)) else pos
 abbrev pub bigint_at : List ℕ → Result ℤ FaultKind
 bigint_at t = if is_spelled t then in_range (spelled t) else (if bytes_eq t (48 ∷ []) then Ok (pos 0) else Err BadText)
 
--- what is read as a bigint is its own text
+-- a text that is read as a bigint is its own text
 abbrev pub OneSpelling : Type 0
 OneSpelling = (t : List ℕ) (z : ℤ) → bigint_at t ≡ Ok z → t ≡ signed_decimal z
 
@@ -49,7 +49,7 @@ value_at types.Bigint t = as_number (bigint_at t)
 value_at types.Text t = Ok (text t)
 value_at types.Boolean t = boolean_at t
 
--- the field that stands for null: a backslash and N
+-- the field that means null: a backslash and N
 abbrev pub null_mark : List ℕ
 null_mark = 92 ∷ 78 ∷ []
 
@@ -81,6 +81,6 @@ is_of kind d = false
 abbrev pub WrittenReadsBack : Type 0
 WrittenReadsBack = (kind : ColType) (d : Datum) (t : List ℕ) → is_of kind d ≡ true → text_at d ≡ Some t → value_at kind t ≡ Ok d
 
--- what reads as a value of a type is the text of the value
+-- a text that reads as a value of a type is the text of the value
 abbrev pub ReadIsWritten : Type 0
 ReadIsWritten = (kind : ColType) (d : Datum) (t : List ℕ) → value_at kind t ≡ Ok d → text_at d ≡ Some t

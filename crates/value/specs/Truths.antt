@@ -3,7 +3,7 @@ use Rattle.std.specs.Prelude.{ℕ, nat_lt, if◌then◌else◌}
 use Rattle.value.specs.declared.order.Truth.{Truth}
 use Rattle.value.specs.declared.order.Truth.TheVariants.{False, Unknown, True}
 
--- the place in the order
+-- the rank in the order
 abbrev pub rank : Truth → ℕ
 rank False = 0
 rank Unknown = 1

@@ -11,7 +11,8 @@ use crate::writing::bigint_text;
 use memory::{Failure, Heap};
 use std::borrow::CowStr;
 
-/// A value as another type: a text as the bigint that it spells, a bigint as its text; null stays null (PostgreSQL: Type Casts).
+/// A value as another type: a text as the bigint that it spells, a bigint as its text; null stays null (PostgreSQL:
+/// Type Casts).
 pub fn cast<'a, A: Heap>(
     alloc: A,
     to: ColType,
@@ -24,7 +25,7 @@ pub fn cast<'a, A: Heap>(
     match (to, value) {
         (ColType::Bigint, Val::Text(text)) => match read_bigint(text.as_str()) {
             Ok(n) => Ok(Val::Int(n)),
-            Err(kind) => Err(Failure::Fault(kind)),
+            Err(kind) => Err(Failure::Error(kind)),
         },
         (ColType::Text, Val::Int(n)) => Ok(Val::Text(CowStr::Owned(bigint_text(alloc, n)?))),
         (_, value) => Ok(value),

@@ -5,9 +5,8 @@ ghost use Rattle.value.specs.Columns.{column_of, fits_type};
 ghost use Rattle.value.specs.Datum.{datum};
 
 use crate::types::{ColType, Value};
-use memory::Heap;
+use memory::{Heap, Items, Text};
 use std::alloc::AllocError;
-use text::{Items, Text};
 
 /// A column of a table (PostgreSQL: CREATE TABLE).
 #[derive(Drop)]
@@ -16,11 +15,11 @@ pub struct Column<A: Heap> {
     pub name: Text<A>,
     /// The type of its values.
     pub data_type: ColType,
-    /// Whether no row may be null there (`NOT NULL`).
+    /// True for `NOT NULL`: no row may be null there.
     pub not_null: bool,
 }
 
-/// Whether a value is of a type, or null.
+/// True where a value is of a type, or null.
 pub fn fits_type<A: Heap>(data_type: ColType, value: &Value<A>) -> bool
     ensures { result ≡ fits_type data_type (datum value.now) }
 {

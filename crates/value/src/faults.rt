@@ -1,4 +1,4 @@
-//! What an evaluation fails by, and where.
+//! The faults of an evaluation.
 
 ghost use Rattle.std.specs.Prelude.{◌≡◌};
 ghost use Rattle.value.specs.Faults.{kind_code, kind_cmp, kind_meaning};
@@ -7,12 +7,12 @@ use crate::types::FaultKind;
 use std::error::Error;
 use std::fmt;
 
-/// Where an evaluation failed, and by what.
+/// The fault of an evaluation.
 #[derive(Clone, Copy, Debug, PartialEq, Eq)]
 pub struct Fault {
-    /// The byte of the query's text where the failing part starts.
+    /// The offset of the failing part in the query's text.
     pub offset: u32,
-    /// What it failed by.
+    /// Its kind.
     pub kind: FaultKind,
 }
 
@@ -28,7 +28,7 @@ impl FaultKind {
         }
     }
 
-    /// What the code means, in words.
+    /// The meaning of the code, in words.
     pub fn meaning(self) -> &'static str
         ensures { result.now ≡ kind_meaning self }
     {
@@ -52,7 +52,8 @@ impl fmt::Display for FaultKind {
 
 impl Error for FaultKind {}
 
-/// Of two kinds that both apply the lesser is reported: division by zero, then a number out of range, then a text that is not a number.
+/// Of two kinds that both apply the lesser is reported: division by zero, then a number out of range, then a text that
+/// is not a number.
 pub fn law_kinds_in_order()
     ensures { (a b : FaultKind) → ⟦<FaultKind as Ord>⟧.cmp a b ≡ kind_cmp a b }
 {}

@@ -6,9 +6,8 @@ ghost use Rattle.value.specs.Datum.{Row, datum_of, null, row_of};
 ghost use Rattle.value.specs.Orders.{datum_cmp, row_cmp, compared, equal_of, less_of, class};
 
 use crate::types::{Val, Value};
-use memory::Heap;
+use memory::{Heap, Items};
 use std::cmp::Ordering;
-use text::Items;
 
 /// A truth value of three, ordered as false, unknown, true (PostgreSQL: Logical Operators).
 #[derive(Clone, Copy, Debug, PartialEq, Eq, PartialOrd, Ord)]
@@ -63,14 +62,15 @@ fn unless_null<A: Heap>(a: &Val<'_, A>, b: &Val<'_, A>, holds: bool) -> Truth
     }
 }
 
-/// Whether two values are equal; unknown where one is null (PostgreSQL: Comparison Functions and Operators).
+/// Equality of two values; unknown where one is null (PostgreSQL: Comparison Functions and Operators).
 pub fn eq3<A: Heap>(a: &Val<'_, A>, b: &Val<'_, A>) -> Truth
     ensures { result ≡ equal_of (datum_of a.now) (datum_of b.now) }
 {
     unless_null(a, b, cmp_values(a, b).is_eq())
 }
 
-/// Whether a value is less than another; unknown where one is null (PostgreSQL: Comparison Functions and Operators).
+/// The test that a value is less than another; unknown where one is null (PostgreSQL: Comparison Functions and
+/// Operators).
 pub fn lt3<A: Heap>(a: &Val<'_, A>, b: &Val<'_, A>) -> Truth
     ensures { result ≡ less_of (datum_of a.now) (datum_of b.now) }
 {

@@ -8,8 +8,7 @@ ghost use Rattle.value.specs.Datum.{datum};
 ghost use Rattle.value.specs.Texts.{is_positive, is_spelled, bigint_at, value_at, ReadAgain, OneSpelling};
 
 use crate::types::{ColType, FaultKind, Value};
-use memory::{Failure, Heap};
-use text::Text;
+use memory::{Failure, Heap, Text};
 
 fn are_digits(text: &[u8]) -> bool
     ensures { result ≡ list_all is_ascii_digit text.now }
@@ -63,7 +62,7 @@ fn read_boolean<A: Heap>(text: &str) -> Result<Value<A>, Failure<FaultKind>>
     } else if text == "f" {
         Ok(Value::Bool(false))
     } else {
-        Err(Failure::Fault(FaultKind::BadText))
+        Err(Failure::Error(FaultKind::BadText))
     }
 }
 
@@ -78,7 +77,7 @@ pub fn read_value<A: Heap>(
     match kind {
         ColType::Bigint => match read_bigint(text) {
             Ok(n) => Ok(Value::Int(n)),
-            Err(kind) => Err(Failure::Fault(kind)),
+            Err(kind) => Err(Failure::Error(kind)),
         },
         ColType::Text => Ok(Value::Text(Text::new(alloc, text)?)),
         ColType::Boolean => read_boolean(text),

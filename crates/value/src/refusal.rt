@@ -1,4 +1,4 @@
-//! Why a text or a statement is refused.
+//! The reasons for which a text or a statement is refused.
 
 ghost use Rattle.std.specs.Prelude.{◌≡◌};
 ghost use Rattle.value.specs.Codes.{code_of, meaning_of};
@@ -47,7 +47,7 @@ pub enum Refusal {
     DuplicatePreparedStatement,
     /// A table or an index of that name is there already (42P07).
     DuplicateTable,
-    /// A number that names no output column (42P10).
+    /// A position of no output column (42P10).
     InvalidColumnReference,
     /// A policy whose expression can fail (42P17).
     InvalidObjectDefinition,
@@ -89,7 +89,7 @@ impl Refusal {
         }
     }
 
-    /// What the code means, in words.
+    /// The meaning of the code, in words.
     pub fn meaning(self) -> &'static str
         ensures { result.now ≡ meaning_of self }
     {

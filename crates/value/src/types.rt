@@ -1,9 +1,8 @@
 //! The values of the three types, and null.
 
-use memory::Heap;
+use memory::{Heap, Text};
 use std::alloc::AllocError;
 use std::borrow::CowStr;
-use text::Text;
 
 /// A value that owns its text.
 #[derive(Debug, Drop)]
@@ -42,7 +41,7 @@ pub enum ColType {
     Boolean,
 }
 
-/// What an evaluation can fail by, in the order in which faults are reported.
+/// The kinds of faults of an evaluation, in the order in which they are reported.
 #[derive(Clone, Copy, Debug, PartialEq, Eq, PartialOrd, Ord)]
 pub enum FaultKind {
     /// Division by zero (22012).

@@ -1,7 +1,7 @@
 use Rattle.std.proofs.Common.{◌∙◌, ap, map}
 use Rattle.std.proofs.lemmas.Result.{IfOk-weaker}
 use Rattle.expr.specs.View.{bound_expr_of}
-use Rattle.access.specs.Guards as spec
+use Rattle.tuples.specs.Guards as spec
 use Rattle.access.proofs.Chosen.{joined}
 use Rattle.access.proofs.guards.combined.Goals as goal
 

@@ -1,6 +1,6 @@
 use Rattle.std.proofs.Common.{◌≡◌, ◌∙◌, ap, sym, true, false, true≢false}
 use Rattle.expr.specs.View.{bound_expr_of}
-use Rattle.access.specs.Guards as spec
+use Rattle.tuples.specs.Guards as spec
 use Rattle.access.proofs.Chosen.{and_made, some_movable, never_none}
 use Rattle.access.proofs.guards.conjunction.Goals as goal
 

@@ -2,8 +2,9 @@ use Rattle.std.proofs.Common.{map, refl}
 use Rattle.row_objects.specs.View.{table_of}
 use Rattle.scope.specs.View.{entry_of}
 use Rattle.access.specs.Access.{sees}
-use Rattle.access.specs.Guards.{frame, guard, shows}
-use Rattle.access.specs.View.{guard_of}
+use Rattle.access.specs.Guards.{frame, guard}
+use Rattle.tuples.specs.Guards.{shows}
+use Rattle.tuples.specs.View.{guard_of}
 use Rattle.access.proofs.Frames.{next_is_made, all_are_made}
 use Rattle.access.proofs.guards.frame.Goals as goal
 

@@ -3,8 +3,9 @@ use Rattle.value.specs.Datum as value
 use Rattle.row_objects.specs.View.{table_of}
 use Rattle.scope.specs.View.{entry_of}
 use Rattle.access.specs.Access.{sees}
-use Rattle.access.specs.Guards.{frame, shows}
-use Rattle.access.specs.View.{guard_of}
+use Rattle.access.specs.Guards.{frame}
+use Rattle.tuples.specs.Guards.{shows}
+use Rattle.tuples.specs.View.{guard_of}
 use Rattle.access.proofs.guards.frame.Given as goal
 
 abbrev pub invariant-loop-entry : goal.invariant-loop-entry

@@ -1,7 +1,7 @@
 use Rattle.std.proofs.Common.{◌&&◌, map, refl}
 use Rattle.std.specs.Prelude.{option_map}
 use Rattle.std.specs.List.{list_any}
-use Rattle.grants.specs.View.{grant_of}
+use Rattle.row_objects.specs.View.{grant_of}
 use Rattle.access.specs.Access.{includes_role, covers}
 use Rattle.access.proofs.Walks.{found, none_left, not_found}
 use Rattle.access.proofs.privileges.any_grants_to.Goals as goal

@@ -2,14 +2,15 @@ use Rattle.std.proofs.Common.{◌≡◌, ◌⊎◌, inr, ℕ, Bool, true, false,
 use Rattle.std.specs.List.{list_all}
 use Rattle.value.specs.declared.refusal.Refusal.{Refusal}
 use Rattle.value.specs.declared.refusal.Refusal.TheVariants as r
-use Rattle.row_ast.specs.Ast.{CreatePolicy, Expr, Name}
+use Rattle.row_ast.specs.Ast.{CreatePolicy, Expr}
+use Rattle.value.specs.Names.{Name}
 use Rattle.row_ast.specs.View.{create_policy_of, expr_of}
 use Rattle.expr.specs.Bound.{BoundExpr}
 use Rattle.row_objects.specs.Objects.{Policy, Table}
 use Rattle.row_objects.specs.Policies.{has_policy, has_policy_room}
 use Rattle.row_objects.specs.View.{table_of}
-use Rattle.policy_predicates.specs.PolicyPredicate.{bound_predicate, checks_predicate}
-use Rattle.catalog.specs.Catalog.{Catalog, is_known, owns, table_named, table_place}
+use Rattle.catalog.specs.PolicyPredicate.{bound_predicate, checks_predicate}
+use Rattle.catalog.specs.Catalog.{Catalog, is_known, owns, table_named, table_index}
 use Rattle.catalog.specs.Checks.{first_refusal}
 use Rattle.catalog.specs.CreatePolicy.{checks_create_policy, CheckedPolicy}
 use Rattle.catalog.proofs.create_policy.check_create_policy.Goals as goal
@@ -37,9 +38,9 @@ module _ (cat : Catalog) (actor : Name) (p : CreatePolicy) (name : Name) (is : n
           refused : (why : Refusal) → (why ≡ r.OutOfMemory) ⊎ (first_refusal (checks_predicate room t e) ≡ Some why) → (why ≡ r.OutOfMemory) ⊎ (first_refusal (checks_create_policy cat actor p) ≡ Some why)
           refused why h = rw as_predicate h
 
-          passed : (place : ℕ) (bound : BoundExpr) → Some place ≡ table_place name cat → (first_refusal (checks_predicate room t e) ≡ None) × (bound_predicate t e ≡ Ok bound)
-              → CheckedPolicy (Ok (place, bound)) (first_refusal (checks_create_policy cat actor p)) cat p
-          passed place bound at h = (rw as_predicate h.0, rw (← is) (sym at), rw (← is, ← found, ← condition) (ap (λ b. Some b) h.1))
+          passed : (index : ℕ) (bound : BoundExpr) → Some index ≡ table_index name cat → (first_refusal (checks_predicate room t e) ≡ None) × (bound_predicate t e ≡ Ok bound)
+              → CheckedPolicy (Ok (index, bound)) (first_refusal (checks_create_policy cat actor p)) cat p
+          passed index bound at h = (rw as_predicate h.0, rw (← is) (sym at), rw (← is, ← found, ← condition) (ap (λ b. Some b) h.1))
 
 pub returns-in_default : goal.returns-in_default
 returns-in_default g c = record {
@@ -81,6 +82,6 @@ pub returns-in-Ok : goal.returns-in-Ok
 returns-in-Ok g c = record {
   checked = passed c.args.catalog.now c.args.actor.now (create_policy_of c.args.policy.now) c.as_str.result.now c.as_str.ensures (table_of c.in-Some.table) c.in-Some.ensures.table
       c.if-not-owns.ensures c.as_slice.result.now c.as_slice.ensures c.if-not-are_known.ensures _ c.policies.ensures c.as_str-else-not-are_known.result.now c.as_str-else-not-are_known.ensures
-      c.if-has_policy.ensures _ (ap (λ e. expr_of e) c.deref.ensures) c.has_policy_room-has_room.result c.has_policy_room-has_room.ensures c.in-Some.place _ c.in-Some.ensures.place c.in-Ok.ensures;
+      c.if-has_policy.ensures _ (ap (λ e. expr_of e) c.deref.ensures) c.has_policy_room-has_room.result c.has_policy_room-has_room.ensures c.in-Some.index _ c.in-Some.ensures.index c.in-Ok.ensures;
   within = c.in-Some.ensures.within;
 }

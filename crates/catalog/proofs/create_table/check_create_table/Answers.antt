@@ -3,7 +3,7 @@ use Rattle.std.proofs.lemmas.Bool.Decides.{nat_tests}
 use Rattle.std.proofs.lemmas.List.{length-map}
 use Rattle.value.specs.Columns.{Column, column_of}
 use Rattle.value.specs.declared.refusal.Refusal.TheVariants as r
-use Rattle.row_ast.specs.Ast.{Name}
+use Rattle.value.specs.Names.{Name}
 use Rattle.row_objects.specs.ColumnNames.{has_name_twice}
 use Rattle.catalog.specs.Catalog.{Catalog, is_index, is_table}
 use Rattle.catalog.specs.Checks.{first_refusal}

@@ -1,6 +1,6 @@
 use Rattle.std.proofs.Common.{◌≡◌, true, false, List, Some, None, refl, sym}
 use Rattle.value.specs.declared.refusal.Refusal.TheVariants as r
-use Rattle.row_ast.specs.Ast.{Name}
+use Rattle.value.specs.Names.{Name}
 use Rattle.row_objects.specs.Objects.{Policy, Table}
 use Rattle.row_objects.specs.Policies.{has_policy}
 use Rattle.row_objects.specs.View.{table_of}
@@ -48,7 +48,7 @@ returns-else-not-has_policy g c = record {
   checked = (
     none_refuses c.args.catalog.now c.args.actor.now c.args.name.now c.args.table.now (table_of c.in-Some.table) c.in-Some.ensures.table c.if-not-owns.ensures
         _ c.policies.ensures c.if-not-has_policy.ensures,
-    sym c.in-Some.ensures.place,
+    sym c.in-Some.ensures.index,
   );
   within = c.in-Some.ensures.within;
 }

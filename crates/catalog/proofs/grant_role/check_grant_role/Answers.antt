@@ -1,7 +1,7 @@
 use Rattle.std.proofs.Common.{◌≡◌, ◌&&◌, ◌∙◌, true, false, List, Some, None, map, refl, sym, ap, true≢false}
 use Rattle.std.proofs.lemmas.Bool.{and_from, and_left, and_right}
 use Rattle.value.specs.declared.refusal.Refusal.TheVariants as r
-use Rattle.row_ast.specs.Ast.{Name}
+use Rattle.value.specs.Names.{Name}
 use Rattle.memberships.specs.Memberships.{Membership, closes_loop}
 use Rattle.memberships.specs.View.{membership_of}
 use Rattle.catalog.specs.Catalog.{Catalog, is_role, is_superuser}

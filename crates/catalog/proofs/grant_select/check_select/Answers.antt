@@ -2,7 +2,8 @@ use Rattle.std.proofs.Common.{◌≡◌, true, false, List, Some, None, refl, sy
 use Rattle.std.specs.List.{list_all}
 use Rattle.value.specs.Columns.{Column}
 use Rattle.value.specs.declared.refusal.Refusal.TheVariants as r
-use Rattle.row_ast.specs.Ast.{Grant, Name}
+use Rattle.row_ast.specs.Ast.{Grant}
+use Rattle.value.specs.Names.{Name}
 use Rattle.row_ast.specs.View.{grant_of}
 use Rattle.row_objects.specs.ColumnNames.{are_columns}
 use Rattle.row_objects.specs.Objects.{Table}
@@ -63,7 +64,7 @@ returns-else-not-are_known g c = record {
   checked = (
     none_refuses c.args.catalog.now c.args.actor.now (grant_of c.args.grant.now) c.as_str.result.now c.as_str.ensures (table_of c.in-Some.table) c.in-Some.ensures.table
         c.if-not-owns.ensures _ c.columns.ensures c.if-not-are_columns.ensures c.as_slice.result.now c.as_slice.ensures c.if-not-are_known.ensures,
-    rw (← c.as_str.ensures) (sym c.in-Some.ensures.place),
+    rw (← c.as_str.ensures) (sym c.in-Some.ensures.index),
   );
   within = c.in-Some.ensures.within;
 }

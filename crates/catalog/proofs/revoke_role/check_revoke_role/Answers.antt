@@ -1,7 +1,7 @@
 use Rattle.std.proofs.Common.{◌≡◌, ◌&&◌, ◌∙◌, true, false, Some, None, refl, sym, true≢false}
 use Rattle.std.proofs.lemmas.Bool.{and_from, and_left, and_right}
 use Rattle.value.specs.declared.refusal.Refusal.TheVariants as r
-use Rattle.row_ast.specs.Ast.{Name}
+use Rattle.value.specs.Names.{Name}
 use Rattle.catalog.specs.Catalog.{Catalog, is_role, is_superuser}
 use Rattle.catalog.specs.Checks.{first_refusal}
 use Rattle.catalog.specs.RevokeRole.{checks_revoke_role}

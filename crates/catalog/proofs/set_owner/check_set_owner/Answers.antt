@@ -1,6 +1,6 @@
 use Rattle.std.proofs.Common.{◌≡◌, ◌&&◌, ◌||◌, true, false, Some, None, refl, sym}
 use Rattle.value.specs.declared.refusal.Refusal.TheVariants as r
-use Rattle.row_ast.specs.Ast.{Name}
+use Rattle.value.specs.Names.{Name}
 use Rattle.row_objects.specs.Objects.{Table}
 use Rattle.row_objects.specs.View.{table_of}
 use Rattle.catalog.specs.Catalog.{Catalog, belongs, is_role, is_superuser, table_named}
@@ -45,7 +45,7 @@ pub returns-else-not-may_give : goal.returns-else-not-may_give
 returns-else-not-may_give g c = record {
   checked = (
     none_refuses c.args.catalog.now c.args.actor.now c.args.table.now c.args.owner.now (table_of c.in-Some.table) c.in-Some.ensures.table c.if-not-is_role.ensures c.if-not-may_give.ensures,
-    sym c.in-Some.ensures.place,
+    sym c.in-Some.ensures.index,
   );
   within = c.in-Some.ensures.within;
 }

@@ -1,10 +1,10 @@
 use Rattle.std.proofs.Common.{sym, ap, ◌∙◌}
 use Rattle.row_ast.specs.View.{query_of}
-use Rattle.admission.specs.View.{read_of}
+use Rattle.analysis.specs.View.{read_of}
 use Rattle.engine.proofs.Admitted.{reply_to_query}
 use Rattle.engine.proofs.asking.answer.Goals as goal
 
 pub returns-in-Ok : goal.returns-in-Ok
 returns-in-Ok g c =
-    let read = (rw c.catalog.ensures at c.in_ok-query.ensures) in
+    let read = (rw c.catalog.ensures.catalog at c.in_ok-query.ensures) in
     rw (reply_to_query c.args.store.now.catalog _ c.args.role.now c.args.text.now (query_of c.in-Ok.query) (sym read ∙ ap read_of c.in-Ok.is)) c.answer_query-reply.ensures

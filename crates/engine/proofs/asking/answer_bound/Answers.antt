@@ -1,10 +1,10 @@
 use Rattle.std.proofs.Common.{◌≡◌, List, Result, refl}
 use Rattle.memory.specs.Gives.{IsFailure}
 use Rattle.memory.specs.declared.failure.Failure.{Failure}
-use Rattle.memory.specs.declared.failure.Failure.TheVariants.{Fault as Faults}
+use Rattle.memory.specs.declared.failure.Failure.TheVariants.{Error as Faults}
 use Rattle.value.specs.Datum.{Row}
 use Rattle.value.specs.declared.faults.Fault.{Fault}
-use Rattle.row_ast.specs.Ast.{Name}
+use Rattle.value.specs.Names.{Name}
 use Rattle.replies.specs.Reply.{Faulted}
 use Rattle.resolve.specs.View.{bound_of}
 use Rattle.engine.specs.Answer.{headings, rows_reply}
@@ -13,5 +13,5 @@ use Rattle.engine.proofs.asking.answer_bound.Goals as goal
 fault_is : (columns : List Name) (rows : Result (List Row) Fault) (failure : Failure Fault) (fault : Fault) → failure ≡ Faults fault → IsFailure failure rows → Faulted fault ≡ rows_reply columns rows
 fault_is columns rows failure fault is failed = let r = (rw is at failed) in rw r refl
 
-pub returns-in-Err-Fault : goal.returns-in-Err-Fault
-returns-in-Err-Fault g c = rw c.in-Err-Fault.field-0-is (fault_is (headings (bound_of c.args.bound.now).query.items) _ _ _ c.in-Err-Fault.field-0-is c.in-Err-Fault.ensures)
+pub returns-in-Err-Error : goal.returns-in-Err-Error
+returns-in-Err-Error g c = rw c.in-Err-Error.field-0-is (fault_is (headings (bound_of c.args.bound.now).query.items) _ _ _ c.in-Err-Error.field-0-is c.in-Err-Error.ensures)

@@ -1,5 +1,5 @@
 use Rattle.std.proofs.Common.{◌≡◌, ◌++◌, drop, map}
-use Rattle.scope.specs.View.{bound_item_of}
+use Rattle.expr.specs.View.{bound_item_of}
 use Rattle.engine.specs.Answer.{headings}
 use Rattle.engine.proofs.asking.headings.Given as goal
 

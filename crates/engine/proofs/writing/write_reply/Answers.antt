@@ -1,11 +1,12 @@
 use Rattle.std.proofs.Common.{◌≡◌, ◌⊎◌, ◌∙◌, ℕ, List, Option, inl, inr, sym, ap, subst, arith}
 use Rattle.std.specs.Io.KnownBytes.{Appends}
+use Rattle.output.specs.Taken.{Begins}
 use Rattle.replies.specs.Reply.{Reply, no_memory, reply_status}
 use Rattle.replies.specs.ReplyText.{reply_text}
 use Rattle.replies.specs.View.{reply_of}
 use Rattle.store.specs.Database.{rows_of}
 use Rattle.engine.specs.Answer.{reply_to}
-use Rattle.engine.specs.Serving.{Begins, IsReply, IsWhole}
+use Rattle.engine.specs.Serving.{IsReply, IsWhole}
 use Rattle.engine.proofs.Statuses.{only_no_memory}
 use Rattle.engine.proofs.writing.write_reply.Goals as goal
 

@@ -9,14 +9,16 @@ use Rattle.std.specs.declared.borrow.CowStr.{CowStr}
 use Rattle.value.specs.contracts.order.Truth.{the_type}
 use Rattle.expr.specs.View.{bound_expr_of, bound_exprs, bound_arms, otherwise_of}
 use Rattle.eval.specs.Meaning.{meaning, conjunction, disjunction, otherwise}
-use Rattle.expr.specs.Movable.{movable}
 use Rattle.expr.specs.Weights.{weight, all_weight, arms_weight}
 use Rattle.expr.proofs.Operands.{negate_is, in_is, is_null_is, not_is, cast_is, arithmetic_is, comparison_is, between_is, lighter, left_lighter, right_lighter, middle_lighter, last_lighter}
 use Rattle.expr.proofs.Walks.{case_is, and_is, or_is, exprs_lighter, exprs_still, when_lighter, result_lighter, arms_still}
-use Rattle.eval.proofs.Conditions.{and_open, or_open, and_start, or_start, and_over, and_fails, and_ends, and_goes_on, or_over, or_fails, or_ends, or_goes_on, case_over, when_fails, case_gives, case_goes_on, by_arms, else_value, else_null, exits, same}
-use Rattle.eval.proofs.Movables.{member_movable, rest_movable, when_movable, result_movable, arms_left_movable, arms_all_movable, else_all_movable, else_movable, exits_safe, ok_safe, and_left, and_right}
+use Rattle.eval.proofs.Conditions.{and_open, or_open, and_start, or_start, and_over, and_fails, and_ends, and_goes_on, or_over, or_fails, or_ends, or_goes_on, case_over, when_fails, case_gives, case_goes_on, by_arms, else_value, else_null, same}
+use Rattle.memory.proofs.Cases.{exits}
+use Rattle.eval.specs.Memory.{is_no_text, takes_no_memory}
+use Rattle.eval.proofs.Movables.{and_left, and_right}
+use Rattle.eval.proofs.Memory.{member_takes_none, rest_takes_none, when_takes_none, result_takes_none, arms_left_take_none, arms_take_none, otherwise_takes_none, else_takes_none, exits_safe, ok_safe, no_text}
 use Rattle.eval.proofs.Measures.{doubled, case_below, arm_below, else_below, else_weight}
-use Rattle.eval.proofs.Operands.{immovable, aggregate_is, member_of, arithmetic_known, comparison_known, arithmetic_fails, comparison_fails, between_fails, between_low_fails, between_known, operand_movable, low_movable, high_movable}
+use Rattle.eval.proofs.Operands.{aggregate_is, member_of, arithmetic_known, comparison_known, arithmetic_fails, comparison_fails, between_fails, between_low_fails, between_known, operand_takes_none, low_takes_none, high_takes_none}
 use base.Fml.{Lft}
 use contract.BorrowLft.{◌⊑◌}
 use denote.RattleType.{RattleType}
@@ -50,7 +52,7 @@ pub conjunction-loop-member-preserved : goal.conjunction-loop-member-preserved
 conjunction-loop-member-preserved g t c = let o = same_false the_type c.and3-known.result False (sym c.if-eq.ensures) in record {
   open_yet = o;
   rest = and_goes_on (g.R.Row.cells c.args.row.now) c.args.role.now.name.now c.args.members.now c.loop-member.member-index c.loop-member.known c.loop-member.invariant.rest c.member-item.result c.loop-member-test.true c.member-item.is c.in_ok-condition.field-0 c.and3-known.result (c.in_ok-condition.ensures.value (meaning (g.R.Row.cells c.args.row.now) c.args.role.now.name.now (bound_expr_of c.member-item.result)) c.evaluate.ensures.value) c.and3-known.ensures o;
-  memory = λ p. rest_movable c.args.members.now c.loop-member.member-index c.member-item.result c.loop-member-test.true c.member-item.is (c.loop-member.invariant.memory p);
+  memory = λ p. rest_takes_none c.args.members.now c.loop-member.member-index c.member-item.result c.loop-member-test.true c.member-item.is (c.loop-member.invariant.memory p);
   lighter = exprs_still c.args.members.now c.loop-member.member-index c.member-item.result c.loop-member-test.true c.member-item.is c.loop-member.invariant.lighter;
 }
 
@@ -73,7 +75,7 @@ pub disjunction-loop-member-preserved : goal.disjunction-loop-member-preserved
 disjunction-loop-member-preserved g t c = let o = same_false the_type c.or3-known.result True (sym c.if-eq.ensures) in record {
   open_yet = o;
   rest = or_goes_on (g.R.Row.cells c.args.row.now) c.args.role.now.name.now c.args.members.now c.loop-member.member-index c.loop-member.known c.loop-member.invariant.rest c.member-item.result c.loop-member-test.true c.member-item.is c.in_ok-condition.field-0 c.or3-known.result (c.in_ok-condition.ensures.value (meaning (g.R.Row.cells c.args.row.now) c.args.role.now.name.now (bound_expr_of c.member-item.result)) c.evaluate.ensures.value) c.or3-known.ensures o;
-  memory = λ p. rest_movable c.args.members.now c.loop-member.member-index c.member-item.result c.loop-member-test.true c.member-item.is (c.loop-member.invariant.memory p);
+  memory = λ p. rest_takes_none c.args.members.now c.loop-member.member-index c.member-item.result c.loop-member-test.true c.member-item.is (c.loop-member.invariant.memory p);
   lighter = exprs_still c.args.members.now c.loop-member.member-index c.member-item.result c.loop-member-test.true c.member-item.is c.loop-member.invariant.lighter;
 }
 
@@ -93,7 +95,7 @@ chosen-returns-then-eq-clause-value g t c = rw (case_gives (g.R.Row.cells c.args
 pub chosen-loop-arm-preserved : goal.chosen-loop-arm-preserved
 chosen-loop-arm-preserved g t c = record {
   rest = case_goes_on (g.R.Row.cells c.args.row.now) c.args.role.now.name.now c.args.arms.now c.loop-arm.arm-index (otherwise (g.R.Row.cells c.args.row.now) c.args.role.now.name.now (otherwise_of c.args.otherwise.now)) c.loop-arm.invariant.rest c.arm-item.result c.loop-arm-test.true c.arm-item.is c.in_ok-condition.field-0 (c.in_ok-condition.ensures.value (meaning (g.R.Row.cells c.args.row.now) c.args.role.now.name.now (bound_expr_of c.arm-item.result.when)) c.evaluate.ensures.value) (same_false the_type c.in_ok-condition.field-0 True (sym c.if-eq.ensures));
-  memory = λ p. arms_left_movable c.args.arms.now c.loop-arm.arm-index c.arm-item.result c.loop-arm-test.true c.arm-item.is (c.loop-arm.invariant.memory p);
+  memory = λ p. arms_left_take_none c.args.arms.now c.loop-arm.arm-index c.arm-item.result c.loop-arm-test.true c.arm-item.is (c.loop-arm.invariant.memory p);
   lighter = arms_still c.args.arms.now c.loop-arm.arm-index c.arm-item.result c.loop-arm-test.true c.arm-item.is c.loop-arm.invariant.lighter;
 }
 
@@ -110,17 +112,17 @@ evaluate-returns-in-Or-clause-value g t c = rw (or_is c.args.expression.now c.in
 pub conjunction-returns-in_err-condition-clause-memory : goal.conjunction-returns-in_err-condition-clause-memory
 conjunction-returns-in_err-condition-clause-memory g t c = λ p.
     exits_safe c.from_residual.result c.in_err-condition.field-0.0 c.from_residual.ensures.1
-    (c.in_err-condition.ensures.memory (c.evaluate.ensures.memory (member_movable c.args.members.now c.loop-member.member-index c.member-item.result c.loop-member-test.true c.member-item.is (c.loop-member.invariant.memory p))))
+    (c.in_err-condition.ensures.memory (c.evaluate.ensures.memory (member_takes_none c.args.members.now c.loop-member.member-index c.member-item.result c.loop-member-test.true c.member-item.is (c.loop-member.invariant.memory p))))
 
 pub disjunction-returns-in_err-condition-clause-memory : goal.disjunction-returns-in_err-condition-clause-memory
 disjunction-returns-in_err-condition-clause-memory g t c = λ p.
     exits_safe c.from_residual.result c.in_err-condition.field-0.0 c.from_residual.ensures.1
-    (c.in_err-condition.ensures.memory (c.evaluate.ensures.memory (member_movable c.args.members.now c.loop-member.member-index c.member-item.result c.loop-member-test.true c.member-item.is (c.loop-member.invariant.memory p))))
+    (c.in_err-condition.ensures.memory (c.evaluate.ensures.memory (member_takes_none c.args.members.now c.loop-member.member-index c.member-item.result c.loop-member-test.true c.member-item.is (c.loop-member.invariant.memory p))))
 
 pub chosen-returns-in_err-condition-clause-memory : goal.chosen-returns-in_err-condition-clause-memory
 chosen-returns-in_err-condition-clause-memory g t c = λ p o.
     exits_safe c.from_residual.result c.in_err-condition.field-0.0 c.from_residual.ensures.1
-    (c.in_err-condition.ensures.memory (c.evaluate.ensures.memory (when_movable c.args.arms.now c.loop-arm.arm-index c.arm-item.result c.loop-arm-test.true c.arm-item.is (c.loop-arm.invariant.memory p))))
+    (c.in_err-condition.ensures.memory (c.evaluate.ensures.memory (when_takes_none c.args.arms.now c.loop-arm.arm-index c.arm-item.result c.loop-arm-test.true c.arm-item.is (c.loop-arm.invariant.memory p))))
 
 pub evaluate-returns-in-And-clause-memory : goal.evaluate-returns-in-And-clause-memory
 evaluate-returns-in-And-clause-memory g t c = λ p.
@@ -250,7 +252,7 @@ pub disjunction-returns-clause-memory : goal.disjunction-returns-clause-memory
 disjunction-returns-clause-memory g t c = λ p. ok_safe c.loop-member.known
 
 pub chosen-returns-then-eq-clause-memory : goal.chosen-returns-then-eq-clause-memory
-chosen-returns-then-eq-clause-memory g t c = λ p o. (c.evaluate-then-eq.ensures.memory (result_movable c.args.arms.now c.loop-arm.arm-index c.arm-item.result c.loop-arm-test.true c.arm-item.is (c.loop-arm.invariant.memory p)))
+chosen-returns-then-eq-clause-memory g t c = λ p o. (c.evaluate-then-eq.ensures.memory (result_takes_none c.args.arms.now c.loop-arm.arm-index c.arm-item.result c.loop-arm-test.true c.arm-item.is (c.loop-arm.invariant.memory p)))
 
 pub evaluate-returns-in-Column-clause-memory : goal.evaluate-returns-in-Column-clause-memory
 evaluate-returns-in-Column-clause-memory g t c = λ p. ok_safe c.cell.result
@@ -269,16 +271,19 @@ evaluate-returns-in-CountStar-clause-memory g t c = λ p. ok_safe c.aggregate.re
 -- ---- nodes with operands
 
 pub evaluate-returns-in-Negate-clause-value : goal.evaluate-returns-in-Negate-clause-value
-evaluate-returns-in-Negate-clause-value g t c = rw (negate_is c.args.expression.now c.in-Negate.offset c.in-Negate.operand c.deref.result.now c.deref.ensures c.in-Negate.is) (c.negation.ensures _ c.evaluate.ensures.value)
+evaluate-returns-in-Negate-clause-value g t c = rw (negate_is c.args.expression.now c.in-Negate.offset c.in-Negate.operand c.deref.result.now c.deref.ensures c.in-Negate.is) (c.negation.ensures.value _ c.evaluate.ensures.value)
 
 pub evaluate-returns-in-Negate-clause-memory : goal.evaluate-returns-in-Negate-clause-memory
-evaluate-returns-in-Negate-clause-memory g t c = λ p. absurd (immovable c.args.expression.now _ c.in-Negate.is refl p)
+evaluate-returns-in-Negate-clause-memory g t c = λ p. c.negation.ensures.memory (c.evaluate.ensures.memory (rw (negate_is c.args.expression.now c.in-Negate.offset c.in-Negate.operand c.deref.result.now c.deref.ensures c.in-Negate.is) at p))
 
 pub evaluate-returns-in-Cast-clause-value : goal.evaluate-returns-in-Cast-clause-value
-evaluate-returns-in-Cast-clause-value g t c = rw (cast_is c.args.expression.now c.in-Cast.offset c.in-Cast.operand c.deref-in-Cast.result.now c.deref-in-Cast.ensures c.in-Cast.to c.in-Cast.is) (c.cast_at.ensures _ c.evaluate-in-Cast.ensures.value)
+evaluate-returns-in-Cast-clause-value g t c = rw (cast_is c.args.expression.now c.in-Cast.offset c.in-Cast.operand c.deref-in-Cast.result.now c.deref-in-Cast.ensures c.in-Cast.to c.in-Cast.is) (c.cast_at.ensures.value _ c.evaluate-in-Cast.ensures.value)
 
 pub evaluate-returns-in-Cast-clause-memory : goal.evaluate-returns-in-Cast-clause-memory
-evaluate-returns-in-Cast-clause-memory g t c = λ p. absurd (immovable c.args.expression.now _ c.in-Cast.is refl p)
+evaluate-returns-in-Cast-clause-memory g t c = λ p.
+    let both = rw (cast_is c.args.expression.now c.in-Cast.offset c.in-Cast.operand c.deref-in-Cast.result.now c.deref-in-Cast.ensures c.in-Cast.to c.in-Cast.is) at p in
+    c.cast_at.ensures.memory (no_text c.in-Cast.to (and_left (is_no_text c.in-Cast.to) (takes_no_memory (bound_expr_of c.deref-in-Cast.result.now)) both))
+    (c.evaluate-in-Cast.ensures.memory (and_right (is_no_text c.in-Cast.to) (takes_no_memory (bound_expr_of c.deref-in-Cast.result.now)) both))
 
 pub evaluate-returns-in-IsNull-clause-value : goal.evaluate-returns-in-IsNull-clause-value
 evaluate-returns-in-IsNull-clause-value g t c = rw (is_null_is c.args.expression.now c.in-IsNull.offset c.in-IsNull.operand c.deref-in-IsNull.result.now c.deref-in-IsNull.ensures c.in-IsNull.negated c.in-IsNull.is) (c.null_check.ensures.value _ c.evaluate-in-IsNull.ensures.value)
@@ -305,13 +310,13 @@ pub evaluate-returns-in_err-x-in-Arithmetic-clause-value : goal.evaluate-returns
 evaluate-returns-in_err-x-in-Arithmetic-clause-value g t c = exits (datum_of {A = g.row.A.Denot}) c.from_residual.result c.in_err-x-in-Arithmetic.field-0.0 _ c.from_residual.ensures.1 (arithmetic_fails c.args.expression.now c.in-Arithmetic.offset c.in-Arithmetic.left c.in-Arithmetic.right c.deref-in-Arithmetic.result.now c.deref-in-Arithmetic.ensures c.in-Arithmetic.right.value refl (g.R.Row.cells c.args.row.now) c.args.role.now.name.now c.in-Arithmetic.operator c.in-Arithmetic.is c.in_err-x-in-Arithmetic.field-0.0 c.in_err-x-in-Arithmetic.ensures.value)
 
 pub evaluate-returns-in_ok-x-in-Arithmetic-clause-value : goal.evaluate-returns-in_ok-x-in-Arithmetic-clause-value
-evaluate-returns-in_ok-x-in-Arithmetic-clause-value g t c = rw (arithmetic_known c.args.expression.now c.in-Arithmetic.offset c.in-Arithmetic.left c.in-Arithmetic.right c.deref-in-Arithmetic.result.now c.deref-in-Arithmetic.ensures c.deref-in-Arithmetic-2.result.now c.deref-in-Arithmetic-2.ensures (g.R.Row.cells c.args.row.now) c.args.role.now.name.now c.in-Arithmetic.operator c.in-Arithmetic.is (datum_of c.in_ok-x-in-Arithmetic.x) c.in_ok-x-in-Arithmetic.ensures.value) (c.arithmetic.ensures _ c.evaluate-in-Arithmetic-2.ensures.value)
+evaluate-returns-in_ok-x-in-Arithmetic-clause-value g t c = rw (arithmetic_known c.args.expression.now c.in-Arithmetic.offset c.in-Arithmetic.left c.in-Arithmetic.right c.deref-in-Arithmetic.result.now c.deref-in-Arithmetic.ensures c.deref-in-Arithmetic-2.result.now c.deref-in-Arithmetic-2.ensures (g.R.Row.cells c.args.row.now) c.args.role.now.name.now c.in-Arithmetic.operator c.in-Arithmetic.is (datum_of c.in_ok-x-in-Arithmetic.x) c.in_ok-x-in-Arithmetic.ensures.value) (c.arithmetic.ensures.value _ c.evaluate-in-Arithmetic-2.ensures.value)
 
 pub evaluate-returns-in_err-x-in-Arithmetic-clause-memory : goal.evaluate-returns-in_err-x-in-Arithmetic-clause-memory
-evaluate-returns-in_err-x-in-Arithmetic-clause-memory g t c = λ p. absurd (immovable c.args.expression.now _ c.in-Arithmetic.is refl p)
+evaluate-returns-in_err-x-in-Arithmetic-clause-memory g t c = λ p. exits_safe c.from_residual.result c.in_err-x-in-Arithmetic.field-0.0 c.from_residual.ensures.1 (c.in_err-x-in-Arithmetic.ensures.memory (and_left (takes_no_memory (bound_expr_of c.deref-in-Arithmetic.result.now)) (takes_no_memory (bound_expr_of c.in-Arithmetic.right.value)) (rw (arithmetic_is c.args.expression.now c.in-Arithmetic.offset c.in-Arithmetic.left c.in-Arithmetic.right c.deref-in-Arithmetic.result.now c.deref-in-Arithmetic.ensures c.in-Arithmetic.right.value refl c.in-Arithmetic.operator c.in-Arithmetic.is) at p)))
 
 pub evaluate-returns-in_ok-x-in-Arithmetic-clause-memory : goal.evaluate-returns-in_ok-x-in-Arithmetic-clause-memory
-evaluate-returns-in_ok-x-in-Arithmetic-clause-memory g t c = λ p. absurd (immovable c.args.expression.now _ c.in-Arithmetic.is refl p)
+evaluate-returns-in_ok-x-in-Arithmetic-clause-memory g t c = λ p. c.arithmetic.ensures.memory (c.evaluate-in-Arithmetic-2.ensures.memory (and_right (takes_no_memory (bound_expr_of c.deref-in-Arithmetic.result.now)) (takes_no_memory (bound_expr_of c.deref-in-Arithmetic-2.result.now)) (rw (arithmetic_is c.args.expression.now c.in-Arithmetic.offset c.in-Arithmetic.left c.in-Arithmetic.right c.deref-in-Arithmetic.result.now c.deref-in-Arithmetic.ensures c.deref-in-Arithmetic-2.result.now c.deref-in-Arithmetic-2.ensures c.in-Arithmetic.operator c.in-Arithmetic.is) at p)))
 
 pub evaluate-returns-in_err-x-in-Comparison-clause-value : goal.evaluate-returns-in_err-x-in-Comparison-clause-value
 evaluate-returns-in_err-x-in-Comparison-clause-value g t c = exits (datum_of {A = g.row.A.Denot}) c.from_residual-in_err-x-in-Comparison.result c.in_err-x-in-Comparison.field-0.0 _ c.from_residual-in_err-x-in-Comparison.ensures.1 (comparison_fails c.args.expression.now c.in-Comparison.offset c.in-Comparison.left c.in-Comparison.right c.deref-in-Comparison.result.now c.deref-in-Comparison.ensures c.in-Comparison.right.value refl (g.R.Row.cells c.args.row.now) c.args.role.now.name.now c.in-Comparison.operator c.in-Comparison.is c.in_err-x-in-Comparison.field-0.0 c.in_err-x-in-Comparison.ensures.value)
@@ -320,28 +325,28 @@ pub evaluate-returns-in_ok-x-in-Comparison-clause-value : goal.evaluate-returns-
 evaluate-returns-in_ok-x-in-Comparison-clause-value g t c = rw (comparison_known c.args.expression.now c.in-Comparison.offset c.in-Comparison.left c.in-Comparison.right c.deref-in-Comparison.result.now c.deref-in-Comparison.ensures c.deref-in-Comparison-2.result.now c.deref-in-Comparison-2.ensures (g.R.Row.cells c.args.row.now) c.args.role.now.name.now c.in-Comparison.operator c.in-Comparison.is (datum_of c.in_ok-x-in-Comparison.x) c.in_ok-x-in-Comparison.ensures.value) (c.comparison.ensures.value _ c.evaluate-in-Comparison-2.ensures.value)
 
 pub evaluate-returns-in_err-x-in-Comparison-clause-memory : goal.evaluate-returns-in_err-x-in-Comparison-clause-memory
-evaluate-returns-in_err-x-in-Comparison-clause-memory g t c = λ p. exits_safe c.from_residual-in_err-x-in-Comparison.result c.in_err-x-in-Comparison.field-0.0 c.from_residual-in_err-x-in-Comparison.ensures.1 (c.in_err-x-in-Comparison.ensures.memory (and_left (movable (bound_expr_of c.deref-in-Comparison.result.now)) (movable (bound_expr_of c.in-Comparison.right.value)) (rw (comparison_is c.args.expression.now c.in-Comparison.offset c.in-Comparison.left c.in-Comparison.right c.deref-in-Comparison.result.now c.deref-in-Comparison.ensures c.in-Comparison.right.value refl c.in-Comparison.operator c.in-Comparison.is) at p)))
+evaluate-returns-in_err-x-in-Comparison-clause-memory g t c = λ p. exits_safe c.from_residual-in_err-x-in-Comparison.result c.in_err-x-in-Comparison.field-0.0 c.from_residual-in_err-x-in-Comparison.ensures.1 (c.in_err-x-in-Comparison.ensures.memory (and_left (takes_no_memory (bound_expr_of c.deref-in-Comparison.result.now)) (takes_no_memory (bound_expr_of c.in-Comparison.right.value)) (rw (comparison_is c.args.expression.now c.in-Comparison.offset c.in-Comparison.left c.in-Comparison.right c.deref-in-Comparison.result.now c.deref-in-Comparison.ensures c.in-Comparison.right.value refl c.in-Comparison.operator c.in-Comparison.is) at p)))
 
 pub evaluate-returns-in_ok-x-in-Comparison-clause-memory : goal.evaluate-returns-in_ok-x-in-Comparison-clause-memory
-evaluate-returns-in_ok-x-in-Comparison-clause-memory g t c = λ p. c.comparison.ensures.memory (c.evaluate-in-Comparison-2.ensures.memory (and_right (movable (bound_expr_of c.deref-in-Comparison.result.now)) (movable (bound_expr_of c.deref-in-Comparison-2.result.now)) (rw (comparison_is c.args.expression.now c.in-Comparison.offset c.in-Comparison.left c.in-Comparison.right c.deref-in-Comparison.result.now c.deref-in-Comparison.ensures c.deref-in-Comparison-2.result.now c.deref-in-Comparison-2.ensures c.in-Comparison.operator c.in-Comparison.is) at p)))
+evaluate-returns-in_ok-x-in-Comparison-clause-memory g t c = λ p. c.comparison.ensures.memory (c.evaluate-in-Comparison-2.ensures.memory (and_right (takes_no_memory (bound_expr_of c.deref-in-Comparison.result.now)) (takes_no_memory (bound_expr_of c.deref-in-Comparison-2.result.now)) (rw (comparison_is c.args.expression.now c.in-Comparison.offset c.in-Comparison.left c.in-Comparison.right c.deref-in-Comparison.result.now c.deref-in-Comparison.ensures c.deref-in-Comparison-2.result.now c.deref-in-Comparison-2.ensures c.in-Comparison.operator c.in-Comparison.is) at p)))
 
 pub evaluate-returns-in_err-x-in-Between-clause-value : goal.evaluate-returns-in_err-x-in-Between-clause-value
 evaluate-returns-in_err-x-in-Between-clause-value g t c = exits (datum_of {A = g.row.A.Denot}) c.from_residual-in_err-x-in-Between.result c.in_err-x-in-Between.field-0.0 _ c.from_residual-in_err-x-in-Between.ensures.1 (between_fails c.args.expression.now c.in-Between.negated c.in-Between.offset c.in-Between.operand c.in-Between.low c.in-Between.high c.in-Between.is c.deref-in-Between.result.now c.deref-in-Between.ensures c.in-Between.low.value refl c.in-Between.high.value refl (g.R.Row.cells c.args.row.now) c.args.role.now.name.now c.in_err-x-in-Between.field-0.0 c.in_err-x-in-Between.ensures.value)
 
 pub evaluate-returns-in_err-x-in-Between-clause-memory : goal.evaluate-returns-in_err-x-in-Between-clause-memory
-evaluate-returns-in_err-x-in-Between-clause-memory g t c = λ p. exits_safe c.from_residual-in_err-x-in-Between.result c.in_err-x-in-Between.field-0.0 c.from_residual-in_err-x-in-Between.ensures.1 (c.in_err-x-in-Between.ensures.memory (operand_movable c.args.expression.now c.in-Between.negated c.in-Between.offset c.in-Between.operand c.in-Between.low c.in-Between.high c.in-Between.is c.deref-in-Between.result.now c.deref-in-Between.ensures c.in-Between.low.value refl c.in-Between.high.value refl p))
+evaluate-returns-in_err-x-in-Between-clause-memory g t c = λ p. exits_safe c.from_residual-in_err-x-in-Between.result c.in_err-x-in-Between.field-0.0 c.from_residual-in_err-x-in-Between.ensures.1 (c.in_err-x-in-Between.ensures.memory (operand_takes_none c.args.expression.now c.in-Between.negated c.in-Between.offset c.in-Between.operand c.in-Between.low c.in-Between.high c.in-Between.is c.deref-in-Between.result.now c.deref-in-Between.ensures c.in-Between.low.value refl c.in-Between.high.value refl p))
 
 pub evaluate-returns-in_err-y-in-Between-clause-value : goal.evaluate-returns-in_err-y-in-Between-clause-value
 evaluate-returns-in_err-y-in-Between-clause-value g t c = exits (datum_of {A = g.row.A.Denot}) c.from_residual-in_err-y-in-Between.result c.in_err-y-in-Between.field-0.0 _ c.from_residual-in_err-y-in-Between.ensures.1 (between_low_fails c.args.expression.now c.in-Between.negated c.in-Between.offset c.in-Between.operand c.in-Between.low c.in-Between.high c.in-Between.is c.deref-in-Between.result.now c.deref-in-Between.ensures c.deref-in-Between-2.result.now c.deref-in-Between-2.ensures c.in-Between.high.value refl (g.R.Row.cells c.args.row.now) c.args.role.now.name.now (datum_of c.in_ok-x-in-Between.x) c.in_ok-x-in-Between.ensures.value c.in_err-y-in-Between.field-0.0 c.in_err-y-in-Between.ensures.value)
 
 pub evaluate-returns-in_err-y-in-Between-clause-memory : goal.evaluate-returns-in_err-y-in-Between-clause-memory
-evaluate-returns-in_err-y-in-Between-clause-memory g t c = λ p. exits_safe c.from_residual-in_err-y-in-Between.result c.in_err-y-in-Between.field-0.0 c.from_residual-in_err-y-in-Between.ensures.1 (c.in_err-y-in-Between.ensures.memory (low_movable c.args.expression.now c.in-Between.negated c.in-Between.offset c.in-Between.operand c.in-Between.low c.in-Between.high c.in-Between.is c.deref-in-Between.result.now c.deref-in-Between.ensures c.deref-in-Between-2.result.now c.deref-in-Between-2.ensures c.in-Between.high.value refl p))
+evaluate-returns-in_err-y-in-Between-clause-memory g t c = λ p. exits_safe c.from_residual-in_err-y-in-Between.result c.in_err-y-in-Between.field-0.0 c.from_residual-in_err-y-in-Between.ensures.1 (c.in_err-y-in-Between.ensures.memory (low_takes_none c.args.expression.now c.in-Between.negated c.in-Between.offset c.in-Between.operand c.in-Between.low c.in-Between.high c.in-Between.is c.deref-in-Between.result.now c.deref-in-Between.ensures c.deref-in-Between-2.result.now c.deref-in-Between-2.ensures c.in-Between.high.value refl p))
 
 pub evaluate-returns-in_ok-y-in-Between-clause-value : goal.evaluate-returns-in_ok-y-in-Between-clause-value
 evaluate-returns-in_ok-y-in-Between-clause-value g t c = rw (between_known c.args.expression.now c.in-Between.negated c.in-Between.offset c.in-Between.operand c.in-Between.low c.in-Between.high c.in-Between.is c.deref-in-Between.result.now c.deref-in-Between.ensures c.deref-in-Between-2.result.now c.deref-in-Between-2.ensures c.deref-in-Between-3.result.now c.deref-in-Between-3.ensures (g.R.Row.cells c.args.row.now) c.args.role.now.name.now (datum_of c.in_ok-x-in-Between.x) c.in_ok-x-in-Between.ensures.value (datum_of c.in_ok-y-in-Between.y) c.in_ok-y-in-Between.ensures.value) (c.between.ensures.value _ c.evaluate-in-Between-3.ensures.value)
 
 pub evaluate-returns-in_ok-y-in-Between-clause-memory : goal.evaluate-returns-in_ok-y-in-Between-clause-memory
-evaluate-returns-in_ok-y-in-Between-clause-memory g t c = λ p. c.between.ensures.memory (c.evaluate-in-Between-3.ensures.memory (high_movable c.args.expression.now c.in-Between.negated c.in-Between.offset c.in-Between.operand c.in-Between.low c.in-Between.high c.in-Between.is c.deref-in-Between.result.now c.deref-in-Between.ensures c.deref-in-Between-2.result.now c.deref-in-Between-2.ensures c.deref-in-Between-3.result.now c.deref-in-Between-3.ensures p))
+evaluate-returns-in_ok-y-in-Between-clause-memory g t c = λ p. c.between.ensures.memory (c.evaluate-in-Between-3.ensures.memory (high_takes_none c.args.expression.now c.in-Between.negated c.in-Between.offset c.in-Between.operand c.in-Between.low c.in-Between.high c.in-Between.is c.deref-in-Between.result.now c.deref-in-Between.ensures c.deref-in-Between-2.result.now c.deref-in-Between-2.ensures c.deref-in-Between-3.result.now c.deref-in-Between-3.ensures p))
 
 pub chosen-evaluate-requires : goal.chosen-evaluate-requires
 chosen-evaluate-requires g t c κs within = (arm_below (bound_arms c.args.arms.now) (otherwise_of c.args.otherwise.now) t (weight (bound_expr_of c.arm-item.result.when)) c.decreases (when_lighter c.args.arms.now c.loop-arm.arm-index c.arm-item.result c.loop-arm-test.true c.arm-item.is c.loop-arm.invariant.lighter), within)
@@ -410,15 +415,15 @@ evaluate-returns-in-Case-clause-value g t c = rw (by_arms (g.R.Row.cells c.args.
 
 pub evaluate-returns-in-Case-clause-memory : goal.evaluate-returns-in-Case-clause-memory
 evaluate-returns-in-Case-clause-memory g t c = λ p.
-    c.chosen.ensures.memory (arms_all_movable c.args.expression.now c.in-Case.offset c.in-Case.arms c.deref-in-Case.result.now c.deref-in-Case.ensures.value c.in-Case.otherwise c.in-Case.is p)
-    (else_all_movable c.args.expression.now c.in-Case.offset c.in-Case.arms c.deref-in-Case.result.now c.deref-in-Case.ensures.value c.in-Case.otherwise c.in-Case.is p)
+    c.chosen.ensures.memory (arms_take_none c.args.expression.now c.in-Case.offset c.in-Case.arms c.deref-in-Case.result.now c.deref-in-Case.ensures.value c.in-Case.otherwise c.in-Case.is p)
+    (otherwise_takes_none c.args.expression.now c.in-Case.offset c.in-Case.arms c.deref-in-Case.result.now c.deref-in-Case.ensures.value c.in-Case.otherwise c.in-Case.is p)
 
 pub chosen-returns-in-Some-clause-value : goal.chosen-returns-in-Some-clause-value
 chosen-returns-in-Some-clause-value g t c =
     rw (case_over (g.R.Row.cells c.args.row.now) c.args.role.now.name.now c.args.arms.now c.loop-arm.arm-index (otherwise (g.R.Row.cells c.args.row.now) c.args.role.now.name.now (otherwise_of c.args.otherwise.now)) c.loop-arm.invariant.rest (omega (arith, c.loop-arm-test.false)), else_value (g.R.Row.cells c.args.row.now) c.args.role.now.name.now c.args.otherwise.now c.in-Some.other c.in-Some.is c.deref.result.now c.deref.ensures) c.evaluate-in-Some.ensures.value
 
 pub chosen-returns-in-Some-clause-memory : goal.chosen-returns-in-Some-clause-memory
-chosen-returns-in-Some-clause-memory g t c = λ p o. c.evaluate-in-Some.ensures.memory (else_movable c.args.otherwise.now o c.in-Some.other c.in-Some.is c.deref.result.now c.deref.ensures)
+chosen-returns-in-Some-clause-memory g t c = λ p o. c.evaluate-in-Some.ensures.memory (else_takes_none c.args.otherwise.now o c.in-Some.other c.in-Some.is c.deref.result.now c.deref.ensures)
 
 pub chosen-returns-in-None-clause-value : goal.chosen-returns-in-None-clause-value
 chosen-returns-in-None-clause-value g t c =

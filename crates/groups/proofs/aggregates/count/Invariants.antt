@@ -6,5 +6,5 @@ use Rattle.groups.proofs.aggregates.count.Given as goal
 abbrev pub invariant-loop-member : goal.invariant-loop-member
 invariant-loop-member g l = record {
   few : l.count ≤ l.member-index;
-  counts : l.count + length (values_at l.place (rows_of (drop l.member-index l.members))) ≡ length (values_at l.place (rows_of l.members));
+  counts : l.count + length (values_at l.index (rows_of (drop l.member-index l.members))) ≡ length (values_at l.index (rows_of l.members));
 }

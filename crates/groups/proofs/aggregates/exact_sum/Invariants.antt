@@ -7,5 +7,5 @@ abbrev pub invariant-loop-member : goal.invariant-loop-member
 invariant-loop-member g l = record {
   low : neg_ℤ (pos (l.member-index * 2 ^ 63)) ≤ℤ l.sum;
   high : l.sum ≤ℤ pos (l.member-index * 2 ^ 63);
-  sums : l.sum +ℤ exact_sum (values_at l.place (rows_of (drop l.member-index l.members))) ≡ exact_sum (values_at l.place (rows_of l.members));
+  sums : l.sum +ℤ exact_sum (values_at l.index (rows_of (drop l.member-index l.members))) ≡ exact_sum (values_at l.index (rows_of l.members));
 }

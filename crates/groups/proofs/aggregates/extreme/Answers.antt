@@ -12,6 +12,6 @@ loop-member-preserved g c =
     let m = c.member-item.result in
     let best = option_map (λ v. datum v.now) c.loop-member.best in
     elim c.match-value_at.branch [
-      | in-Some w ↦ rw w.best-is (best_step c.args.descends c.args.place c.args.members.now i m _ best _ _ c.loop-member-test.true c.member-item.is (rw w.in-Some.is at value) w.better.ensures c.loop-member.invariant)
-      | in_default w ↦ rw w.best-is (best_step c.args.descends c.args.place c.args.members.now i m _ best best _ c.loop-member-test.true c.member-item.is (rw w.in_default.is at value) (sym (best_alone c.args.descends best)) c.loop-member.invariant)
+      | in-Some w ↦ rw w.best-is (best_step c.args.descends c.args.index c.args.members.now i m _ best _ _ c.loop-member-test.true c.member-item.is (rw w.in-Some.is at value) w.better.ensures c.loop-member.invariant)
+      | in_default w ↦ rw w.best-is (best_step c.args.descends c.args.index c.args.members.now i m _ best best _ c.loop-member-test.true c.member-item.is (rw w.in_default.is at value) (sym (best_alone c.args.descends best)) c.loop-member.invariant)
     ]

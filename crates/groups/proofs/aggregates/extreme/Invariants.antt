@@ -8,5 +8,5 @@ use Rattle.groups.proofs.aggregates.extreme.Given as goal
 
 abbrev pub invariant-loop-member : goal.invariant-loop-member
 invariant-loop-member g l =
-    lesser (towards l.descends) (option_map (λ v. datum v.now) l.best) (least (towards l.descends) (values_at l.place (rows_of (drop l.member-index l.members))))
-    ≡ least (towards l.descends) (values_at l.place (rows_of l.members))
+    lesser (towards l.descends) (option_map (λ v. datum v.now) l.best) (least (towards l.descends) (values_at l.index (rows_of (drop l.member-index l.members))))
+    ≡ least (towards l.descends) (values_at l.index (rows_of l.members))

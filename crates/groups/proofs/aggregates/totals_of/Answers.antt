@@ -7,11 +7,11 @@ use Rattle.groups.proofs.aggregates.totals_of.Goals as goal
 
 pub returns-in_err-aggregate_of : goal.returns-in_err-aggregate_of
 returns-in_err-aggregate_of g c =
-    let step = totals_next c.args.calls.now c.loop-place.place c.index-calls-place.result (rows_of c.args.members.now) c.loop-place-test.true c.index-calls-place.is in
+    let step = totals_next c.args.calls.now c.loop-index.index c.index-calls-index.result (rows_of c.args.members.now) c.loop-index-test.true c.index-calls-index.is in
     let p = err_from_is_err_and c.from_residual.result c.from_residual.ensures.1 in
-    rw (p.1, p.2) (fails_here _ _ _ _ _ c.in_err-aggregate_of.ensures (rw step at c.loop-place.invariant))
+    rw (p.1, p.2) (fails_here _ _ _ _ _ c.in_err-aggregate_of.ensures (rw step at c.loop-index.invariant))
 
-pub loop-place-preserved : goal.loop-place-preserved
-loop-place-preserved g c =
-    let step = totals_next c.args.calls.now c.loop-place.place c.index-calls-place.result (rows_of c.args.members.now) c.loop-place-test.true c.index-calls-place.is in
-    rw c.in_ok-push.ensures.ok (put_next _ _ _ ∙ (rw (step, c.in_ok-aggregate_of.ensures) at c.loop-place.invariant))
+pub loop-index-preserved : goal.loop-index-preserved
+loop-index-preserved g c =
+    let step = totals_next c.args.calls.now c.loop-index.index c.index-calls-index.result (rows_of c.args.members.now) c.loop-index-test.true c.index-calls-index.is in
+    rw c.in_ok-push.ensures.ok (put_next _ _ _ ∙ (rw (step, c.in_ok-aggregate_of.ensures) at c.loop-index.invariant))

@@ -6,7 +6,7 @@ use Rattle.value.specs.declared.types.Value.{Value}
 use Rattle.groups.specs.View.{arguments_of, rows_of}
 use Rattle.groups.proofs.classes.arguments_of.Goals as goal
 
--- a row is put: what is done, and then the rest, is still the whole
+-- a row is put: the part that is done, and then the rest, is still the whole
 row_put : {A : Type 0} (done new : List (List (Value A))) (row : List (Value A)) (rest here whole : List Row) → here ≡ row_of row ∷ rest → rows_of done ++ here ≡ whole → new ≡ done ++ row ∷ [] → rows_of new ++ rest ≡ whole
 row_put {A} done new row rest here whole is so_far pushed =
     ap (λ l. rows_of l ++ rest) pushed ∙ ap (λ l. l ++ rest) (map-append (λ (values : List (Value A)). row_of values) done (row ∷ [])) ∙ append_assoc (rows_of done) (row_of row ∷ []) rest

@@ -10,7 +10,7 @@ use Rattle.stages.proofs.Walks.{next, done_then, done_nothing, put_next, fails_h
 use Rattle.groups.specs.Members.{arguments}
 use Rattle.groups.proofs.members.arguments_on.Goals as goal
 
--- a value is put: what is done, and then the rest, is still the whole
+-- a value is put: the part that is done, and then the rest, is still the whole
 put_step : {A : Type 0} (done new : List (Value A)) (v : Value A) (o : Result Datum Fault) (rest here whole : Result (List Datum) Fault) → here ≡ first_then o rest → done_then (row_of done) here ≡ whole → o ≡ Ok (datum v) → new ≡ done ++ v ∷ [] → done_then (row_of new) rest ≡ whole
 put_step done new v o rest here whole is so_far given pushed =
     ap (λ l. done_then (row_of l) rest) pushed ∙ put_next done v rest ∙ ap (λ x. done_then (row_of done) (first_then x rest)) (sym given) ∙ ap (done_then (row_of done)) (sym is) ∙ so_far

@@ -5,7 +5,7 @@ use Rattle.value.specs.declared.types.Value.{Value}
 use Rattle.groups.specs.Members.{key_on}
 use Rattle.groups.proofs.members.key_on.Goals as goal
 
--- a cell is put: what is done, and then the rest, is still the whole
+-- a cell is put: the part that is done, and then the rest, is still the whole
 cell_put : {A : Type 0} (done new : List (Value A)) (v : Value A) (d : Datum) (rest here whole : List Datum) → here ≡ d ∷ rest → row_of done ++ here ≡ whole → datum v ≡ d → new ≡ done ++ v ∷ [] → row_of new ++ rest ≡ whole
 cell_put {A} done new v d rest here whole is so_far given pushed =
     ap (λ l. row_of l ++ rest) pushed ∙ ap (λ l. l ++ rest) (map-append (λ (w : Value A). datum w) done (v ∷ [])) ∙ append_assoc (row_of done) (datum v ∷ []) rest

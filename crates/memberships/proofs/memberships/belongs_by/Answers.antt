@@ -1,16 +1,16 @@
 use Rattle.std.proofs.Common.{◌<◌, ◌∙◌, map, sym, false, replicate, length, arith}
 use Rattle.std.proofs.lemmas.List.{length-replicate}
 use Rattle.memberships.specs.View.{membership_of}
-use Rattle.memberships.proofs.Marks.{all_marked, first_sound, marked_at, marked_still, next_fewer, next_sound, next_within, no_role, place_within}
+use Rattle.memberships.proofs.Marks.{all_marked, first_sound, marked_at, marked_still, next_fewer, next_sound, next_within, no_role, index_within}
 use Rattle.memberships.proofs.memberships.belongs_by.Goals as goal
 
 pub returns-in_default : goal.returns-in_default
-returns-in_default g c = c.eq.ensures ∙ no_role c.args.roles.now (map (λ m. membership_of m) c.args.memberships.now) c.requires.known c.args.r.now c.args.s.now (sym c.in_default.ensures.place)
+returns-in_default g c = c.eq.ensures ∙ no_role c.args.roles.now (map (λ m. membership_of m) c.args.memberships.now) c.requires.known c.args.r.now c.args.s.now (sym c.in_default.ensures.index)
 
 pub loop-next-init : goal.loop-next-init
 loop-next-init g c =
-    let at = sym c.in-Some.ensures.place in
-    let l = place_within c.args.roles.now c.args.r.now c.in-Some.start at in
+    let at = sym c.in-Some.ensures.index in
+    let l = index_within c.args.roles.now c.args.r.now c.in-Some.start at in
     let long : c.in-Some.start < length (replicate 256 false) = omega (arith, l, c.requires.few, length-replicate 256 false) in
     record {
       sound = first_sound c.args.roles.now (map (λ m. membership_of m) c.args.memberships.now) c.args.r.now 256 c.in-Some.start at;

@@ -9,4 +9,4 @@ returns-then-not-is_marked g c =
     let next = sym (at_drop_more (λ l. next_group c.args.roles.now c.args.marks.now (map (λ m. membership_of m) l)) c.args.memberships.now c.loop-m.m-index c.m-item.result (omega (arith, c.loop-m-test.true))) ∙ c.loop-m.invariant in
     let member : is_marked c.args.roles.now c.args.marks.now c.m-item.result.member ≡ true = sym (rw (c.if-is_marked.true, c.as_str.ensures) at c.is_marked.ensures) in
     let group : is_marked c.args.roles.now c.args.marks.now c.m-item.result.group ≡ false = sym (rw (c.if-not-is_marked.true, c.as_str-then-is_marked.ensures) at c.is_marked-then-is_marked.ensures) in
-    (rw (c.as_str-then-not-is_marked.ensures) at c.place.ensures.place) ∙ (rw (← c.m-item.is, member, group) at next)
+    (rw (c.as_str-then-not-is_marked.ensures) at c.index.ensures.index) ∙ (rw (← c.m-item.is, member, group) at next)

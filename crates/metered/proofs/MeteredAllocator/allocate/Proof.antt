@@ -44,7 +44,7 @@ use Rattle.metered.specs.contracts.MeteredAllocator.allocate.Key as key
 use Rattle.metered.proofs.MeteredAllocator.allocate.Statement.{statement}
 use Rattle.metered.proofs.MeteredAllocator.allocate.Code as code
 
--- what runs after the first statement of a body
+-- a body after its first statement
 after_one : Body → Body
 after_one (seq s rest) = rest
 after_one b = b

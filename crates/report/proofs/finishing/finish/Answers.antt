@@ -1,7 +1,7 @@
 use Rattle.std.proofs.Common.{map, subst}
 use Rattle.memory.specs.Gives.{Gives}
 use Rattle.value.specs.Datum.{row_of}
-use Rattle.operators.specs.View.{world_of}
+use Rattle.tuples.specs.View.{world_of}
 use Rattle.report.proofs.SameCombinations.{same_answer}
 use Rattle.report.proofs.finishing.finish.Goals as goal
 

@@ -1,7 +1,7 @@
 use Rattle.std.proofs.Common.{◌≡◌, List, Result, Ok, refl, sym, ap}
 use Rattle.memory.specs.Gives.{IsFailure}
 use Rattle.memory.specs.declared.failure.Failure.{Failure}
-use Rattle.memory.specs.declared.failure.Failure.TheVariants.{Fault as Faults, OutOfMemory}
+use Rattle.memory.specs.declared.failure.Failure.TheVariants.{Error as Faults, OutOfMemory}
 use Rattle.value.specs.Datum.{Row}
 use Rattle.value.specs.declared.faults.Fault.{Fault}
 use Rattle.eval.specs.Meaning.{◌>>=◌}

@@ -1,16 +1,16 @@
 use Rattle.std.proofs.Common.{refl, sym, map, ◌∷◌, [], ◌++◌, arith, List}
 use Rattle.std.proofs.lemmas.Result.{err_from_is_err_and}
-use Rattle.memory.specs.declared.failure.Failure.TheVariants.{Fault}
+use Rattle.memory.specs.declared.failure.Failure.TheVariants.{Error}
 use Rattle.row_ast.specs.View.{sort_key_of}
-use Rattle.scope.specs.View.{bound_item_of}
-use Rattle.scope.specs.declared.query.OutputKey.{OutputKey}
+use Rattle.expr.specs.View.{bound_item_of}
+use Rattle.expr.specs.declared.query.OutputKey.{OutputKey}
 use Rattle.scope.proofs.Found.{failed, walk_next, walk_opened, walk_over}
 use Rattle.resolve.specs.OrderBy.{output_key, output_keys}
 use Rattle.resolve.proofs.order_by.output_keys.Goals as goal
 
 pub returns-in-Err : goal.returns-in-Err
 returns-in-Err g c =
-    failed (λ (key : OutputKey). key) (λ (keys : List OutputKey). keys) (Fault c.in-Err.fault) _ _ _
+    failed (λ (key : OutputKey). key) (λ (keys : List OutputKey). keys) (Error c.in-Err.fault) _ _ _
     (walk_opened (λ known x. output_key (map (λ i. bound_item_of i) c.args.items.now) x) (λ known key. known ++ key ∷ []) (output_keys (map (λ i. bound_item_of i) c.args.items.now)) (λ x. sort_key_of x) c.args.order_by.now c.loop-key.key-index c.loop-key.keys _ c.loop-key.invariant (λ b w ws. refl) c.key-item.result c.loop-key-test.true c.key-item.is)
     (sym c.in-Err.ensures)
 

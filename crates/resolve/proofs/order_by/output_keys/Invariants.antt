@@ -1,6 +1,6 @@
 use Rattle.std.proofs.Common.{◌≡◌, [], drop, map}
 use Rattle.row_ast.specs.View.{sort_key_of}
-use Rattle.scope.specs.View.{bound_item_of}
+use Rattle.expr.specs.View.{bound_item_of}
 use Rattle.resolve.specs.OrderBy.{output_keys}
 use Rattle.resolve.proofs.order_by.output_keys.Given as goal
 

@@ -1,5 +1,5 @@
 use Rattle.std.proofs.Common.{refl, sym, map, ◌∷◌, [], ◌++◌, List}
-use Rattle.memory.specs.declared.failure.Failure.TheVariants.{Fault}
+use Rattle.memory.specs.declared.failure.Failure.TheVariants.{Error}
 use Rattle.row_ast.specs.View.{column_ref_of}
 use Rattle.expr.specs.declared.bound.ColumnId.{ColumnId}
 use Rattle.scope.specs.View.{entry_of}
@@ -10,11 +10,11 @@ use Rattle.resolve.proofs.queries.bind_columns.Goals as goal
 
 pub returns-in-Err : goal.returns-in-Err
 returns-in-Err g c =
-    failed (λ (id : ColumnId). id) (λ (ids : List ColumnId). ids) (Fault c.in-Err.fault) _ _ _
-    (walk_opened (λ known x. find_column (map (λ e. entry_of e) c.args.entries.now) c.args.reach x) (λ known id. known ++ id ∷ []) (bound_columns (map (λ e. entry_of e) c.args.entries.now) c.args.reach) (λ x. column_ref_of x) c.args.columns.now c.loop-column.column-index c.loop-column.ids _ c.loop-column.invariant (λ b w ws. refl) c.column-item.result c.loop-column-test.true c.column-item.is)
+    failed (λ (id : ColumnId). id) (λ (ids : List ColumnId). ids) (Error c.in-Err.fault) _ _ _
+    (walk_opened (λ known x. find_column (map (λ e. entry_of e) c.args.entries.now) c.args.scope x) (λ known id. known ++ id ∷ []) (bound_columns (map (λ e. entry_of e) c.args.entries.now) c.args.scope) (λ x. column_ref_of x) c.args.columns.now c.loop-column.column-index c.loop-column.ids _ c.loop-column.invariant (λ b w ws. refl) c.column-item.result c.loop-column-test.true c.column-item.is)
     (sym c.in-Err.ensures)
 
 pub loop-column-preserved : goal.loop-column-preserved
 loop-column-preserved g c =
-    walk_next (λ known x. find_column (map (λ e. entry_of e) c.args.entries.now) c.args.reach x) (λ known id. known ++ id ∷ []) (bound_columns (map (λ e. entry_of e) c.args.entries.now) c.args.reach) (λ x. column_ref_of x) c.args.columns.now c.loop-column.column-index c.loop-column.ids _ c.loop-column.invariant (λ b w ws. refl) c.column-item.result c.loop-column-test.true c.column-item.is
+    walk_next (λ known x. find_column (map (λ e. entry_of e) c.args.entries.now) c.args.scope x) (λ known id. known ++ id ∷ []) (bound_columns (map (λ e. entry_of e) c.args.entries.now) c.args.scope) (λ x. column_ref_of x) c.args.columns.now c.loop-column.column-index c.loop-column.ids _ c.loop-column.invariant (λ b w ws. refl) c.column-item.result c.loop-column-test.true c.column-item.is
     c.in-Ok.id (sym c.in-Ok.ensures) _ c.in_ok-push-in-Ok.ensures.ok

@@ -2,7 +2,8 @@ use Rattle.std.proofs.Common.{refl, map, ap, ◌∙◌, ◌∷◌, [], ◌++◌,
 use Rattle.std.proofs.lemmas.List.{map-append}
 use Rattle.std.proofs.lemmas.Result.{err_from_is_err_and}
 use Rattle.row_ast.specs.View.{select_item_of}
-use Rattle.scope.specs.View.{bound_item_of, entry_of}
+use Rattle.expr.specs.View.{bound_item_of}
+use Rattle.scope.specs.View.{entry_of}
 use Rattle.scope.proofs.Found.{failed, walk_next, walk_opened, walk_over}
 use Rattle.resolve.specs.BoundQueries.{bound_item, bound_items}
 use Rattle.resolve.proofs.queries.bind_items.Goals as goal
@@ -10,7 +11,7 @@ use Rattle.resolve.proofs.queries.bind_items.Goals as goal
 pub returns-in-Err : goal.returns-in-Err
 returns-in-Err g c =
     failed (λ i. bound_item_of {A = g.row.A.Denot} i) (λ is. map (λ i. bound_item_of {A = g.row.A.Denot} i) is) c.in-Err.failure _ _ _
-    (walk_opened (λ known x. bound_item (map (λ e. entry_of e) c.args.entries.now) c.args.reach x) (λ known x. known ++ x ∷ []) (bound_items (map (λ e. entry_of e) c.args.entries.now) c.args.reach) (λ x. select_item_of x) c.args.items.now c.loop-item.item-index (map (λ i. bound_item_of i) c.loop-item.all) _ c.loop-item.invariant (λ b w ws. refl) c.item-item.result c.loop-item-test.true c.item-item.is)
+    (walk_opened (λ known x. bound_item (map (λ e. entry_of e) c.args.entries.now) c.args.scope x) (λ known x. known ++ x ∷ []) (bound_items (map (λ e. entry_of e) c.args.entries.now) c.args.scope) (λ x. select_item_of x) c.args.items.now c.loop-item.item-index (map (λ i. bound_item_of i) c.loop-item.all) _ c.loop-item.invariant (λ b w ws. refl) c.item-item.result c.loop-item-test.true c.item-item.is)
     c.in-Err.ensures
 
 pub returns-in_err-push-in-Ok : goal.returns-in_err-push-in-Ok
@@ -18,9 +19,9 @@ returns-in_err-push-in-Ok g c = let p = err_from_is_err_and c.from_residual.resu
 
 pub loop-item-preserved : goal.loop-item-preserved
 loop-item-preserved g c =
-    walk_next (λ known x. bound_item (map (λ e. entry_of e) c.args.entries.now) c.args.reach x) (λ known x. known ++ x ∷ []) (bound_items (map (λ e. entry_of e) c.args.entries.now) c.args.reach) (λ x. select_item_of x) c.args.items.now c.loop-item.item-index (map (λ i. bound_item_of i) c.loop-item.all) _ c.loop-item.invariant (λ b w ws. refl) c.item-item.result c.loop-item-test.true c.item-item.is
+    walk_next (λ known x. bound_item (map (λ e. entry_of e) c.args.entries.now) c.args.scope x) (λ known x. known ++ x ∷ []) (bound_items (map (λ e. entry_of e) c.args.entries.now) c.args.scope) (λ x. select_item_of x) c.args.items.now c.loop-item.item-index (map (λ i. bound_item_of i) c.loop-item.all) _ c.loop-item.invariant (λ b w ws. refl) c.item-item.result c.loop-item-test.true c.item-item.is
     (bound_item_of c.in-Ok.item) c.in-Ok.ensures _ (ap (map (λ i. bound_item_of i)) c.in_ok-push-in-Ok.ensures.ok ∙ map-append (λ i. bound_item_of i) c.loop-item.all (c.in-Ok.item ∷ []))
 
 pub returns : goal.returns
 returns g c =
-    walk_over (λ known x. bound_item (map (λ e. entry_of e) c.args.entries.now) c.args.reach x) (λ known x. known ++ x ∷ []) (bound_items (map (λ e. entry_of e) c.args.entries.now) c.args.reach) (λ x. select_item_of x) c.args.items.now c.loop-item.item-index (map (λ i. bound_item_of i) c.loop-item.all) _ c.loop-item.invariant (λ b. refl) (omega (arith, c.loop-item-test.false))
+    walk_over (λ known x. bound_item (map (λ e. entry_of e) c.args.entries.now) c.args.scope x) (λ known x. known ++ x ∷ []) (bound_items (map (λ e. entry_of e) c.args.entries.now) c.args.scope) (λ x. select_item_of x) c.args.items.now c.loop-item.item-index (map (λ i. bound_item_of i) c.loop-item.all) _ c.loop-item.invariant (λ b. refl) (omega (arith, c.loop-item-test.false))

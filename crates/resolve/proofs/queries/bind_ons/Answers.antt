@@ -2,10 +2,10 @@ use Rattle.std.proofs.Common.{◌≡◌, ◌∙◌, ◌+◌, ◌<◌, ℕ, suc, 
 use Rattle.std.proofs.lemmas.List.{map-append}
 use Rattle.expr.specs.Bound.{BoundExpr}
 use Rattle.expr.specs.View.{bound_expr_of}
-use Rattle.scope.specs.declared.fault.NameFault.{NameFault}
-use Rattle.scope.specs.declared.lookup.Reach.{Reach}
+use Rattle.scope.specs.declared.error.BindError.{BindError}
+use Rattle.scope.specs.declared.lookup.Scope.{Scope}
 use Rattle.scope.specs.Entry.{Entry, and_then}
-use Rattle.scope.specs.Lookup.{on_reach}
+use Rattle.scope.specs.Lookup.{on_scope}
 use Rattle.scope.specs.View.{entry_of}
 use Rattle.scope.proofs.Found.{failed}
 use Rattle.resolve.specs.BoundQueries.{bound_condition, bound_ons}
@@ -13,25 +13,25 @@ use Rattle.resolve.proofs.queries.bind_ons.Goals as goal
 
 -- ---- one entry after another
 
-module _ {Y : Type 0} (view : Y → Entry) (es : List Entry) (ys : List Y) (k : ℕ) (known : List (Option BoundExpr)) (whole : Result (List (Option BoundExpr)) NameFault) (so_far : bound_ons es k known (map view (drop k ys)) ≡ whole) (y : Y) (more : k < length ys)
+module _ {Y : Type 0} (view : Y → Entry) (es : List Entry) (ys : List Y) (k : ℕ) (known : List (Option BoundExpr)) (whole : Result (List (Option BoundExpr)) BindError) (so_far : bound_ons es k known (map view (drop k ys)) ≡ whole) (y : Y) (more : k < length ys)
     (is : y ≡ get_or ys k y) where
-  opened : and_then (bound_condition es (on_reach k (view y)) (view y).on) (λ x. bound_ons es (k + 1) (known ++ x ∷ []) (map view (drop (k + 1) ys))) ≡ whole
+  opened : and_then (bound_condition es (on_scope k (view y)) (view y).on) (λ x. bound_ons es (k + 1) (known ++ x ∷ []) (map view (drop (k + 1) ys))) ≡ whole
   opened =
       let n : k + 1 ≡ suc k = omega arith in
       let e : map view (drop k ys) ≡ view y ∷ map view (drop (k + 1) ys) = rw (n, drop-cons ys k y more, ← is) refl in
       sym (ap (bound_ons es k known) e) ∙ so_far
 
-  next : (reach : Reach) → reach ≡ on_reach k (view y) → (x : Option BoundExpr) → bound_condition es reach (view y).on ≡ Ok x → (new : List (Option BoundExpr)) → new ≡ known ++ x ∷ [] → bound_ons es (k + 1) new (map view (drop (k + 1) ys)) ≡ whole
-  next reach r x h new n = rw n
+  next : (scope : Scope) → scope ≡ on_scope k (view y) → (x : Option BoundExpr) → bound_condition es scope (view y).on ≡ Ok x → (new : List (Option BoundExpr)) → new ≡ known ++ x ∷ [] → bound_ons es (k + 1) new (map view (drop (k + 1) ys)) ≡ whole
+  next scope r x h new n = rw n
       (ap (λ q. and_then q (λ x. bound_ons es (k + 1) (known ++ x ∷ []) (map view (drop (k + 1) ys)))) (sym (ap (λ z. bound_condition es z (view y).on) (sym r) ∙ h)) ∙ opened)
 
 pub loop-number-preserved : goal.loop-number-preserved
 loop-number-preserved g c =
     next (λ e. entry_of e) (map (λ e. entry_of e) c.args.entries.now) c.args.entries.now c.loop-number.number (map (λ o. option_map (λ b. bound_expr_of b.value) o) c.loop-number.ons) _ c.loop-number.invariant c.index-entries-number.result c.loop-number-test.true c.index-entries-number.is
-    c.on_reach.result c.on_reach.ensures (option_map (λ b. bound_expr_of b.value) c.in-Ok.on) c.in-Ok.ensures _ (ap (map (λ o. option_map (λ b. bound_expr_of b.value) o)) c.in_ok-push-in-Ok.ensures.ok ∙ map-append _ c.loop-number.ons (c.in-Ok.on ∷ []))
+    c.on_scope.result c.on_scope.ensures (option_map (λ b. bound_expr_of b.value) c.in-Ok.on) c.in-Ok.ensures _ (ap (map (λ o. option_map (λ b. bound_expr_of b.value) o)) c.in_ok-push-in-Ok.ensures.ok ∙ map-append _ c.loop-number.ons (c.in-Ok.on ∷ []))
 
 pub returns-in-Err : goal.returns-in-Err
 returns-in-Err g c =
     failed (λ (x : Option BoundExpr). x) (λ (l : List (Option BoundExpr)). l) c.in-Err.failure _ _ _
     (opened (λ e. entry_of e) (map (λ e. entry_of e) c.args.entries.now) c.args.entries.now c.loop-number.number (map (λ o. option_map (λ b. bound_expr_of b.value) o) c.loop-number.ons) _ c.loop-number.invariant c.index-entries-number.result c.loop-number-test.true c.index-entries-number.is)
-    (rw c.on_reach.ensures at c.in-Err.ensures)
+    (rw c.on_scope.ensures at c.in-Err.ensures)

@@ -1,7 +1,7 @@
 use Rattle.std.proofs.Common.{◌≡◌, ◌++◌, drop, map}
 use Rattle.scope.specs.View.{entry_of}
 use Rattle.resolve.specs.BoundQueries.{every_item}
-use Rattle.scope.specs.View.{bound_item_of}
+use Rattle.expr.specs.View.{bound_item_of}
 use Rattle.resolve.proofs.queries.push_every_item.Given as goal
 
 abbrev pub invariant-loop-number : goal.invariant-loop-number

@@ -2,7 +2,7 @@ use Rattle.std.proofs.Common.{map}
 use Rattle.row_ast.specs.View.{query_of}
 use Rattle.scope.specs.View.{entry_of}
 use Rattle.scope.proofs.Found.{given}
-use Rattle.from_clause.specs.Entries.{entries}
+use Rattle.resolve.specs.Entries.{entries}
 use Rattle.resolve.specs.Resolved.{bound_with}
 use Rattle.resolve.specs.View.{bound_of}
 use Rattle.resolve.proofs.resolved.bind.Goals as goal

@@ -1,7 +1,8 @@
 use Rattle.std.proofs.Common.{refl, map, Box}
 use Rattle.row_ast.specs.View.{query_of}
-use Rattle.scope.specs.View.{bound_query_of, entry_of}
-use Rattle.scope.specs.declared.query.BoundQuery.{BoundQuery}
+use Rattle.expr.specs.View.{bound_query_of}
+use Rattle.scope.specs.View.{entry_of}
+use Rattle.expr.specs.declared.query.BoundQuery.{BoundQuery}
 use Rattle.scope.proofs.Found.{failed}
 use Rattle.resolve.specs.BoundQueries.{bound_query}
 use Rattle.resolve.specs.Resolved.{checked}

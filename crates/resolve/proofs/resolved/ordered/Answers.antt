@@ -1,12 +1,13 @@
 use Rattle.std.proofs.Common.{◌≡◌, ◌∙◌, List, [], Result, Ok, map, refl, sym, ap}
-use Rattle.text.specs.declared.Items.{Items}
+use Rattle.memory.specs.declared.text.Items.{Items}
 use Rattle.row_ast.specs.Ast as ast
 use Rattle.row_ast.specs.View.{query_of, sort_key_of}
-use Rattle.scope.specs.declared.fault.NameFault.{NameFault}
-use Rattle.scope.specs.declared.query.OutputKey.{OutputKey}
-use Rattle.scope.specs.BoundQuery.{BoundItem, BoundQuery}
+use Rattle.scope.specs.declared.error.BindError.{BindError}
+use Rattle.expr.specs.declared.query.OutputKey.{OutputKey}
+use Rattle.expr.specs.BoundQuery.{BoundItem, BoundQuery}
 use Rattle.scope.specs.Entry.{Entry, and_then}
-use Rattle.scope.specs.View.{bound_item_of, bound_query_of, entry_of}
+use Rattle.expr.specs.View.{bound_item_of, bound_query_of}
+use Rattle.scope.specs.View.{entry_of}
 use Rattle.scope.proofs.Found.{failed}
 use Rattle.resolve.specs.OrderBy.{output_keys}
 use Rattle.resolve.specs.Resolved.{Bound, ordered, with_order}
@@ -15,7 +16,7 @@ use Rattle.resolve.specs.declared.resolved.Bound as declared
 use Rattle.resolve.proofs.resolved.ordered.Goals as goal
 
 -- the query with its keys
-abbrev given_keys : List Entry → BoundQuery → List OutputKey → Result Bound NameFault
+abbrev given_keys : List Entry → BoundQuery → List OutputKey → Result Bound BindError
 given_keys es b keys = Ok record { entries = es; query = with_order b keys }
 
 module _ (es : List Entry) (q : ast.Query) (b : BoundQuery) (items : List BoundItem) (order : List ast.SortKey) (i : items ≡ b.items) (o : order ≡ q.order_by) where

@@ -10,9 +10,9 @@ use Rattle.row_grammar.specs.declared.error.ReadError.{ReadError}
 use Rattle.row_grammar.specs.Limits.{reads}
 use Rattle.row_grammar.proofs.Steps.{fault_along, run_start, run_err}
 use Rattle.row_tokens.specs.declared.token.TokenKind.TheVariants as k
-use Rattle.row_tokens.specs.Words.{Word}
+use Rattle.row_tokens.specs.Tokens.{Token}
 use Rattle.row_tokens.specs.View.{word_of, words_of}
-use Rattle.row_tokens.specs.declared.token.Token.{Token}
+use Rattle.row_tokens.specs.declared.token.Token.{Token as Lexed}
 use Rattle.row_ast.specs.Ast.{Expr, And, Or, exprs_of, and_members, or_members}
 use Rattle.row_reader.specs.Language.{language, Located, is, of, next_at, kind_of}
 use Rattle.row_reader.specs.Expressions as rules
@@ -20,24 +20,24 @@ use Rattle.row_reader.specs.Expressions.{grammar, nested_first, folded_left, and
 use Rattle.row_ast.specs.View.{expr_of, arm_pair}
 use Rattle.row_ast.specs.declared.expr.Expr.{Expr as Tree}
 use Rattle.row_reader.specs.Reading.{with_rest}
-use Rattle.expression_parts.specs.Connectives.{connective_word, joined_expr, members_of}
+use Rattle.row_expressions.specs.Connectives.{connective_word, joined_expr, members_of}
 use Rattle.row_expressions.specs.Levels.{connected_rule, member_rule, next_member_rule, next_rule, operand_rule, run_rule, sign_class}
-use Rattle.expression_parts.specs.GoesOn.{case_step}
-use Rattle.expression_parts.specs.View.{located, otherwise_of}
-use Rattle.expression_parts.proofs.GoesOn.{goes_on}
-use Rattle.expression_parts.specs.declared.build.Connective.{Connective}
-use Rattle.expression_parts.specs.declared.build.Connective.TheVariants as word
+use Rattle.row_expressions.specs.GoesOn.{case_step}
+use Rattle.row_expressions.specs.View.{located, otherwise_of}
+use Rattle.row_expressions.proofs.GoesOn.{goes_on}
+use Rattle.row_expressions.specs.declared.build.Connective.{Connective}
+use Rattle.row_expressions.specs.declared.build.Connective.TheVariants as word
 use Rattle.row_expressions.specs.declared.expressions.Level.{Level}
 use Rattle.row_expressions.specs.declared.expressions.Level.TheVariants as level
 use Rattle.row_reader.proofs.Lists.{listed_stop, listed_over, listed_fail, listed_go, listed_first, listed_none}
 use Rattle.row_expressions.proofs.Runs.{run_on, run_stop, run_full, run_fail, run_go, run_more, word_is_next, joined, joined_go, joined_end}
 use Rattle.row_expressions.proofs.expressions.+expression.Goals as goal
 
--- ---- what is made at the end
+-- ---- the expression made at the end
 
-kept : {A F : Type 0} (made : Result (ℕ × Box (Tree A) A) F) (rest : Bor (List Token)) (whole : Located) (due : Outcome Word Located) → IfOk made (λ p. located p ≡ whole) → due ≡ Ok (whole, words_of rest.now)
+kept : {A F : Type 0} (made : Result (ℕ × Box (Tree A) A) F) (rest : Bor (List Lexed)) (whole : Located) (due : Outcome Token Located) → IfOk made (λ p. located p ≡ whole) → due ≡ Ok (whole, words_of rest.now)
     → Gives (λ x. (located x.0, words_of x.1.now)) (with_rest made rest) due
-kept (Ok p) rest whole due h r = r ∙ ap (λ (x : Located). let o : Outcome Word Located = Ok (x, words_of rest.now) in o) (sym h)
+kept (Ok p) rest whole due h r = r ∙ ap (λ (x : Located). let o : Outcome Token Located = Ok (x, words_of rest.now) in o) (sym h)
 kept (Err e) rest whole due h r = tt
 
 -- ---- arms
@@ -81,12 +81,12 @@ unfolding rules.factor rules.addend rules.multiplication rules.addition of
 begins level.Product = refl
 begins level.Sum = refl
 
-start_run : (l : Level) (w d n : _) (ts : List Word) (x : Located) (us : List Word) → reads grammar w d (operand_rule l) ts ≡ Ok (x, us) → n ≡ w → run_on w d (next_rule l) (of (sign_class l)) (folded_left x) n us ≡ reads grammar w d (run_rule l) ts
+start_run : (l : Level) (w d n : _) (ts : List Token) (x : Located) (us : List Token) → reads grammar w d (operand_rule l) ts ≡ Ok (x, us) → n ≡ w → run_on w d (next_rule l) (of (sign_class l)) (folded_left x) n us ≡ reads grammar w d (run_rule l) ts
 unfolding rules.product rules.sum
 start_run level.Product w d n ts x us e j = rw (j, ← begins level.Product) (run_start grammar w d (λ x ys. folded_left x ys) rules.unary true rules.factor ts x us e)
 start_run level.Sum w d n ts x us e j = rw (j, ← begins level.Sum) (run_start grammar w d (λ x ys. folded_left x ys) rules.product true rules.addend ts x us e)
 
-no_run : (l : Level) (w d : _) (ts : List Word) (stop : ReadError) → reads grammar w d (operand_rule l) ts ≡ Err stop → reads grammar w d (run_rule l) ts ≡ Err stop
+no_run : (l : Level) (w d : _) (ts : List Token) (stop : ReadError) → reads grammar w d (operand_rule l) ts ≡ Err stop → reads grammar w d (run_rule l) ts ≡ Err stop
 unfolding rules.product rules.sum
 no_run level.Product w d ts stop r = run_err grammar w d (λ x ys. folded_left x ys) rules.unary true rules.factor ts stop r
 no_run level.Sum w d ts stop r = run_err grammar w d (λ x ys. folded_left x ys) rules.product true rules.addend ts stop r
@@ -127,12 +127,12 @@ unfolding rules.and_operand rules.or_operand
 begins_member word.And = refl
 begins_member word.Or = refl
 
-next_member_word : (l : Connective) (w d : _) (us : List Word) (y : Word × Located) (vs : List Word) → reads grammar w d (next_member_rule l) us ≡ Ok (y, vs) → y.0.at ≡ next_at us
+next_member_word : (l : Connective) (w d : _) (us : List Token) (y : Token × Located) (vs : List Token) → reads grammar w d (next_member_rule l) us ≡ Ok (y, vs) → y.0.at ≡ next_at us
 unfolding rules.and_operand rules.or_operand
 next_member_word word.And w d us y vs e = word_is_next w d (is k.And) rules.negation us y vs e
 next_member_word word.Or w d us y vs e = word_is_next w d (is k.Or) rules.conjunction us y vs e
 
-alone : (l : Connective) (w d : _) (ts : List Word) (x : Located) (us : List Word) → reads grammar w d (member_rule l) ts ≡ Ok (x, us) → head_in kind_of (is (connective_word l)) us ≡ false → reads grammar w d (connected_rule l) ts ≡ Ok (x, us)
+alone : (l : Connective) (w d : _) (ts : List Token) (x : Located) (us : List Token) → reads grammar w d (member_rule l) ts ≡ Ok (x, us) → head_in kind_of (is (connective_word l)) us ≡ false → reads grammar w d (connected_rule l) ts ≡ Ok (x, us)
 unfolding rules.conjunction rules.expression is rules.and_operand rules.or_operand
 alone word.And w d ts x us e n =
     run_stop w d rules.and_operand (is k.And) (and_of x) (reads grammar w d rules.conjunction ts) w us
@@ -141,7 +141,7 @@ alone word.Or w d ts x us e n =
     run_stop w d rules.or_operand (is k.Or) (or_of x) (reads grammar w d rules.expression ts) w us
     (rw (← begins_member word.Or) (run_start grammar w d (λ x ys. or_of x ys) rules.conjunction true rules.or_operand ts x us e)) n
 
-start : (l : Connective) (w d n : _) (ts : List Word) (x : Located) (us : List Word) (at : _) (ms : List Expr) → reads grammar w d (member_rule l) ts ≡ Ok (x, us) → head_in kind_of (is (connective_word l)) us ≡ true → at ≡ next_at us → ms ≡ members_of l x.1 → n ≡ w
+start : (l : Connective) (w d n : _) (ts : List Token) (x : Located) (us : List Token) (at : _) (ms : List Expr) → reads grammar w d (member_rule l) ts ≡ Ok (x, us) → head_in kind_of (is (connective_word l)) us ≡ true → at ≡ next_at us → ms ≡ members_of l x.1 → n ≡ w
     → run_on w d (next_member_rule l) (is (connective_word l)) (joined (λ ms. joined_expr l at ms) (λ e. members_of l e) x.0 ms) n us ≡ reads grammar w d (connected_rule l) ts
 unfolding rules.conjunction rules.expression rules.and_operand rules.or_operand
 start word.And w d n ts x us at ms e h a m j =
@@ -153,7 +153,7 @@ start word.Or w d n ts x us at ms e h a m j =
     (λ y vs ys r. ap (λ n. (x.0, Or n (exprs_of (or_members x.1 ++ flat_map or_members (map (λ z. z.1.1) (y ∷ ys)))))) (sym (next_member_word word.Or w d us y vs r)))
     ∙ rw (← begins_member word.Or) (run_start grammar w d (λ x ys. or_of x ys) rules.conjunction true rules.or_operand ts x us e))
 
-no_member : (l : Connective) (w d : _) (ts : List Word) (stop : ReadError) → reads grammar w d (member_rule l) ts ≡ Err stop → reads grammar w d (connected_rule l) ts ≡ Err stop
+no_member : (l : Connective) (w d : _) (ts : List Token) (stop : ReadError) → reads grammar w d (member_rule l) ts ≡ Err stop → reads grammar w d (connected_rule l) ts ≡ Err stop
 unfolding rules.conjunction rules.expression
 no_member word.And w d ts stop r = run_err grammar w d (λ x ys. and_of x ys) rules.negation true rules.and_operand ts stop r
 no_member word.Or w d ts stop r = run_err grammar w d (λ x ys. or_of x ys) rules.conjunction true rules.or_operand ts stop r
@@ -174,12 +174,12 @@ connected-loop-init g t c = start c.args.connective c.args.reader.run_limit c.ar
 pub connected-returns-then-not-sees-2 : goal.connected-returns-then-not-sees-2
 connected-returns-then-not-sees-2 g t c =
     rw c.with_rest.ensures (kept c.joined-whole.result c.loop.rest _ _ c.joined-whole.ensures
-    (run_stop c.args.reader.run_limit c.args.reader.depth_limit (next_member_rule c.args.connective) (is (connective_word c.args.connective)) (joined (λ ms. joined_expr c.args.connective c.next_offset-offset.result ms) (λ e. members_of c.args.connective e) c.in_ok-start.start (map (λ e. expr_of e) c.loop.members.items)) (reads grammar c.args.reader.run_limit c.args.reader.depth_limit (connected_rule c.args.connective) (map word_of c.args.tokens.now)) (c.args.reader.run_limit - c.loop.counter) (map word_of c.loop.rest.now) c.loop.invariant (cc (c.connective_word-word.ensures, c.sees-in-loop.ensures, c.if-not-sees-2.true)) ∙ ap (λ (p : Located). let o : Outcome Word Located = Ok (p, map word_of c.loop.rest.now) in o) (joined_end (λ ms. joined_expr c.args.connective c.next_offset-offset.result ms) (λ e. members_of c.args.connective e) c.in_ok-start.start (map (λ e. expr_of e) c.loop.members.items))))
+    (run_stop c.args.reader.run_limit c.args.reader.depth_limit (next_member_rule c.args.connective) (is (connective_word c.args.connective)) (joined (λ ms. joined_expr c.args.connective c.next_offset-offset.result ms) (λ e. members_of c.args.connective e) c.in_ok-start.start (map (λ e. expr_of e) c.loop.members.items)) (reads grammar c.args.reader.run_limit c.args.reader.depth_limit (connected_rule c.args.connective) (map word_of c.args.tokens.now)) (c.args.reader.run_limit - c.loop.counter) (map word_of c.loop.rest.now) c.loop.invariant (cc (c.connective_word-word.ensures, c.sees-in-loop.ensures, c.if-not-sees-2.true)) ∙ ap (λ (p : Located). let o : Outcome Token Located = Ok (p, map word_of c.loop.rest.now) in o) (joined_end (λ ms. joined_expr c.args.connective c.next_offset-offset.result ms) (λ e. members_of c.args.connective e) c.in_ok-start.start (map (λ e. expr_of e) c.loop.members.items))))
 
 pub connected-returns : goal.connected-returns
 connected-returns g t c =
     rw c.with_rest-2.ensures (kept c.joined-whole-2.result c.loop.rest _ _ c.joined-whole-2.ensures
-    (run_stop c.args.reader.run_limit c.args.reader.depth_limit (next_member_rule c.args.connective) (is (connective_word c.args.connective)) (joined (λ ms. joined_expr c.args.connective c.next_offset-offset.result ms) (λ e. members_of c.args.connective e) c.in_ok-start.start (map (λ e. expr_of e) c.loop.members.items)) (reads grammar c.args.reader.run_limit c.args.reader.depth_limit (connected_rule c.args.connective) (map word_of c.args.tokens.now)) (c.args.reader.run_limit - c.loop.counter) (map word_of c.loop.rest.now) c.loop.invariant (cc (c.connective_word-word.ensures, c.sees-2.ensures, c.if-sees.false)) ∙ ap (λ (p : Located). let o : Outcome Word Located = Ok (p, map word_of c.loop.rest.now) in o) (joined_end (λ ms. joined_expr c.args.connective c.next_offset-offset.result ms) (λ e. members_of c.args.connective e) c.in_ok-start.start (map (λ e. expr_of e) c.loop.members.items))))
+    (run_stop c.args.reader.run_limit c.args.reader.depth_limit (next_member_rule c.args.connective) (is (connective_word c.args.connective)) (joined (λ ms. joined_expr c.args.connective c.next_offset-offset.result ms) (λ e. members_of c.args.connective e) c.in_ok-start.start (map (λ e. expr_of e) c.loop.members.items)) (reads grammar c.args.reader.run_limit c.args.reader.depth_limit (connected_rule c.args.connective) (map word_of c.args.tokens.now)) (c.args.reader.run_limit - c.loop.counter) (map word_of c.loop.rest.now) c.loop.invariant (cc (c.connective_word-word.ensures, c.sees-2.ensures, c.if-sees.false)) ∙ ap (λ (p : Located). let o : Outcome Token Located = Ok (p, map word_of c.loop.rest.now) in o) (joined_end (λ ms. joined_expr c.args.connective c.next_offset-offset.result ms) (λ e. members_of c.args.connective e) c.in_ok-start.start (map (λ e. expr_of e) c.loop.members.items))))
 
 pub connected-returns-then-sees : goal.connected-returns-then-sees
 connected-returns-then-sees g t c = rw (← length-map c.loop.rest.now word_of) (run_full c.args.reader.run_limit c.args.reader.depth_limit (next_member_rule c.args.connective) (is (connective_word c.args.connective)) (joined (λ ms. joined_expr c.args.connective c.next_offset-offset.result ms) (λ e. members_of c.args.connective e) c.in_ok-start.start (map (λ e. expr_of e) c.loop.members.items)) (reads grammar c.args.reader.run_limit c.args.reader.depth_limit (connected_rule c.args.connective) (map word_of c.args.tokens.now)) (c.args.reader.run_limit - c.loop.counter) (map word_of c.loop.rest.now) c.loop.invariant (omega arith) (cc (c.connective_word-word.ensures, c.sees-2.ensures, c.if-sees.true)))

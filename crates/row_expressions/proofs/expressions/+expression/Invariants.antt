@@ -6,11 +6,11 @@ use Rattle.row_reader.specs.Language.{is, of}
 use Rattle.row_reader.specs.Expressions as rules
 use Rattle.row_reader.specs.Expressions.{grammar, folded_left}
 use Rattle.row_ast.specs.View.{expr_of, arm_pair}
-use Rattle.expression_parts.specs.Connectives.{connective_word, joined_expr, members_of}
+use Rattle.row_expressions.specs.Connectives.{connective_word, joined_expr, members_of}
 use Rattle.row_expressions.specs.Levels.{connected_rule, next_member_rule, next_rule, run_rule, sign_class}
-use Rattle.expression_parts.specs.View.{located}
-use Rattle.expression_parts.specs.declared.build.Connective.{Connective}
-use Rattle.expression_parts.specs.declared.build.Connective.TheVariants as word
+use Rattle.row_expressions.specs.View.{located}
+use Rattle.row_expressions.specs.declared.build.Connective.{Connective}
+use Rattle.row_expressions.specs.declared.build.Connective.TheVariants as word
 use Rattle.row_expressions.specs.declared.expressions.Level.{Level}
 use Rattle.row_expressions.specs.declared.expressions.Level.TheVariants as level
 use Rattle.row_reader.proofs.Lists.{listed}

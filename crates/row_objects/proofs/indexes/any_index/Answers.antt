@@ -6,14 +6,14 @@ use Rattle.row_objects.proofs.indexes.any_index.Goals as goal
 
 pub returns-then-has_index : goal.returns-then-has_index
 returns-then-has_index g c =
-    there c.args.name.now c.args.tables.now c.loop-place.place c.at.result.now c.has_index.result c.at.ensures
+    there c.args.name.now c.args.tables.now c.loop-index.index c.at.result.now c.has_index.result c.at.ensures
     (c.has_index.ensures ∙ ap (λ is. has_index c.args.name.now (map (λ i. index_of i) is)) c.as_slice.ensures) c.if-has_index.true
-    ∙ c.loop-place.invariant.1
+    ∙ c.loop-index.invariant.1
 
-pub loop-place-preserved : goal.loop-place-preserved
-loop-place-preserved g c = (
-  c.loop-place.invariant.0,
-  further c.args.name.now c.args.tables.now c.loop-place.place c.at.result.now c.has_index.result c.at.ensures
+pub loop-index-preserved : goal.loop-index-preserved
+loop-index-preserved g c = (
+  c.loop-index.invariant.0,
+  further c.args.name.now c.args.tables.now c.loop-index.index c.at.result.now c.has_index.result c.at.ensures
       (c.has_index.ensures ∙ ap (λ is. has_index c.args.name.now (map (λ i. index_of i) is)) c.as_slice.ensures) c.if-has_index.false
-      ∙ c.loop-place.invariant.1,
+      ∙ c.loop-index.invariant.1,
 )

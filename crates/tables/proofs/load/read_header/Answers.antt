@@ -6,7 +6,7 @@ use Rattle.csv.specs.Records.{fields_of}
 use Rattle.csv_records.specs.Left.{Left, NextIsUneven, TakesFirst}
 use Rattle.csv_records.specs.declared.RecordError.{RecordError}
 use Rattle.memory.specs.declared.failure.Failure.{Failure}
-use Rattle.memory.specs.declared.failure.Failure.TheVariants.{Fault, OutOfMemory}
+use Rattle.memory.specs.declared.failure.Failure.TheVariants.{Error, OutOfMemory}
 use Rattle.value.specs.Columns.{Column, column_of}
 use Rattle.tables.specs.declared.LoadError.{LoadError}
 use Rattle.tables.specs.declared.LoadError.TheVariants as error
@@ -16,15 +16,15 @@ use Rattle.tables.proofs.Follow.{refuses_unread}
 use Rattle.tables.proofs.load.read_header.Goals.{else-branch-via-then-branch+else-has_names, else-branch-via-else-branch}
 use Rattle.tables.proofs.load.read_header.Goals as goal
 
--- a header that was not read is no fault of the records
+-- a header that was not read is no error of the records
 unread_header : (cols : List Column) (old new : Left) (e : Failure LoadError) → old.expected ≡ None → Refuses 0 old new e → HeaderIs cols old new (Err e)
 unread_header cols old new OutOfMemory none refuses = tt
-unread_header cols old new (Fault e) none refuses = by_failure new.failure refuses where
-  by_failure : (failure : Option (Failure RecordError)) → MatchOption failure ((Fault e ≡ Fault (error.Reader 0)) × NextIsUneven old) (λ why. Fault e ≡ reported why 0)
+unread_header cols old new (Error e) none refuses = by_failure new.failure refuses where
+  by_failure : (failure : Option (Failure RecordError)) → MatchOption failure ((Error e ≡ Error (error.Reader 0)) × NextIsUneven old) (λ why. Error e ≡ reported why 0)
       → (is_fault failure e ≡ true → (room : ℕ) → load_of cols room (unwrap_or old.records []) ≡ Err e) × ((row : ℕ) → e ≡ error.Reader row → row ≡ 0)
   by_failure None (is, next) = cc (next.1, none)
   by_failure (Some OutOfMemory) is = cc is
-  by_failure (Some (Fault why)) is = let same : e ≡ error.Reader 0 = cc is in rw same (λ fault. cc fault, λ row s. cc s)
+  by_failure (Some (Error why)) is = let same : e ≡ error.Reader 0 = cc is in rw same (λ fault. cc fault, λ row s. cc s)
 
 no_names : (cols : List Column) (known left : Option (List Fields)) (h : Fields) → TakesFirst known left true h → names cols h ≡ false → (room : ℕ) → load_of cols room (unwrap_or known []) ≡ Err error.Header
 no_names cols None left h gives other room = refl

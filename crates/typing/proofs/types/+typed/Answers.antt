@@ -1,8 +1,7 @@
 use borrow.Author.Count.{falls}
 use Rattle.std.proofs.Common.{◌∙◌, ◌<◌, ◌+◌, length, refl, sym, ap, subst, Ok, None, Some, true, arith, map}
 use Rattle.value.specs.Datum.{datum}
-use Rattle.row_ast.specs.View.{expr_of, exprs}
-use Rattle.row_ast.specs.View.{arms as arms_of}
+use Rattle.row_ast.specs.View.{expr_of, exprs, arms as arms_of}
 use Rattle.scope.specs.View.{entry_of}
 use Rattle.typing.specs.Typing.{negation_type, arithmetic_type, comparison_type, between_type, membership_type, null_check_type, not_type, cast_type, call_type, conditions_type, case_type, found_type, typed, typed_arms}
 use Rattle.scope.specs.Weights.{weight, all_weight, arms_weight}
@@ -13,21 +12,21 @@ use Rattle.typing.proofs.types.+typed.Goals as goal
 
 pub typed_members-loop-member-preserved : goal.typed_members-loop-member-preserved
 typed_members-loop-member-preserved g t c = record {
-  rest = member_step (map (λ e. entry_of e) c.args.entries.now) c.args.reach c.args.members.now c.loop-member.member-index c.member-item.result c.loop-member-test.true c.member-item.is c.loop-member.known _ c.typed.result _ c.loop-member.invariant.rest c.typed.ensures c.and_condition-known.ensures;
+  rest = member_step (map (λ e. entry_of e) c.args.entries.now) c.args.scope c.args.members.now c.loop-member.member-index c.member-item.result c.loop-member-test.true c.member-item.is c.loop-member.known _ c.typed.result _ c.loop-member.invariant.rest c.typed.ensures c.and_condition-known.ensures;
   lighter = exprs_still c.args.members.now c.loop-member.member-index c.member-item.result c.loop-member-test.true c.member-item.is c.loop-member.invariant.lighter;
 }
 
 pub typed_members-returns : goal.typed_members-returns
-typed_members-returns g t c = member_over (map (λ e. entry_of e) c.args.entries.now) c.args.reach c.args.members.now c.loop-member.member-index c.loop-member.known _ c.loop-member.invariant.rest (omega (arith, c.loop-member-test.false))
+typed_members-returns g t c = member_over (map (λ e. entry_of e) c.args.entries.now) c.args.scope c.args.members.now c.loop-member.member-index c.loop-member.known _ c.loop-member.invariant.rest (omega (arith, c.loop-member-test.false))
 
 pub typed_arms-loop-arm-preserved : goal.typed_arms-loop-arm-preserved
 typed_arms-loop-arm-preserved g t c = record {
-  rest = arm_step (map (λ e. entry_of e) c.args.entries.now) c.args.reach c.args.arms.now c.loop-arm.arm-index c.arm-item.result c.loop-arm-test.true c.arm-item.is c.loop-arm.known _ c.typed-when.result c.typed.result _ c.loop-arm.invariant.rest c.typed-when.ensures c.typed.ensures c.and_arm-known.ensures;
+  rest = arm_step (map (λ e. entry_of e) c.args.entries.now) c.args.scope c.args.arms.now c.loop-arm.arm-index c.arm-item.result c.loop-arm-test.true c.arm-item.is c.loop-arm.known _ c.typed-when.result c.typed.result _ c.loop-arm.invariant.rest c.typed-when.ensures c.typed.ensures c.and_arm-known.ensures;
   lighter = arms_still c.args.arms.now c.loop-arm.arm-index c.arm-item.result c.loop-arm-test.true c.arm-item.is c.loop-arm.invariant.lighter;
 }
 
 pub typed_arms-returns : goal.typed_arms-returns
-typed_arms-returns g t c = arm_over (map (λ e. entry_of e) c.args.entries.now) c.args.reach c.args.arms.now c.loop-arm.arm-index c.loop-arm.known _ c.loop-arm.invariant.rest (omega (arith, c.loop-arm-test.false))
+typed_arms-returns g t c = arm_over (map (λ e. entry_of e) c.args.entries.now) c.args.scope c.args.arms.now c.loop-arm.arm-index c.loop-arm.known _ c.loop-arm.invariant.rest (omega (arith, c.loop-arm-test.false))
 
 pub typed-typed_members-requires : goal.typed-typed_members-requires
 typed-typed_members-requires g t c κs within = (subst (λ n. all_weight (exprs c.deref-in-And.result.now) < n) c.decreases (lighter (expr_of c.args.expression.now) (all_weight (exprs c.deref-in-And.result.now)) (ap weight (and_is c.args.expression.now c.in-And.offset c.in-And.members c.deref-in-And.result.now c.deref-in-And.ensures.value c.in-And.is))), within)
@@ -49,8 +48,8 @@ typed-returns-in-Or g t c =
 pub typed-returns-in-Some : goal.typed-returns-in-Some
 typed-returns-in-Some g t c =
     rw (case_some c.args.expression.now c.in-Case.offset c.in-Case.arms c.deref-in-Case.result.now c.deref-in-Case.ensures.value c.in-Case.otherwise c.in-Case.is c.in-Some.value c.in-Some.is)
-    (c.case_type.ensures ∙ ap (λ r. case_type c.in-Case.offset r c.typed-in-Some.result) c.typed_arms-known.ensures ∙ ap (case_type c.in-Case.offset (typed_arms (map (λ e. entry_of e) c.args.entries.now) c.args.reach (Ok (true, Some None)) (arms_of c.deref-in-Case.result.now))) c.typed-in-Some.ensures
-    ∙ ap (λ e. case_type c.in-Case.offset (typed_arms (map (λ e. entry_of e) c.args.entries.now) c.args.reach (Ok (true, Some None)) (arms_of c.deref-in-Case.result.now)) (typed (map (λ e. entry_of e) c.args.entries.now) c.args.reach (expr_of e))) c.deref-in-Some.ensures)
+    (c.case_type.ensures ∙ ap (λ r. case_type c.in-Case.offset r c.typed-in-Some.result) c.typed_arms-known.ensures ∙ ap (case_type c.in-Case.offset (typed_arms (map (λ e. entry_of e) c.args.entries.now) c.args.scope (Ok (true, Some None)) (arms_of c.deref-in-Case.result.now))) c.typed-in-Some.ensures
+    ∙ ap (λ e. case_type c.in-Case.offset (typed_arms (map (λ e. entry_of e) c.args.entries.now) c.args.scope (Ok (true, Some None)) (arms_of c.deref-in-Case.result.now)) (typed (map (λ e. entry_of e) c.args.entries.now) c.args.scope (expr_of e))) c.deref-in-Some.ensures)
 
 pub typed-returns-in-None : goal.typed-returns-in-None
 typed-returns-in-None g t c =
@@ -116,28 +115,28 @@ pub typed-returns-in-Call : goal.typed-returns-in-Call
 typed-returns-in-Call g t c = rw (call_is c.args.expression.now c.in-Call.offset c.in-Call.argument c.deref-in-Call.result.now c.deref-in-Call.ensures c.in-Call.aggregate c.in-Call.is) (c.call_type.ensures ∙ ap (call_type c.in-Call.offset c.in-Call.aggregate) c.typed-in-Call.ensures)
 
 pub typed-returns-in-In : goal.typed-returns-in-In
-typed-returns-in-In g t c = rw (in_is c.args.expression.now c.in-In.offset c.in-In.operand c.deref-in-In.result.now c.deref-in-In.ensures c.in-In.negated c.in-In.values c.in-In.is) (c.membership_type.ensures ∙ ap (λ t. membership_type c.in-In.offset t (map datum c.as_slice.result.now)) c.typed-of.ensures ∙ ap (λ vs. membership_type c.in-In.offset (typed (map (λ e. entry_of e) c.args.entries.now) c.args.reach (expr_of c.deref-in-In.result.now)) (map datum vs)) c.as_slice.ensures)
+typed-returns-in-In g t c = rw (in_is c.args.expression.now c.in-In.offset c.in-In.operand c.deref-in-In.result.now c.deref-in-In.ensures c.in-In.negated c.in-In.values c.in-In.is) (c.membership_type.ensures ∙ ap (λ t. membership_type c.in-In.offset t (map datum c.as_slice.result.now)) c.typed-of.ensures ∙ ap (λ vs. membership_type c.in-In.offset (typed (map (λ e. entry_of e) c.args.entries.now) c.args.scope (expr_of c.deref-in-In.result.now)) (map datum vs)) c.as_slice.ensures)
 
 pub typed-returns-in-Arithmetic : goal.typed-returns-in-Arithmetic
-typed-returns-in-Arithmetic g t c = rw (arithmetic_is c.args.expression.now c.in-Arithmetic.offset c.in-Arithmetic.left c.in-Arithmetic.right c.deref-in-Arithmetic.result.now c.deref-in-Arithmetic.ensures c.deref-in-Arithmetic-2.result.now c.deref-in-Arithmetic-2.ensures c.in-Arithmetic.operator c.in-Arithmetic.is) (c.arithmetic_type.ensures ∙ ap (λ t. arithmetic_type c.in-Arithmetic.offset t c.typed-in-Arithmetic.result) c.typed-a.ensures ∙ ap (arithmetic_type c.in-Arithmetic.offset (typed (map (λ e. entry_of e) c.args.entries.now) c.args.reach (expr_of c.deref-in-Arithmetic.result.now))) c.typed-in-Arithmetic.ensures)
+typed-returns-in-Arithmetic g t c = rw (arithmetic_is c.args.expression.now c.in-Arithmetic.offset c.in-Arithmetic.left c.in-Arithmetic.right c.deref-in-Arithmetic.result.now c.deref-in-Arithmetic.ensures c.deref-in-Arithmetic-2.result.now c.deref-in-Arithmetic-2.ensures c.in-Arithmetic.operator c.in-Arithmetic.is) (c.arithmetic_type.ensures ∙ ap (λ t. arithmetic_type c.in-Arithmetic.offset t c.typed-in-Arithmetic.result) c.typed-a.ensures ∙ ap (arithmetic_type c.in-Arithmetic.offset (typed (map (λ e. entry_of e) c.args.entries.now) c.args.scope (expr_of c.deref-in-Arithmetic.result.now))) c.typed-in-Arithmetic.ensures)
 
 pub typed-returns-in-Comparison : goal.typed-returns-in-Comparison
-typed-returns-in-Comparison g t c = rw (comparison_is c.args.expression.now c.in-Comparison.offset c.in-Comparison.left c.in-Comparison.right c.deref-in-Comparison.result.now c.deref-in-Comparison.ensures c.deref-in-Comparison-2.result.now c.deref-in-Comparison-2.ensures c.in-Comparison.operator c.in-Comparison.is) (c.comparison_type.ensures ∙ ap (λ t. comparison_type c.in-Comparison.offset t c.typed-in-Comparison.result) c.typed-a-in-Comparison.ensures ∙ ap (comparison_type c.in-Comparison.offset (typed (map (λ e. entry_of e) c.args.entries.now) c.args.reach (expr_of c.deref-in-Comparison.result.now))) c.typed-in-Comparison.ensures)
+typed-returns-in-Comparison g t c = rw (comparison_is c.args.expression.now c.in-Comparison.offset c.in-Comparison.left c.in-Comparison.right c.deref-in-Comparison.result.now c.deref-in-Comparison.ensures c.deref-in-Comparison-2.result.now c.deref-in-Comparison-2.ensures c.in-Comparison.operator c.in-Comparison.is) (c.comparison_type.ensures ∙ ap (λ t. comparison_type c.in-Comparison.offset t c.typed-in-Comparison.result) c.typed-a-in-Comparison.ensures ∙ ap (comparison_type c.in-Comparison.offset (typed (map (λ e. entry_of e) c.args.entries.now) c.args.scope (expr_of c.deref-in-Comparison.result.now))) c.typed-in-Comparison.ensures)
 
 pub typed-returns-in-Between : goal.typed-returns-in-Between
-typed-returns-in-Between g t c = rw (between_is c.args.expression.now c.in-Between.offset c.in-Between.operand c.in-Between.low c.deref-in-Between.result.now c.deref-in-Between.ensures c.deref-in-Between-2.result.now c.deref-in-Between-2.ensures c.in-Between.high c.deref-in-Between-3.result.now c.deref-in-Between-3.ensures c.in-Between.negated c.in-Between.is) (c.between_type.ensures ∙ ap (λ t. between_type c.in-Between.offset t c.typed-low.result c.typed-high.result) c.typed-operand.ensures ∙ ap (λ t. between_type c.in-Between.offset (typed (map (λ e. entry_of e) c.args.entries.now) c.args.reach (expr_of c.deref-in-Between.result.now)) t c.typed-high.result) c.typed-low.ensures ∙ ap (between_type c.in-Between.offset (typed (map (λ e. entry_of e) c.args.entries.now) c.args.reach (expr_of c.deref-in-Between.result.now)) (typed (map (λ e. entry_of e) c.args.entries.now) c.args.reach (expr_of c.deref-in-Between-2.result.now))) c.typed-high.ensures)
+typed-returns-in-Between g t c = rw (between_is c.args.expression.now c.in-Between.offset c.in-Between.operand c.in-Between.low c.deref-in-Between.result.now c.deref-in-Between.ensures c.deref-in-Between-2.result.now c.deref-in-Between-2.ensures c.in-Between.high c.deref-in-Between-3.result.now c.deref-in-Between-3.ensures c.in-Between.negated c.in-Between.is) (c.between_type.ensures ∙ ap (λ t. between_type c.in-Between.offset t c.typed-low.result c.typed-high.result) c.typed-operand.ensures ∙ ap (λ t. between_type c.in-Between.offset (typed (map (λ e. entry_of e) c.args.entries.now) c.args.scope (expr_of c.deref-in-Between.result.now)) t c.typed-high.result) c.typed-low.ensures ∙ ap (between_type c.in-Between.offset (typed (map (λ e. entry_of e) c.args.entries.now) c.args.scope (expr_of c.deref-in-Between.result.now)) (typed (map (λ e. entry_of e) c.args.entries.now) c.args.scope (expr_of c.deref-in-Between-2.result.now))) c.typed-high.ensures)
 
 pub typed-returns-in-Column : goal.typed-returns-in-Column
-typed-returns-in-Column g t c = ap Ok (c.found_type.ensures ∙ ap (found_type (map (λ e. entry_of e) c.args.entries.now)) c.find_column.ensures) ∙ sym (ap (λ e. typed (map (λ e. entry_of e) c.args.entries.now) c.args.reach (expr_of e)) c.in-Column.is)
+typed-returns-in-Column g t c = ap Ok (c.found_type.ensures ∙ ap (found_type (map (λ e. entry_of e) c.args.entries.now)) c.find_column.ensures) ∙ sym (ap (λ e. typed (map (λ e. entry_of e) c.args.entries.now) c.args.scope (expr_of e)) c.in-Column.is)
 
 pub typed-returns-in-Literal : goal.typed-returns-in-Literal
-typed-returns-in-Literal g t c = ap Ok c.type_of.ensures ∙ sym (ap (λ e. typed (map (λ e. entry_of e) c.args.entries.now) c.args.reach (expr_of e)) c.in-Literal.is)
+typed-returns-in-Literal g t c = ap Ok c.type_of.ensures ∙ sym (ap (λ e. typed (map (λ e. entry_of e) c.args.entries.now) c.args.scope (expr_of e)) c.in-Literal.is)
 
 pub typed-returns-in-CurrentUser : goal.typed-returns-in-CurrentUser
-typed-returns-in-CurrentUser g t c = sym (ap (λ e. typed (map (λ e. entry_of e) c.args.entries.now) c.args.reach (expr_of e)) c.in-CurrentUser.is)
+typed-returns-in-CurrentUser g t c = sym (ap (λ e. typed (map (λ e. entry_of e) c.args.entries.now) c.args.scope (expr_of e)) c.in-CurrentUser.is)
 
 pub typed-returns-in-CountStar : goal.typed-returns-in-CountStar
-typed-returns-in-CountStar g t c = sym (ap (λ e. typed (map (λ e. entry_of e) c.args.entries.now) c.args.reach (expr_of e)) c.in-CountStar.is)
+typed-returns-in-CountStar g t c = sym (ap (λ e. typed (map (λ e. entry_of e) c.args.entries.now) c.args.scope (expr_of e)) c.in-CountStar.is)
 
 -- ---- the loops
 

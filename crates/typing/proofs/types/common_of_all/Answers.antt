@@ -1,7 +1,7 @@
 use Rattle.std.proofs.Common.{◌∙◌, ap, refl, arith}
 use Rattle.value.specs.Datum.{datum}
 use Rattle.typing.specs.Typing.{common_of_all, common_with, type_of}
-use Rattle.scope.proofs.Lists.{known_next}
+use Rattle.memory.proofs.Lists.{known_next}
 use Rattle.typing.proofs.Walks.{known_over}
 use Rattle.typing.proofs.types.common_of_all.Goals as goal
 

@@ -1,7 +1,7 @@
 use Rattle.std.proofs.Common.{◌≡◌, ◌<◌, ℕ, false, List, [], ◌∷◌, ◌++◌, length, map, Result, Ok, Err, OnOk, OnErr, refl, sym, ap, ◌∙◌, subst, arith}
 use Rattle.std.proofs.lemmas.List.{length-map}
 use Rattle.std.specs.Str.{bytes_eq}
-use Rattle.row_ast.specs.Ast.{Name}
+use Rattle.value.specs.Names.{Name}
 use Rattle.memberships.specs.Memberships.{Membership, most_roles}
 use Rattle.memberships.specs.View.{membership_of}
 use Rattle.row_objects.specs.Objects.{Table}
@@ -9,7 +9,7 @@ use Rattle.row_objects.specs.View.{role_of, table_entry}
 use Rattle.row_objects.specs.declared.objects.Role.{Role}
 use Rattle.catalog.specs.Catalog.{Catalog, is_role}
 use Rattle.catalog.specs.CreateRole.{after_create_role}
-use Rattle.row_objects.proofs.Places.{one_more}
+use Rattle.row_objects.proofs.Positions.{one_more}
 use Rattle.catalog.proofs.MoreRoles.{roles_after}
 use Rattle.catalog.proofs.Named.{none_there}
 use Rattle.catalog.proofs.catalog.Catalog.add_role.Goals as goal

@@ -6,7 +6,7 @@ use Rattle.row_objects.specs.Objects.{Role, Table}
 use Rattle.memberships.specs.View.{membership_of}
 use Rattle.row_objects.specs.View.{role_of, table_entry}
 use Rattle.catalog.specs.Catalog.{Catalog, is_table}
-use Rattle.row_objects.proofs.Places.{one_more}
+use Rattle.row_objects.proofs.Positions.{one_more}
 use Rattle.catalog.proofs.Named.{none_there}
 use Rattle.catalog.proofs.catalog.Catalog.add_table.Goals as goal
 

@@ -2,7 +2,7 @@ use Rattle.std.proofs.Common.{◌≡◌, ◌⊎◌, inr, ℕ, ◌+◌, ◌<◌, 
 use Rattle.std.proofs.lemmas.Bool.Decides.{nat_tests}
 use Rattle.value.specs.declared.refusal.Refusal.{Refusal}
 use Rattle.value.specs.declared.refusal.Refusal.TheVariants as r
-use Rattle.row_ast.specs.Ast.{Name}
+use Rattle.value.specs.Names.{Name}
 use Rattle.row_ast.specs.Statements.{Statement}
 use Rattle.row_ast.specs.View.{statement_of}
 use Rattle.catalog.specs.Catalog.{Catalog, is_role}

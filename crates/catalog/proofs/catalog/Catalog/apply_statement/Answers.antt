@@ -1,7 +1,7 @@
 use Rattle.std.proofs.Common.{◌≡◌, inr, true, false, map, Result, Ok, Err, refl, sym, ap, ◌∙◌, true≢false}
 use Rattle.value.specs.Columns.{column_of}
 use Rattle.value.specs.declared.refusal.Refusal.{Refusal}
-use Rattle.row_ast.specs.Ast.{Name}
+use Rattle.value.specs.Names.{Name}
 use Rattle.row_ast.specs.Statements.{Statement, CreateRole, GrantRole, RevokeRole, CreateTable, SetOwner, SetRowSecurity, CreateIndex, GrantSelect, RevokeSelect, CreatePolicy, DropPolicy}
 use Rattle.row_ast.specs.View.{statement_of}
 use Rattle.catalog.specs.Catalog.{Catalog}

@@ -11,7 +11,7 @@ returns-in-Err g c = (refl, refused_or (first_refusal (checks_create_policy c.ar
 
 pub returns-in-Ok-add_policy_at : goal.returns-in-Ok-add_policy_at
 returns-in-Ok-add_policy_at g c =
-    due_policy c.args.self.now c.add_policy_at.new.self (create_policy_of c.args.policy.now) (first_refusal (checks_create_policy c.args.self.now c.args.actor.now (create_policy_of c.args.policy.now))) (c.in-Ok.place, c.in-Ok.predicate)
+    due_policy c.args.self.now c.add_policy_at.new.self (create_policy_of c.args.policy.now) (first_refusal (checks_create_policy c.args.self.now c.args.actor.now (create_policy_of c.args.policy.now))) (c.in-Ok.index, c.in-Ok.predicate)
     c.in-Ok.ensures.checked c.in-Ok-add_policy_at.ensures.done
 
 pub returns-in-Err-add_policy_at : goal.returns-in-Err-add_policy_at

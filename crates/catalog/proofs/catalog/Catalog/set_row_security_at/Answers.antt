@@ -6,10 +6,10 @@ use Rattle.catalog.proofs.TableChanges.{below, changed}
 use Rattle.catalog.proofs.catalog.Catalog.set_row_security_at.Goals as goal
 
 pub set_row_security-requires : goal.set_row_security-requires
-set_row_security-requires g c = below (λ t. table_entry t) c.self.inside.tables c.args.self.now c.args.place (ap (λ (k : Catalog). k.tables) c.self.view_is) c.requires
+set_row_security-requires g c = below (λ t. table_entry t) c.self.inside.tables c.args.self.now c.args.index (ap (λ (k : Catalog). k.tables) c.self.view_is) c.requires
 
 pub invariant_of-self : goal.invariant_of-self
 invariant_of-self g c = c.self.invariant
 
 pub returns : goal.returns
-returns g c = changed _ c.args.self.now c.self.view_is (changed_at c.args.place (with_row_security c.args.setting)) _ c.set_row_security.ensures
+returns g c = changed _ c.args.self.now c.self.view_is (changed_at c.args.index (with_row_security c.args.setting)) _ c.set_row_security.ensures

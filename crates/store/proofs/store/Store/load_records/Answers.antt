@@ -1,24 +1,26 @@
-use Rattle.std.proofs.Common.{[], Err, map, sym, refl}
+use Rattle.std.proofs.Common.{◌≡◌, [], Err, map, sym, refl, ap, ◌∙◌}
+use Rattle.std.proofs.Math.Seq.{map-set_same}
 use Rattle.store.specs.Database.{is_named}
 use Rattle.store.specs.View.{stored_of}
 use Rattle.store.proofs.Places.{none_found}
-use Rattle.store.proofs.Loads.{IfSome-all, IfSome-map, rows_loaded, fault_reported, stops_loaded}
+use Rattle.store.proofs.Agreement.{columns_kept}
+use Rattle.store.proofs.Loads.{IfSome-all, IfSome-map, rows_loaded, fault_reported, same_database, stops_loaded}
 use Rattle.store.proofs.store.Store.load_records.Goals as goal
 use Rattle.store.proofs.store.Store.load_records.Goals.{in-Ok, in-Err}
 
 pub returns-in_default-clause-exact : goal.returns-in_default-clause-exact
 returns-in_default-clause-exact g c =
-    λ fine. rw (← c.self.view_is) (IfSome-all c.args.records.now.records _ (λ recs. none_found (is_named c.args.table.now) _ (sym (rw c.deref.ensures.value at c.in_default.ensures.place))))
+    λ fine. IfSome-all c.args.records.now.records _ (λ recs. none_found (is_named c.args.table.now) _ (sym c.in_default.ensures.index))
 
 pub returns-in_default-clause-some_records : goal.returns-in_default-clause-some_records
 returns-in_default-clause-some_records g c =
-    λ fine. rw (← c.self.view_is) ([], none_found (is_named c.args.table.now) _ (sym (rw c.deref.ensures.value at c.in_default.ensures.place)), tt)
+    λ fine. ([], none_found (is_named c.args.table.now) _ (sym c.in_default.ensures.index), tt)
 
 pub returns-clause-exact : goal.returns-clause-exact
 returns-clause-exact g c =
     λ fine.
     let entries = c.self.inside.tables.items in
-    let at = sym (rw c.deref.ensures.value at c.in-Some.ensures.place) in
+    let at = sym (rw (← c.self.view_is) at c.in-Some.ensures.index) in
     elim c.match-append_records.branch [
       | in-Ok w ↦ rw (← c.self.view_is, w.result-is) (IfSome-map c.args.records.now.records _ _ (λ recs h. rows_loaded (λ e. stored_of e) c.args.table.now c.index_mut.result.now entries c.in-Some.i at c.index_mut.ensures.value recs _ _ refl c.append_records.ensures.columns h) ((rw w.in-Ok.is at c.append_records.ensures.exact) fine))
       | in-Err w ↦ rw (← c.self.view_is, w.result-is, w.store_failure.ensures) (IfSome-map c.args.records.now.records _ _ (λ recs h. fault_reported (λ e. stored_of e) c.args.table.now c.index_mut.result.now entries c.in-Some.i at c.index_mut.ensures.value recs (map (λ e. stored_of e) entries) _ h) ((rw w.in-Err.is at c.append_records.ensures.exact) fine))
@@ -28,7 +30,7 @@ pub returns-clause-some_records : goal.returns-clause-some_records
 returns-clause-some_records g c =
     λ fine.
     let entries = c.self.inside.tables.items in
-    let at = sym (rw c.deref.ensures.value at c.in-Some.ensures.place) in
+    let at = sym (rw (← c.self.view_is) at c.in-Some.ensures.index) in
     elim c.match-append_records.branch [
       | in-Ok w ↦ let h = (rw w.in-Ok.is at c.append_records.ensures.some_records) fine in rw (← c.self.view_is, w.result-is) (h.0, rows_loaded (λ e. stored_of e) c.args.table.now c.index_mut.result.now entries c.in-Some.i at c.index_mut.ensures.value h.0 _ _ refl c.append_records.ensures.columns h.1, h.2)
       | in-Err w ↦ let h = (rw w.in-Err.is at c.append_records.ensures.some_records) fine in rw (← c.self.view_is, w.result-is, w.store_failure.ensures) (h.0, fault_reported (λ e. stored_of e) c.args.table.now c.index_mut.result.now entries c.in-Some.i at c.index_mut.ensures.value h.0 (map (λ e. stored_of e) entries) _ h.1, tt)
@@ -37,8 +39,21 @@ returns-clause-some_records g c =
 pub returns-clause-stops : goal.returns-clause-stops
 returns-clause-stops g c =
     let entries = c.self.inside.tables.items in
-    let at = sym (rw c.deref.ensures.value at c.in-Some.ensures.place) in
+    let at = sym (rw (← c.self.view_is) at c.in-Some.ensures.index) in
     elim c.match-append_records.branch [
       | in-Ok w ↦ rw w.result-is (IfSome-all c.args.records.now.records _ (λ recs. tt))
       | in-Err w ↦ rw (← c.self.view_is, w.result-is, w.store_failure.ensures) (IfSome-map c.args.records.now.records _ _ (λ recs h. stops_loaded (λ e. stored_of e) c.args.table.now c.index_mut.result.now entries c.in-Some.i at c.index_mut.ensures.value recs (Err _) h) (rw w.in-Err.is at c.append_records.ensures.stops))
+    ]
+
+pub invariant_of-self : goal.invariant_of-self
+invariant_of-self g c = columns_kept (λ e. stored_of e) c.self.inside.tables.items c.in-Some.i c.index_mut.result.now _ c.index_mut.ensures.value refl c.append_records.ensures.columns ∙ c.self.invariant
+
+pub returns-clause-unchanged : goal.returns-clause-unchanged
+returns-clause-unchanged g c =
+    elim c.match-append_records.branch [
+      | in-Ok w ↦ rw w.result-is tt
+      | in-Err w ↦
+          let kept : c.append_records.new.self ≡ c.index_mut.result.now.contents = rw w.in-Err.is at c.append_records.ensures.unchanged in
+          let entry = ap (λ t. (c.index_mut.result.now.name, t)) kept ∙ ap (λ e. stored_of e) c.index_mut.ensures.value in
+          rw (w.result-is, ← c.self.view_is) (same_database _ _ _ _ refl (map-set_same (λ e. stored_of e) c.self.inside.tables.items c.in-Some.i _ c.index_mut.result.now entry))
     ]

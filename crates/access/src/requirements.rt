@@ -1,0 +1,122 @@
+//! The privileges that a query needs.
+
+ghost use Rattle.std.specs.Prelude.{◌≡◌, ◌++◌, OnOk, IfOk, map, option_map, option_to_list, slice_get};
+ghost use Rattle.std.specs.List.{list_any};
+ghost use Rattle.access.specs.View.{privilege_of};
+ghost use Rattle.expr.specs.View.{bound_query_of};
+ghost use Rattle.scope.specs.View.{entry_of};
+ghost use Rattle.access.specs.Needed as spec;
+
+use crate::mentions::{Mention, mentions};
+use crate::privileges::RequiredPrivilege;
+use expr::BoundQuery;
+use memory::{Heap, Items};
+use scope::Entry;
+use std::alloc::AllocError;
+
+fn is_column_of(mention: Mention, entry: usize) -> bool
+    ensures { result ≡ spec.is_column_of entry mention }
+{
+    match mention {
+        Mention::From { .. } => false,
+        Mention::Column { id } => id.entry == entry,
+    }
+}
+
+fn is_named(mentions: &[Mention], entry: usize) -> bool
+    ensures { result ≡ list_any (spec.is_column_of entry) mentions.now }
+{
+    for mention in mentions {
+        if is_column_of(*mention, entry) {
+            return true;
+        }
+    }
+    false
+}
+
+fn on_column<'s, A: Heap>(entry: &Entry<'s, A>, column: usize) -> Option<RequiredPrivilege<'s, A>>
+    ensures { option_map (λ p. privilege_of p) result ≡ spec.on_column column (entry_of entry.now) }
+{
+    match entry.table.columns().get(column) {
+        Some(column) => Some(RequiredPrivilege {
+            table: entry.table,
+            column: Some(&column.name),
+        }),
+        None => None,
+    }
+}
+
+fn entry_at<'a, 's, A: Heap>(entries: &'a [Entry<'s, A>], number: usize) -> Option<&'a Entry<'s, A>>
+    ensures { option_map (λ e. entry_of e.now) result ≡ slice_get (map (λ e. entry_of e) entries.now) number }
+{
+    entries.get(number)
+}
+
+fn required_by<'s, A: Heap>(
+    entries: &[Entry<'s, A>],
+    mentions: &[Mention],
+    mention: Mention,
+) -> Option<RequiredPrivilege<'s, A>>
+    ensures { option_map (λ p. privilege_of p) result ≡ spec.required_by (map (λ e. entry_of e) entries.now) mentions.now mention }
+{
+    match mention {
+        Mention::From { entry } => {
+            if is_named(mentions, entry) {
+                return None;
+            }
+            match entry_at(entries, entry) {
+                Some(entry) => Some(RequiredPrivilege {
+                    table: entry.table,
+                    column: None,
+                }),
+                None => None,
+            }
+        }
+        Mention::Column { id } => match entry_at(entries, id.entry) {
+            Some(entry) => on_column(entry, id.column),
+            None => None,
+        },
+    }
+}
+
+fn push_required<'s, A: Heap>(
+    required: &mut Items<RequiredPrivilege<'s, A>, A>,
+    privilege: Option<RequiredPrivilege<'s, A>>,
+) -> Result<(), AllocError>
+    ensures { OnOk result (map (λ p. privilege_of p) required.new ≡ map (λ p. privilege_of p) required.old ++ option_to_list (option_map (λ p. privilege_of p) privilege.entry)) }
+{
+    match privilege {
+        Some(privilege) => {
+            required.push(privilege)?;
+            Ok(())
+        }
+        None => Ok(()),
+    }
+}
+
+fn required<'s, A: Heap>(
+    alloc: A,
+    entries: &[Entry<'s, A>],
+    mentions: &[Mention],
+) -> Result<Items<RequiredPrivilege<'s, A>, A>, AllocError>
+    ensures { IfOk result (λ required. map (λ p. privilege_of p) required ≡ spec.required (map (λ e. entry_of e) entries.now) mentions.now) }
+{
+    let mut required = Items::new(alloc);
+    for mention in mentions {
+        push_required(&mut required, required_by(entries, mentions, *mention))?;
+    }
+    Ok(required)
+}
+
+/// The privileges that a query needs, in written order: of each column that it names SELECT on the column, at a `*` on
+/// all columns of all entries, and at an entry of which no column is named on any part of its table.
+pub fn needed<'s, A: Heap>(
+    alloc: A,
+    entries: &[Entry<'s, A>],
+    query: &BoundQuery<A>,
+) -> Result<Items<RequiredPrivilege<'s, A>, A>, AllocError>
+    ensures { IfOk result (λ required. map (λ p. privilege_of p) required ≡ spec.needed (map (λ e. entry_of e) entries.now) (bound_query_of query.now)) }
+{
+    let mentions = mentions(alloc, query)?;
+    required(alloc, entries, mentions.as_slice())
+}

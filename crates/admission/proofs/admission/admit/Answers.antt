@@ -1,4 +1,0 @@
-use Rattle.admission.proofs.admission.admit.Goals as goal
-
-pub returns-in-Ok : goal.returns-in-Ok
-returns-in-Ok g c = rw c.in-Ok.ensures c.unless_denied.ensures

@@ -1,0 +1,3 @@
+pub mod Carets
+pub mod Diagnosis
+pub mod Meanings

@@ -1,8 +1,0 @@
-use Rattle.std.proofs.Common.{◌≡◌, [], drop, map}
-use Rattle.from_clause.specs.Entries.{entries_in}
-use Rattle.scope.specs.View.{entry_of}
-use Rattle.from_clause.specs.View.{joined_table_of}
-use Rattle.from_clause.proofs.from.entries_in.Given as goal
-
-abbrev pub invariant-loop-joined : goal.invariant-loop-joined
-invariant-loop-joined g l = entries_in l.catalog (map (λ e. entry_of e) l.entries) (map (λ j. joined_table_of j) (drop l.joined-index l.tables)) ≡ entries_in l.catalog [] (map (λ j. joined_table_of j) l.tables)

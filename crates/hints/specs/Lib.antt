@@ -1,3 +1,0 @@
-pub mod Meanings
-pub mod Places
-pub mod Hint

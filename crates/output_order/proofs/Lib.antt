@@ -1,2 +1,0 @@
-pub mod FirstRows
-pub mod OutputOrder

@@ -1,2 +1,0 @@
-pub mod Conjoined
-pub mod Marked

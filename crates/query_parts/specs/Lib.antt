@@ -1,2 +1,0 @@
-pub mod Conjuncts
-pub mod Needed

@@ -1,4 +1,0 @@
-use Rattle.requests.proofs.explanation.hint_for.Goals as goal
-
-pub returns-in-Some : goal.returns-in-Some
-returns-in-Some g c = let known = rw (c.catalog.ensures, c.in-Some.is) at c.in_ok-reply.ensures in rw (← known) c.hint.ensures

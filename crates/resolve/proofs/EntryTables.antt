@@ -1,0 +1,74 @@
+-- The entries of FROM are of tables of the catalogue.
+use Rattle.std.proofs.Common.{◌≡◌, Bool, true, false, cond, List, [], ◌∷◌, ◌++◌, find, Option, Some, None, Result, Ok, Err, refl, sym, subst, ap, ◌∙◌}
+use Rattle.std.proofs.lemmas.Slice.Eq.{bytes_eq-Decides}
+use Rattle.std.specs.Str.{bytes_eq}
+use Rattle.value.specs.declared.refusal.Refusal.TheVariants as r
+use Rattle.row_ast.specs.Ast as ast
+use Rattle.value.specs.Names.{Name}
+use Rattle.row_objects.specs.Objects.{Table}
+use Rattle.catalog.specs.Catalog.{Catalog, table_named}
+use Rattle.scope.specs.declared.error.BindError.{BindError}
+use Rattle.expr.specs.declared.query.OutputKey.{OutputKey}
+use Rattle.scope.specs.Entry.{Entry, and_then, fault}
+use Rattle.expr.specs.BoundQuery.{BoundQuery}
+use Rattle.resolve.specs.Entries.{JoinedTable, alias_of, entries, entries_in, entry_in, found_entry, is_used, joined}
+use Rattle.typing.specs.Clauses.{clause_error}
+use Rattle.resolve.specs.BoundQueries.{bound_query}
+use Rattle.resolve.specs.OrderBy.{output_keys}
+use Rattle.resolve.specs.Resolved.{Bound, bound, bound_with, checked, ordered, unless_fault, with_order}
+use Rattle.resolve.specs.EntryTables.{AreTables, BindsTables}
+
+-- what is given at the end was given on the way
+module _ {X Y E : Type 0} (f : X → Result Y E) (y : Y) where
+  pub given : (r : Result X E) → and_then r f ≡ Ok y → (x : X) × (r ≡ Ok x) × (f x ≡ Ok y)
+  given (Ok x) e = (x, refl, e)
+  given (Err x) e = absurd (cc)
+
+-- what is found passes the test
+found_passes : {X : Type 0} (p : X → Bool) (xs : List X) (x : X) → find p xs ≡ Some x → p x ≡ true
+found_passes p [] x e = absurd (cc)
+found_passes p (y ∷ ys) x e = go (p y) refl e (found_passes p ys x)
+  where
+    go : (b : Bool) → p y ≡ b → cond b (Some y) (find p ys) ≡ Some x → (find p ys ≡ Some x → p x ≡ true) → p x ≡ true
+    go true is e more = let same : y ≡ x = cc in ap p (sym same) ∙ is
+    go false is e more = more e
+
+module _ (cat : Catalog) where
+  by_own_name : (name : Name) (t : Table) → table_named name cat ≡ Some t → table_named t.name cat ≡ Some t
+  by_own_name name t e =
+      let same : name ≡ t.name = (bytes_eq-Decides name t.name).0 (found_passes (λ t. bytes_eq name t.name) cat.tables t e) in
+      subst (λ n. table_named n cat ≡ Some t) same e
+
+  of_found : (before : List Entry) (j : JoinedTable) (e : Entry) (o : Option Table) → table_named j.table.table cat ≡ o → found_entry before j o ≡ Ok e → table_named e.table.name cat ≡ Some e.table
+  of_found before j e None is h = absurd (cc)
+  of_found before j e (Some t) is h = go (is_used (alias_of j.table) before) h
+    where
+      go : (b : Bool) → cond b (Err (fault r.DuplicateAlias j.table.offset)) (Ok record { table = t; alias = alias_of j.table; first = j.first; on = j.on }) ≡ Ok e → table_named e.table.name cat ≡ Some e.table
+      go true h = absurd (cc)
+      go false h = let same : t ≡ e.table = cc in subst (λ (t : Table). table_named t.name cat ≡ Some t) same (by_own_name j.table.table t is)
+
+  one_more : (before : List Entry) (e : Entry) → AreTables cat before → table_named e.table.name cat ≡ Some e.table → AreTables cat (before ++ e ∷ [])
+  one_more [] e h is = (is, tt)
+  one_more (b ∷ before) e h is = (h.0, one_more before e h.1 is)
+
+  all_found : (before : List Entry) (js : List JoinedTable) (es : List Entry) → AreTables cat before → entries_in cat before js ≡ Ok es → AreTables cat es
+  all_found before [] es h e = let same : before ≡ es = cc in subst (AreTables cat) same h
+  all_found before (j ∷ more) es h e =
+      let step = given (λ e. entries_in cat (before ++ e ∷ []) more) es (entry_in cat before j) e in
+      all_found (before ++ step.0 ∷ []) more es (one_more before step.0 h (of_found before j step.0 _ refl step.1)) step.2
+
+-- binding keeps the entries
+of_keys : (es : List Entry) (q : BoundQuery) (b : Bound) (keys : List OutputKey) → ◌≡◌ {A = Result Bound BindError} (Ok record { entries = es; query = with_order q keys }) (Ok b) → es ≡ b.entries
+of_keys es q b keys e = cc
+
+same_entries : (es : List Entry) (q : ast.Query) (b : Bound) → bound_with q es ≡ Ok b → es ≡ b.entries
+same_entries es q b e =
+    let columns = given (checked es q) b (bound_query es q) e in
+    let types = given (ordered es q) b (unless_fault (clause_error es columns.0.group_by q) columns.0) columns.2 in
+    let keys = given (λ keys. Ok record { entries = es; query = with_order types.0 keys }) b (output_keys types.0.items [] q.order_by) types.2 in
+    of_keys es types.0 b keys.0 keys.2
+
+pub binds_tables : BindsTables
+binds_tables cat q b e =
+    let found = given (bound_with q) b (entries cat q.from) e in
+    subst (AreTables cat) (same_entries found.0 q b found.2) (all_found cat [] (joined [] q.from) found.0 tt found.1)

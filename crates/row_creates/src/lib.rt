@@ -1,6 +1,0 @@
-//! CREATE statements, from tokens.
-#![tactic(auto)]
-
-mod creating;
-
-pub use creating::create;

@@ -1,0 +1,203 @@
+//! The set of grants on a table and its columns (PostgreSQL: GRANT, REVOKE).
+
+ghost use Rattle.std.specs.Prelude.{◌≡◌, IfOk, OnErr, OnOk, Some, map, not, option_copied};
+ghost use Rattle.std.specs.Str.{bytes_eq};
+ghost use Rattle.std.specs.List.{list_any};
+ghost use Rattle.row_objects.specs.Grants.{grants_to, grants_to_all, has_grant, is_revoked, same_grant, takes, with_grant, with_grants, without_grants, IsFront};
+ghost use Rattle.row_objects.specs.View.{grant_of};
+
+use memory::{Heap, Items, Text};
+use std::alloc::AllocError;
+use std::mem::replace;
+
+/// SELECT on a column, or on the whole table, for a role or for everyone (PostgreSQL: GRANT).
+#[derive(Drop)]
+pub struct Grant<A: Heap> {
+    /// The role, `public` for all.
+    pub to: Text<A>,
+    /// The column; without one the whole table.
+    pub column: Option<Text<A>>,
+}
+
+// ---- more grants
+
+fn is_same<A: Heap>(grant: &Grant<A>, to: &str, column: Option<&str>) -> bool
+    ensures { result ≡ same_grant (grant_of grant.now) (record { to = to.now; column = option_copied column.entry }) }
+{
+    if grant.to.as_str() != to {
+        return false;
+    }
+    match (&grant.column, column) {
+        (None, None) => true,
+        (Some(name), Some(other)) => name.as_str() == other,
+        (None, Some(_)) | (Some(_), None) => false,
+    }
+}
+
+fn has_grant<A: Heap>(grants: &[Grant<A>], to: &str, column: Option<&str>) -> bool
+    ensures { result ≡ has_grant (map (λ g. grant_of g) grants.now) (record { to = to.now; column = option_copied column.entry }) }
+{
+    for grant in grants {
+        if is_same(grant, to, column) {
+            return true;
+        }
+    }
+    false
+}
+
+fn copy_name<A: Heap>(alloc: A, name: Option<&str>) -> Result<Option<Text<A>>, AllocError>
+    ensures { IfOk result (λ copy. copy ≡ option_copied name.entry) }
+{
+    match name {
+        None => Ok(None),
+        Some(name) => Ok(Some(Text::new(alloc, name)?)),
+    }
+}
+
+fn push_grant<A: Heap>(
+    alloc: A,
+    grants: &mut Vec<Grant<A>, A>,
+    to: &str,
+    column: Option<&str>,
+) -> Result<(), AllocError>
+    ensures done { OnOk result (map (λ g. grant_of g) grants.new.items ≡ with_grant (map (λ g. grant_of g) grants.old.items) (record { to = to.now; column = option_copied column.entry })) }
+    ensures front { IsFront grants.old.items grants.new.items }
+{
+    if has_grant(grants.as_slice(), to, column) {
+        return Ok(());
+    }
+    let to = Text::new(alloc, to)?;
+    let column = copy_name(alloc, column)?;
+    grants.push(Grant { to, column })?;
+    Ok(())
+}
+
+fn push_columns<A: Heap>(
+    alloc: A,
+    grants: &mut Vec<Grant<A>, A>,
+    to: &str,
+    columns: &[Text<A>],
+) -> Result<(), AllocError>
+    ensures done { OnOk result (map (λ g. grant_of g) grants.new.items ≡ with_grants (map (λ g. grant_of g) grants.old.items) (grants_to (Some columns.now) to.now)) }
+    ensures front { IsFront grants.old.items grants.new.items }
+{
+    for column in columns {
+        push_grant(alloc, grants, to, Some(column.as_str()))?;
+    }
+    Ok(())
+}
+
+fn push_to<A: Heap>(
+    alloc: A,
+    grants: &mut Vec<Grant<A>, A>,
+    to: &str,
+    columns: &Option<Items<Text<A>, A>>,
+) -> Result<(), AllocError>
+    ensures done { OnOk result (map (λ g. grant_of g) grants.new.items ≡ with_grants (map (λ g. grant_of g) grants.old.items) (grants_to columns.now to.now)) }
+    ensures front { IsFront grants.old.items grants.new.items }
+{
+    match columns {
+        None => push_grant(alloc, grants, to, None),
+        Some(columns) => push_columns(alloc, grants, to, columns.as_slice()),
+    }
+}
+
+fn push_all<A: Heap>(
+    alloc: A,
+    grants: &mut Vec<Grant<A>, A>,
+    columns: &Option<Items<Text<A>, A>>,
+    roles: &[Text<A>],
+) -> Result<(), AllocError>
+    ensures done { OnOk result (map (λ g. grant_of g) grants.new.items ≡ with_grants (map (λ g. grant_of g) grants.old.items) (grants_to_all columns.now roles.now)) }
+    ensures front { IsFront grants.old.items grants.new.items }
+{
+    for role in roles {
+        push_to(alloc, grants, role.as_str(), columns)?;
+    }
+    Ok(())
+}
+
+/// Adds grants to roles on the whole table, or on each of the columns. One that is there already stays as it is. The
+/// grants stay as they were where memory runs out: those that were added are cut off.
+pub fn add_grants<A: Heap>(
+    alloc: A,
+    grants: &mut Items<Grant<A>, A>,
+    columns: &Option<Items<Text<A>, A>>,
+    roles: &[Text<A>],
+) -> Result<(), AllocError>
+    ensures done { OnOk result (map (λ g. grant_of g) grants.new ≡ with_grants (map (λ g. grant_of g) grants.old) (grants_to_all columns.now roles.now)) }
+    ensures unchanged { OnErr result (grants.new ≡ grants.old) }
+{
+    let mut list = replace(grants, Items::new(alloc)).into_vec();
+    let before = list.len();
+    match push_all(alloc, &mut list, columns, roles) {
+        Ok(()) => {
+            *grants = Items::from(list);
+            Ok(())
+        }
+        Err(e) => {
+            list.truncate(before);
+            *grants = Items::from(list);
+            Err(e)
+        }
+    }
+}
+
+// ---- fewer grants
+
+fn is_among<A: Heap>(names: &[Text<A>], name: &str) -> bool
+    ensures { result ≡ list_any (bytes_eq name.now) names.now }
+{
+    for other in names {
+        if name == other.as_str() {
+            return true;
+        }
+    }
+    false
+}
+
+fn takes<A: Heap>(columns: &Option<Items<Text<A>, A>>, column: &Option<Text<A>>) -> bool
+    ensures { result ≡ takes columns.now column.now }
+{
+    match columns {
+        None => true,
+        Some(columns) => match column {
+            None => false,
+            Some(column) => is_among(columns.as_slice(), column.as_str()),
+        },
+    }
+}
+
+fn is_revoked<A: Heap>(
+    columns: &Option<Items<Text<A>, A>>,
+    roles: &[Text<A>],
+    grant: &Grant<A>,
+) -> bool
+    ensures { result ≡ is_revoked columns.now roles.now (grant_of grant.now) }
+{
+    is_among(roles, grant.to.as_str()) && takes(columns, &grant.column)
+}
+
+fn keep_others<A: Heap>(
+    grants: &mut Vec<Grant<A>, A>,
+    columns: &Option<Items<Text<A>, A>>,
+    roles: &[Text<A>],
+)
+    ensures { map (λ g. grant_of g) grants.new.items ≡ without_grants columns.now roles.now (map (λ g. grant_of g) grants.old.items) }
+{
+    grants.retain(|grant| !is_revoked(columns, roles, grant));
+}
+
+/// Takes from roles all the grants, or those on the columns alone. It takes no memory.
+pub fn remove_grants<A: Heap>(
+    alloc: A,
+    grants: &mut Items<Grant<A>, A>,
+    columns: &Option<Items<Text<A>, A>>,
+    roles: &[Text<A>],
+)
+    ensures { map (λ g. grant_of g) grants.new ≡ without_grants columns.now roles.now (map (λ g. grant_of g) grants.old) }
+{
+    let mut list = replace(grants, Items::new(alloc)).into_vec();
+    keep_others(&mut list, columns, roles);
+    *grants = Items::from(list);
+}

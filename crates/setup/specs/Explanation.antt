@@ -1,0 +1,26 @@
+-- The diagnostics on standard error of a text that is refused or denied.
+use Rattle.std.specs.Prelude.{◌⊎◌, ℕ, List, [], ◌∷◌, ◌++◌, Option, Some, None}
+use Rattle.std.specs.Io.KnownBytes.{Appends}
+use Rattle.output.specs.Taken.{Begins}
+use Rattle.value.specs.Names.{Name}
+use Rattle.catalog.specs.Catalog.{Catalog}
+use Rattle.replies.specs.Reply.{Reply}
+use Rattle.diagnostics.specs.Diagnosis.{hint}
+use Rattle.analysis.specs.Analysis.{refusal_to}
+use Rattle.setup.specs.Lines.{memory_line}
+
+abbrev pub hint_for : List ℕ → Option Reply → List ℕ
+hint_for text None = []
+hint_for text (Some refusal) = hint text refusal
+
+-- no row is an argument
+abbrev pub explanation : Catalog → Name → List ℕ → List ℕ
+explanation cat role text = hint_for text (refusal_to cat role text)
+
+-- it went out, or memory ran out, and that did
+abbrev pub IsExplained : Option (List ℕ) → Option (List ℕ) → List ℕ → Type 0
+IsExplained before after lines = Appends before after lines ⊎ Appends before after (memory_line ++ 10 ∷ [])
+
+-- the same where the writer failed: a beginning of the one or of the other went out
+abbrev pub IsBegun : Option (List ℕ) → Option (List ℕ) → List ℕ → Type 0
+IsBegun before after lines = Begins before after lines ⊎ Begins before after (memory_line ++ 10 ∷ [])

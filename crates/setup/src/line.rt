@@ -1,0 +1,156 @@
+//! The line on standard error for an error that stops the program.
+
+ghost use Rattle.std.specs.Prelude.{◌≡◌, ◌≢◌, ◌++◌, ◌∷◌, ◌⊎◌, [], IfOk, OnOk};
+ghost use Rattle.output.specs.Taken.{one_more};
+ghost use Rattle.setup.specs.Lines.{IsBegun, IsReported, data_line, failure_line, failure_status, error_line, error_status, in_column, in_row, memory_line, schema_line, syntax_line};
+
+use crate::error::{SchemaError, SetupError};
+use memory::{Failure, Heap};
+use output::{Out, write_whole};
+use replies::{push_number, push_str};
+use std::alloc::AllocError;
+use tables::LoadError;
+
+fn push_syntax_error<A: Heap>(line: &mut Vec<u8, A>, offset: u64) -> Result<(), AllocError>
+    ensures { OnOk result (line.new.items ≡ line.old.items ++ syntax_line offset) }
+{
+    push_str(line, "schema refused 42601 at ")?;
+    push_number(line, offset)
+}
+
+fn push_schema_error<A: Heap>(line: &mut Vec<u8, A>, error: SchemaError) -> Result<(), AllocError>
+    ensures { OnOk result (line.new.items ≡ line.old.items ++ schema_line error) }
+{
+    match error {
+        SchemaError::Syntax { offset } => push_syntax_error(line, offset as u64),
+        SchemaError::Limit => push_str(line, "schema refused 54000"),
+        SchemaError::Statement { number, code } => {
+            push_str(line, "schema statement ")?;
+            push_number(line, number as u64)?;
+            push_str(line, " refused ")?;
+            push_str(line, code.code())
+        }
+    }
+}
+
+fn push_row<A: Heap>(line: &mut Vec<u8, A>, row: u64) -> Result<(), AllocError>
+    ensures { OnOk result (line.new.items ≡ line.old.items ++ in_row row) }
+{
+    push_str(line, " row ")?;
+    push_number(line, row)
+}
+
+fn push_column<A: Heap>(line: &mut Vec<u8, A>, column: &str) -> Result<(), AllocError>
+    ensures { OnOk result (line.new.items ≡ line.old.items ++ in_column column.now) }
+{
+    push_str(line, " column ")?;
+    push_str(line, column)
+}
+
+fn push_data_error<A: Heap>(
+    line: &mut Vec<u8, A>,
+    table: &str,
+    column: &str,
+    error: LoadError,
+) -> Result<(), AllocError>
+    ensures { OnOk result (line.new.items ≡ line.old.items ++ data_line table.now column.now error) }
+{
+    push_str(line, "data ")?;
+    push_str(line, table)?;
+    match error {
+        LoadError::Header => push_str(line, " header"),
+        LoadError::Reader { row } => push_row(line, row),
+        LoadError::Cell { row, column: _ } => {
+            push_row(line, row)?;
+            push_column(line, column)
+        }
+        LoadError::NotNull { row, column: _ } => {
+            push_row(line, row)?;
+            push_column(line, column)?;
+            push_str(line, " null")
+        }
+        LoadError::TooMany => push_str(line, " limit"),
+    }
+}
+
+fn push_error<A: Heap>(line: &mut Vec<u8, A>, fault: &SetupError<A>) -> Result<(), AllocError>
+    ensures { OnOk result (line.new.items ≡ line.old.items ++ error_line fault.now) }
+{
+    match fault {
+        SetupError::Input { path } => {
+            push_str(line, "input ")?;
+            push_str(line, path.as_str())
+        }
+        SetupError::Schema(error) => push_schema_error(line, *error),
+        SetupError::Data {
+            table,
+            column,
+            error,
+        } => push_data_error(line, table.as_str(), column.as_str(), *error),
+    }
+}
+
+fn push_failure<A: Heap>(
+    line: &mut Vec<u8, A>,
+    failure: &Failure<SetupError<A>>,
+) -> Result<(), AllocError>
+    ensures { OnOk result (line.new.items ≡ line.old.items ++ failure_line failure.now) }
+{
+    match failure {
+        Failure::Error(fault) => push_error(line, fault),
+        Failure::OutOfMemory => push_str(line, "memory"),
+    }
+}
+
+/// The line of a failure, with LF.
+pub fn line_of<A: Heap>(
+    alloc: A,
+    failure: &Failure<SetupError<A>>,
+) -> Result<Vec<u8, A>, AllocError>
+    ensures { IfOk result (λ line. line.items ≡ failure_line failure.now ++ 10 ∷ []) }
+{
+    let mut line = Vec::new(alloc);
+    push_failure(&mut line, failure)?;
+    line.push(b'\n')?;
+    Ok(line)
+}
+
+fn error_status<A: Heap>(fault: &SetupError<A>) -> u8
+    ensures { result ≡ error_status fault.now }
+{
+    match fault {
+        SetupError::Input { .. } => 8,
+        SetupError::Schema(_) | SetupError::Data { .. } => 6,
+    }
+}
+
+/// The exit status of a failure: 6 a refused schema or refused rows, 7 out of memory, 8 a file that cannot be read.
+pub fn status_of<A: Heap>(failure: &Failure<SetupError<A>>) -> u8
+    ensures { result ≡ failure_status failure.now }
+{
+    match failure {
+        Failure::Error(fault) => error_status(fault),
+        Failure::OutOfMemory => 7,
+    }
+}
+
+/// Writes the line of a failure, and returns its exit status; where memory runs out, the line and status of that. A writer
+/// that fails is not reported.
+pub fn report<A: Heap, W: Out>(alloc: A, failure: &Failure<SetupError<A>>, out: &mut W) -> u8
+    ensures status { (result ≡ failure_status failure.now) ⊎ (result ≡ 7) }
+    ensures reported { W.failures out.new ≡ W.failures out.old → IsReported (W.taken out.old) (W.taken out.new) failure.now result }
+    // The writer failed in this call, and a beginning of the line went out.
+    ensures failed { W.failures out.new ≢ W.failures out.old → W.failures out.new ≡ one_more (W.failures out.old) }
+    ensures beginning { W.failures out.new ≢ W.failures out.old → IsBegun (W.taken out.old) (W.taken out.new) failure.now result }
+{
+    match line_of(alloc, failure) {
+        Ok(line) => {
+            let _ = write_whole(out, &line);
+            status_of(failure)
+        }
+        Err(_) => {
+            let _ = write_whole(out, b"memory\n".as_slice());
+            7
+        }
+    }
+}

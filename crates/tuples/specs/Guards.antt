@@ -1,0 +1,21 @@
+-- Which rows of a table a role sees, and the test of a row by it.
+use Rattle.std.specs.Prelude.{Bool, true, false}
+use Rattle.value.specs.Datum.{Row}
+use Rattle.value.specs.Names.{Name}
+use Rattle.expr.specs.Bound.{BoundExpr}
+use Rattle.eval.specs.Meaning.{holds}
+use Rattle.tuples.specs.Rows.{cells_of}
+
+pub data Guard : Type 0 where
+  -- every row
+  All : Guard
+  -- no row
+  None : Guard
+  -- the rows on which the expression is true
+  Expr : BoundExpr → Guard
+
+-- the guard lets the role see a row
+abbrev pub shows : Name → Guard → Row → Bool
+shows r All row = true
+shows r None row = false
+shows r (Expr e) row = holds (cells_of row) r e

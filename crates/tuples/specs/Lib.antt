@@ -1,0 +1,6 @@
+pub mod Combinations
+pub mod Guards
+pub mod Rows
+pub mod Slots
+pub mod View
+pub mod World

@@ -1,0 +1,19 @@
+//! What a query runs over: the rows of each entry of FROM behind a guard, combinations of these rows, and the counter of
+//! work.
+#![tactic(auto)]
+
+mod combination;
+mod guard;
+mod joined;
+mod rows;
+mod slot;
+mod work;
+mod world;
+
+pub use combination::Combo;
+pub use guard::{Guard, shows};
+pub use joined::JoinedRow;
+pub use rows::TableRow;
+pub use slot::Slot;
+pub use work::Work;
+pub use world::{GuardedTable, World};

@@ -1,0 +1,18 @@
+-- The least of several offsets.
+use Rattle.std.specs.Prelude.{ℕ, nat_lt, Option, Some, None, Result, Ok, Err, if◌then◌else◌}
+
+abbrev pub least : ℕ → ℕ → ℕ
+least i j = if nat_lt j i then j else i
+
+-- of those that there are
+abbrev pub least_of : Option ℕ → Option ℕ → Option ℕ
+least_of None b = b
+least_of (Some i) None = Some i
+least_of (Some i) (Some j) = Some (least i j)
+
+-- both values, or the least offset of an error
+abbrev pub both : {X Y : Type 0} → Result X ℕ → Result Y ℕ → Result (X × Y) ℕ
+both (Ok x) (Ok y) = Ok (x, y)
+both (Ok x) (Err j) = Err j
+both (Err i) (Ok y) = Err i
+both (Err i) (Err j) = Err (least i j)
