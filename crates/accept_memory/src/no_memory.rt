@@ -4,6 +4,7 @@ use crate::stores::made;
 use access::{RequiredPrivilege, denied, guard, is_granted};
 use engine::ask;
 use eval::{eval, eval_movable, is_true_on};
+use expr::is_movable;
 use fixture_stores::deals;
 use memory::Heap;
 use metered::Metered;
@@ -14,7 +15,7 @@ use std::process::Abort;
 use store::Store;
 use syntax::{parse_query, parse_statement};
 use tables::Table;
-use tuples::{Guard, TableRow, shows};
+use tuples::{Combo, Guard, Slot, TableRow, Work, shows};
 use value::{Truth, Val, add, and3, cmp_values, div, eq3, lt3, mul, neg, not3, or3, rem, sub};
 
 // The comparisons, the logic and the arithmetic of two numbers and two texts.
@@ -42,10 +43,31 @@ fn looks_up<A: Heap>(store: &Store<A>) -> bool {
     let cell = table.rows() > 0
         && !table.columns().is_empty()
         && eq3(&table.cell(0, 0), &Val::Int(2)) == Truth::True;
-    cell && table.columns().len() == 2
-        && store.table_count() == 1
-        && store.table_name(0) == "deal"
-        && !store.catalog().is_member("alice", "boss")
+    cell && table.columns().len() == 2 && store.table_count() == 1 && store.table_name(0) == "deal"
+}
+
+// What the catalogue tells: its roles and their attributes, its tables, and the number of its changes.
+fn looks_up_catalog<A: Heap>(store: &Store<A>) -> bool {
+    let catalog = store.catalog();
+    let told = catalog.is_role("alice")
+        && !catalog.is_superuser("alice")
+        && !catalog.bypasses_rls("alice")
+        && !catalog.is_member("alice", "boss");
+    told && catalog.roles() > 1
+        && catalog.tables() == 1
+        && catalog.change_number() > 0
+        && catalog.table("deal").is_some()
+        && matches!(catalog.find_table("deal"), Some((0, _)))
+}
+
+// The slots of a combination of one row, and the steps that a counter counts.
+fn counts<A: Heap>(combination: &Combo<A>) -> bool {
+    let mut work = Work::new();
+    work.tick();
+    matches!(combination.row(0), Slot::Absent)
+        && matches!(combination.row(1), Slot::Row(5))
+        && matches!(combination.row(2), Slot::Absent)
+        && work.count() == 1
 }
 
 // SELECT on a table is granted to alice, and first denied to lone.
@@ -71,7 +93,8 @@ fn guards<A: Heap>(alloc: A, guard: &Guard<A>, table: &Table<A>) -> bool {
     let evaluated = match guard {
         Guard::Expr(predicate) => {
             let condition = predicate.expression();
-            is_true_on(alloc, condition, &row, "alice")
+            is_movable(condition)
+                && is_true_on(alloc, condition, &row, "alice")
                 && !matches!(eval_movable(alloc, condition, &row, "alice"), Val::Null)
         }
         Guard::All | Guard::None => false,
@@ -92,8 +115,26 @@ fn stores_are_looked_up_without_memory(rt: HostRuntime) {
     let store = made(&rt, deals(&heap));
     let before = heap.requests(0);
     assert!(rt; looks_up(&store));
+    assert!(rt; looks_up_catalog(&store));
     assert!(rt; grants(&store));
     assert_eq!(rt; heap.requests(0), before);
+}
+
+// A combination of row 5 of the second entry.
+fn counts_work(rt: &(impl Abort + AllocGlobal)) {
+    let heap = Metered::counting(rt.alloc());
+    let mut work = Work::new();
+    let Ok(combination) = Combo::read(&heap, 1, 5, &mut work) else {
+        panic!(rt; "no combination");
+    };
+    let before = heap.requests(0);
+    assert!(rt; counts(&combination));
+    assert_eq!(rt; heap.requests(0), before);
+}
+
+#[test]
+fn work_is_counted_without_memory(rt: HostRuntime) {
+    counts_work(&rt);
 }
 
 // A guard of the deals for alice, and what is done with it.
@@ -132,6 +173,7 @@ fn evaluates_item(rt: &(impl Abort + AllocGlobal)) {
     assert!(rt; rows.rows() > 0);
     let row = TableRow::new(rows, 0);
     let before = heap.requests(0);
+    assert!(rt; !is_movable(&item.value));
     let value = eval(&heap, &item.value, &row, "alice");
     assert!(rt; matches!(value, Ok(Val::Int(1))));
     assert_eq!(rt; heap.requests(0), before);

@@ -1,12 +1,12 @@
 -- The steps of the choice of policies, and the guard made of them.
-use Rattle.std.proofs.Common.{◌≡◌, ℕ, suc, ◌+◌, ◌<◌, ◌≤◌, Bool, true, false, ◌==◌, if◌then◌else◌, List, [], ◌∷◌, ◌++◌, append_assoc, append-nil, length, map, filter, get_or, drop, drop-cons, Option, Some, None, Vec, Result, Ok, Err, IfOk, OnOk, refl, sym, ap, ◌∙◌, true≢false, arith}
+use Rattle.std.proofs.Common.{◌≡◌, ℕ, suc, ◌+◌, ◌<◌, ◌≤◌, Bool, true, false, ◌==◌, List, [], ◌∷◌, ◌++◌, append_assoc, append-nil, length, map, filter, get_or, drop, drop-cons, None, Vec, Result, Ok, Err, IfOk, OnOk, refl, sym, ap, ◌∙◌, true≢false, arith}
 use Rattle.std.proofs.Math.ListN.{drop_of_length-le}
 use Rattle.value.specs.Datum.{Row}
 use Rattle.value.specs.Names.{Name}
-use Rattle.expr.specs.Bound.{BoundExpr, BoundExprs, one_expr, bound_exprs_of}
+use Rattle.expr.specs.Bound.{BoundExpr, one_expr, bound_exprs_of}
 use Rattle.expr.specs.Bound as bound
 use Rattle.expr.specs.View.{bound_expr_of, bound_exprs}
-use Rattle.expr.specs.Movable.{movable, all_movable, if_movable}
+use Rattle.expr.specs.Movable.{movable, all_movable}
 use Rattle.expr.specs.declared.bound.BoundExpr as code
 use Rattle.expr.specs.declared.bound.BoundExpr.{And, Or}
 use Rattle.expr.proofs.Trees.{bound_exprs_hidden}
@@ -14,7 +14,7 @@ use Rattle.row_objects.specs.Objects.{Policy, Table}
 use Rattle.eval.proofs.Movables.{and_left, and_right}
 use Rattle.catalog.specs.Catalog.{Catalog}
 use Rattle.access.specs.Access.{bypasses_policies, permits, restricts, sees}
-use Rattle.tuples.specs.Guards.{Guard, All, Expr, shows}
+use Rattle.tuples.specs.Guards.{Guard, Expr, shows}
 use Rattle.access.specs.Guards.{guard, guard_by, predicates}
 use Rattle.tuples.specs.Guards as spec
 use Rattle.tuples.specs.View.{guard_of}
@@ -78,22 +78,6 @@ movable_of es ds e h = ap (λ xs. all_movable (bound_exprs_of xs)) (sym e) ∙ h
 pub on_ok : {X E P : Type 0} (res : Result X E) → P → OnOk res P
 on_ok (Ok x) p = p
 on_ok (Err e) p = tt
-
--- an expression that is found movable is the expression
-pub some_movable : (e x : BoundExpr) (o : Option BoundExpr) → o ≡ if_movable e → o ≡ Some x → x ≡ e
-some_movable e x o h s = go (movable e) (sym s ∙ h)
-  where
-    go : (b : Bool) → Some x ≡ (if b then Some e else None) → x ≡ e
-    go true q = cc
-    go false q = cc
-
--- a movable expression is found movable
-pub never_none : (e : BoundExpr) (o : Option BoundExpr) → movable e ≡ true → o ≡ if_movable e → o ≡ None → false ≡ true
-never_none e o m h n = go (movable e) h m
-  where
-    go : (b : Bool) → o ≡ (if b then Some e else None) → b ≡ true → false ≡ true
-    go true q m = cc
-    go false q m = m
 
 -- without a predicate there is no policy
 pub none_given : (ps rs : List Policy) → predicates ps ≡ [] → spec.None ≡ guard_by ps rs

@@ -1,5 +1,5 @@
 -- The privileges on tables and the rows that a role sees (PostgreSQL: Privileges; Row Security Policies).
-use Rattle.std.specs.Prelude.{ℕ, Bool, true, not, ◌&&◌, ◌||◌, List, [], filter, Option, Some, None}
+use Rattle.std.specs.Prelude.{Bool, true, not, ◌&&◌, ◌||◌, List, filter, Option, Some, None}
 use Rattle.std.specs.Str.{bytes_eq}
 use Rattle.std.specs.List.{list_all, list_any, find}
 use Rattle.value.specs.Datum.{null, Row}

@@ -6,8 +6,8 @@ ghost use Rattle.expr.specs.Bound as bound;
 ghost use Rattle.expr.specs.Bound.{bound_exprs_of, one_expr};
 ghost use Rattle.expr.specs.Movable.{all_movable, movable};
 ghost use Rattle.expr.specs.View.{bound_expr_of, bound_exprs};
-ghost use Rattle.row_objects.specs.View.{policy_of, table_of};
-ghost use Rattle.scope.specs.View.{entry_of};
+ghost use Rattle.row_objects.specs.View.{policy_of, policies_of, table_of};
+ghost use Rattle.scope.specs.View.{entries_of};
 ghost use Rattle.access.specs.Access.{applies, bypasses_policies, permits, restricts, sees};
 ghost use Rattle.tuples.specs.Guards as row_guards;
 ghost use Rattle.access.specs.Guards as spec;
@@ -16,9 +16,8 @@ ghost use Rattle.tuples.specs.View.{guard_of};
 
 use crate::privileges::any_includes_role;
 use catalog::Catalog;
-use expr::{BoundExpr, copy_expr};
+use expr::{BoundExpr, MovableExpr, copy_expr};
 use memory::{Heap, Items, boxed};
-use predicates::MovableExpr;
 use row_objects::{Policy, Table};
 use scope::Entry;
 use std::alloc::AllocError;
@@ -66,7 +65,7 @@ fn permissive<A: Heap>(
     role: &str,
     policies: &[Policy<A>],
 ) -> Predicates<A>
-    ensures value { IfOk result (λ v. map bound_expr_of v.items ≡ predicates (filter (permits catalog.now role.now) (map (λ p. policy_of p) policies.now))) }
+    ensures value { IfOk result (λ v. map bound_expr_of v.items ≡ predicates (filter (permits catalog.now role.now) (policies_of policies.now))) }
     ensures movable { IfOk result (λ v. all_movable (bound_exprs v.items) ≡ true) }
 {
     let mut all = Items::new(alloc);
@@ -87,7 +86,7 @@ fn with_restrictive<A: Heap>(
     policies: &[Policy<A>],
 ) -> Predicates<A>
     requires { movable (bound_expr_of first.value) ≡ true }
-    ensures value { IfOk result (λ v. map bound_expr_of v.items ≡ bound_expr_of first.value ∷ predicates (filter (restricts catalog.now role.now) (map (λ p. policy_of p) policies.now))) }
+    ensures value { IfOk result (λ v. map bound_expr_of v.items ≡ bound_expr_of first.value ∷ predicates (filter (restricts catalog.now role.now) (policies_of policies.now))) }
     ensures movable { IfOk result (λ v. all_movable (bound_exprs v.items) ≡ true) }
 {
     let mut all = Items::new(alloc);
@@ -115,11 +114,7 @@ fn conjunction<A: Heap>(alloc: A, members: Vec<BoundExpr<A>, A>) -> Result<Guard
     ensures { IfOk result (λ g. guard_of g ≡ row_guards.Expr (bound.And 0 (bound_exprs members.items))) }
 {
     match boxed(alloc, BoundExpr::And { offset: 0, members }) {
-        Ok(whole) => match MovableExpr::new(whole) {
-            Some(predicate) => Ok(Guard::Expr(predicate)),
-            // It cannot occur: the members are movable.
-            None => Ok(Guard::None),
-        },
+        Ok(whole) => Ok(Guard::Expr(MovableExpr::of_movable(whole))),
         Err(error) => Err(error),
     }
 }
@@ -133,7 +128,7 @@ fn combined<A: Heap>(
     policies: &[Policy<A>],
 ) -> Result<Guard<A>, AllocError>
     requires { all_movable (bound_exprs permissive.items) ≡ true }
-    ensures { IfOk result (λ g. guard_of g ≡ row_guards.Expr (bound.And 0 (one_expr (bound.Or 0 (bound_exprs permissive.items)) (bound_exprs_of (predicates (filter (restricts catalog.now role.now) (map (λ p. policy_of p) policies.now))))))) }
+    ensures { IfOk result (λ g. guard_of g ≡ row_guards.Expr (bound.And 0 (one_expr (bound.Or 0 (bound_exprs permissive.items)) (bound_exprs_of (predicates (filter (restricts catalog.now role.now) (policies_of policies.now))))))) }
 {
     let first = match disjunction(alloc, permissive) {
         Ok(first) => first,
@@ -152,8 +147,8 @@ fn guard_by<A: Heap>(
     role: &str,
     policies: &[Policy<A>],
 ) -> Result<Guard<A>, AllocError>
-    ensures value { IfOk result (λ g. guard_of g ≡ spec.guard_by (filter (permits catalog.now role.now) (map (λ p. policy_of p) policies.now)) (filter (restricts catalog.now role.now) (map (λ p. policy_of p) policies.now))) }
-    ensures movable { OnOk result (all_movable (bound_exprs_of (predicates (filter (permits catalog.now role.now) (map (λ p. policy_of p) policies.now)))) ≡ true) }
+    ensures value { IfOk result (λ g. guard_of g ≡ spec.guard_by (filter (permits catalog.now role.now) (policies_of policies.now)) (filter (restricts catalog.now role.now) (policies_of policies.now))) }
+    ensures movable { OnOk result (all_movable (bound_exprs_of (predicates (filter (permits catalog.now role.now) (policies_of policies.now)))) ≡ true) }
 {
     match permissive(alloc, catalog, role, policies) {
         Ok(permissive) => {
@@ -203,7 +198,7 @@ pub fn frame<'s, A: Heap>(
     role: &str,
     entries: &[Entry<'s, A>],
 ) -> Result<Items<Guard<A>, A>, AllocError>
-    ensures value { IfOk result (λ guards. map guard_of guards ≡ spec.frame catalog.now role.now (map (λ e. entry_of e) entries.now)) }
+    ensures value { IfOk result (λ guards. map guard_of guards ≡ spec.frame catalog.now role.now (entries_of entries.now)) }
     ensures shows { IfOk result (λ guards. (row : value.Row) → map (λ g. row_guards.shows role.now (guard_of g) row) guards ≡ map (λ e. sees catalog.now role.now (table_of e.table) row) entries.now) }
 {
     let mut guards = Items::new(alloc);

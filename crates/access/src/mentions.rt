@@ -2,7 +2,7 @@
 
 ghost use Rattle.std.specs.Prelude.{◌≡◌, ◌∷◌, ◌++◌, OnOk, IfOk, map, option_map};
 ghost use Rattle.std.specs.List.{flat_map};
-ghost use Rattle.expr.specs.View.{bound_expr_of, bound_item_of, bound_query_of};
+ghost use Rattle.expr.specs.View.{bound_expr_of, bound_items_of, bound_query_of};
 ghost use Rattle.access.specs.Needed as spec;
 ghost use Rattle.access.specs.declared.mentions.Mention.TheVariants as mention;
 
@@ -45,7 +45,7 @@ fn push_items<A: Heap>(
     mentions: &mut Items<Mention, A>,
     items: &[BoundItem<A>],
 ) -> Result<(), AllocError>
-    ensures { OnOk result (mentions.new ≡ mentions.old ++ flat_map spec.in_item (map (λ i. bound_item_of i) items.now)) }
+    ensures { OnOk result (mentions.new ≡ mentions.old ++ flat_map spec.in_item (bound_items_of items.now)) }
 {
     for item in items {
         push_expr(alloc, mentions, &item.value)?;

@@ -1,10 +1,10 @@
 //! The columns that a role may read (PostgreSQL: Privileges).
 
-ghost use Rattle.std.specs.Prelude.{◌≡◌, ◌&&◌, map, option_map};
+ghost use Rattle.std.specs.Prelude.{◌≡◌, ◌&&◌, option_map};
 ghost use Rattle.std.specs.List.{list_any};
-ghost use Rattle.row_objects.specs.View.{grant_of};
+ghost use Rattle.row_objects.specs.View.{grant_of, grants_of};
 ghost use Rattle.access.specs.Access.{includes_role, covers, granted, denial};
-ghost use Rattle.access.specs.View.{privilege_of};
+ghost use Rattle.access.specs.View.{privilege_of, privileges_of};
 
 use catalog::Catalog;
 use memory::{Heap, Text};
@@ -70,7 +70,7 @@ fn any_grants_to<A: Heap>(
     grants: &[Grant<A>],
     required: Option<&Text<A>>,
 ) -> bool
-    ensures { result ≡ list_any (λ g. includes_role catalog.now role.now g.to && covers g.column (option_map (λ c. c.now) required.entry)) (map (λ g. grant_of g) grants.now) }
+    ensures { result ≡ list_any (λ g. includes_role catalog.now role.now g.to && covers g.column (option_map (λ c. c.now) required.entry)) (grants_of grants.now) }
 {
     for grant in grants {
         if grants_to(catalog, role, grant, required) {
@@ -99,7 +99,7 @@ pub fn denied<'s, A: Heap>(
     role: &str,
     needed: &[RequiredPrivilege<'s, A>],
 ) -> Option<RequiredPrivilege<'s, A>>
-    ensures { option_map (λ p. privilege_of p) result ≡ denial catalog.now role.now (map (λ p. privilege_of p) needed.now) }
+    ensures { option_map (λ p. privilege_of p) result ≡ denial catalog.now role.now (privileges_of needed.now) }
 {
     for privilege in needed {
         if !is_granted(catalog, role, *privilege) {

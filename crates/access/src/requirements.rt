@@ -1,10 +1,10 @@
 //! The privileges that a query needs.
 
-ghost use Rattle.std.specs.Prelude.{◌≡◌, ◌++◌, OnOk, IfOk, map, option_map, option_to_list, slice_get};
+ghost use Rattle.std.specs.Prelude.{◌≡◌, ◌++◌, OnOk, IfOk, option_map, option_to_list, slice_get};
 ghost use Rattle.std.specs.List.{list_any};
-ghost use Rattle.access.specs.View.{privilege_of};
+ghost use Rattle.access.specs.View.{privilege_of, privileges_of};
 ghost use Rattle.expr.specs.View.{bound_query_of};
-ghost use Rattle.scope.specs.View.{entry_of};
+ghost use Rattle.scope.specs.View.{entry_of, entries_of};
 ghost use Rattle.access.specs.Needed as spec;
 
 use crate::mentions::{Mention, mentions};
@@ -47,7 +47,7 @@ fn on_column<'s, A: Heap>(entry: &Entry<'s, A>, column: usize) -> Option<Require
 }
 
 fn entry_at<'a, 's, A: Heap>(entries: &'a [Entry<'s, A>], number: usize) -> Option<&'a Entry<'s, A>>
-    ensures { option_map (λ e. entry_of e.now) result ≡ slice_get (map (λ e. entry_of e) entries.now) number }
+    ensures { option_map (λ e. entry_of e.now) result ≡ slice_get (entries_of entries.now) number }
 {
     entries.get(number)
 }
@@ -57,7 +57,7 @@ fn required_by<'s, A: Heap>(
     mentions: &[Mention],
     mention: Mention,
 ) -> Option<RequiredPrivilege<'s, A>>
-    ensures { option_map (λ p. privilege_of p) result ≡ spec.required_by (map (λ e. entry_of e) entries.now) mentions.now mention }
+    ensures { option_map (λ p. privilege_of p) result ≡ spec.required_by (entries_of entries.now) mentions.now mention }
 {
     match mention {
         Mention::From { entry } => {
@@ -83,7 +83,7 @@ fn push_required<'s, A: Heap>(
     required: &mut Items<RequiredPrivilege<'s, A>, A>,
     privilege: Option<RequiredPrivilege<'s, A>>,
 ) -> Result<(), AllocError>
-    ensures { OnOk result (map (λ p. privilege_of p) required.new ≡ map (λ p. privilege_of p) required.old ++ option_to_list (option_map (λ p. privilege_of p) privilege.entry)) }
+    ensures { OnOk result (privileges_of required.new ≡ privileges_of required.old ++ option_to_list (option_map (λ p. privilege_of p) privilege.entry)) }
 {
     match privilege {
         Some(privilege) => {
@@ -99,7 +99,7 @@ fn required<'s, A: Heap>(
     entries: &[Entry<'s, A>],
     mentions: &[Mention],
 ) -> Result<Items<RequiredPrivilege<'s, A>, A>, AllocError>
-    ensures { IfOk result (λ required. map (λ p. privilege_of p) required ≡ spec.required (map (λ e. entry_of e) entries.now) mentions.now) }
+    ensures { IfOk result (λ required. privileges_of required ≡ spec.required (entries_of entries.now) mentions.now) }
 {
     let mut required = Items::new(alloc);
     for mention in mentions {
@@ -115,7 +115,7 @@ pub fn needed<'s, A: Heap>(
     entries: &[Entry<'s, A>],
     query: &BoundQuery<A>,
 ) -> Result<Items<RequiredPrivilege<'s, A>, A>, AllocError>
-    ensures { IfOk result (λ required. map (λ p. privilege_of p) required ≡ spec.needed (map (λ e. entry_of e) entries.now) (bound_query_of query.now)) }
+    ensures { IfOk result (λ required. privileges_of required ≡ spec.needed (entries_of entries.now) (bound_query_of query.now)) }
 {
     let mentions = mentions(alloc, query)?;
     required(alloc, entries, mentions.as_slice())

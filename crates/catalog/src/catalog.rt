@@ -1,6 +1,6 @@
 //! The sets of the catalogue, and the search in them.
 
-ghost use Rattle.std.specs.Prelude.{◌≡◌, ◌<◌, length, IfOk, IfSome, map, option_map};
+ghost use Rattle.std.specs.Prelude.{◌≡◌, ◌<◌, length, IfOk, IfSome, option_map};
 ghost use Rattle.std.specs.List.{list_all};
 ghost use Rattle.row_objects.specs.Policies as policies;
 ghost use Rattle.row_objects.specs.View.{table_of};
@@ -24,17 +24,17 @@ pub struct Catalog<A: Heap> {
 }
 
 impl<A: Heap> Model for Catalog<A> {
-    ghost use Rattle.std.specs.Prelude.{◌≡◌, ◌≤◌, ℕ, length, map, true};
+    ghost use Rattle.std.specs.Prelude.{◌≡◌, ◌≤◌, ℕ, length, true};
     ghost use Rattle.std.specs.List.{list_all};
     ghost use Rattle.memberships.specs.Memberships.{most_roles};
     ghost use Rattle.memberships.specs.Reached.{is_of_roles};
-    ghost use Rattle.memberships.specs.View.{membership_of};
+    ghost use Rattle.memberships.specs.View.{memberships_of};
     ghost use Rattle.catalog.specs.Catalog as spec;
 
     ghost Value = { spec.Catalog };
 
     ghost use Rattle.std.specs.Coded.{codes, coded_ℕ};
-    ghost use Rattle.predicates.specs.declared.movable_expr.MovableExpr as movable_expr;
+    ghost use Rattle.expr.specs.declared.movable_expr.MovableExpr as movable_expr;
 
     ghost coded = { Prim.hlevel (codes, movable_expr.the_code ℕ coded_ℕ) };
 
@@ -42,7 +42,7 @@ impl<A: Heap> Model for Catalog<A> {
 
     ghost view = { catalog_of };
 
-    ghost invariant = { λ c. (length c.roles ≤ most_roles) × (list_all (is_of_roles c.roles) (map membership_of c.memberships.items) ≡ true) };
+    ghost invariant = { λ c. (length c.roles ≤ most_roles) × (list_all (is_of_roles c.roles) (memberships_of c.memberships.items) ≡ true) };
 }
 
 impl<A: Heap> Catalog<A> {

@@ -10,8 +10,8 @@ ghost use Rattle.catalog.specs.Changes.{IsChange};
 
 use crate::catalog::Catalog;
 use crate::predicate::check_predicate;
+use expr::MovableExpr;
 use memory::Heap;
-use predicates::MovableExpr;
 use row_ast::CreatePolicy;
 use row_objects::{add_policy, has_policy, new_policy};
 use std::alloc::AllocError;

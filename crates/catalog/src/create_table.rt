@@ -1,7 +1,7 @@
 //! `CREATE TABLE name (column type [NOT NULL], ..)` (PostgreSQL: CREATE TABLE).
 
-ghost use Rattle.std.specs.Prelude.{◌≡◌, OnErr, OnOk, false, map};
-ghost use Rattle.value.specs.Columns.{column_of};
+ghost use Rattle.std.specs.Prelude.{◌≡◌, OnErr, OnOk, false};
+ghost use Rattle.value.specs.Columns.{columns_of};
 ghost use Rattle.catalog.specs.Catalog.{is_table};
 ghost use Rattle.catalog.specs.Checks.{first_refusal, unless};
 ghost use Rattle.catalog.specs.CreateTable.{after_create_table, checks_create_table};
@@ -24,7 +24,7 @@ fn check_create_table<A: Heap>(
     name: &str,
     columns: &[Column<A>],
 ) -> Option<Refusal>
-    ensures { result ≡ first_refusal (checks_create_table catalog.now name.now (map (λ c. column_of c) columns.now)) }
+    ensures { result ≡ first_refusal (checks_create_table catalog.now name.now (columns_of columns.now)) }
 {
     if catalog.is_table(name) {
         Some(Refusal::DuplicateTable)
@@ -47,7 +47,7 @@ impl<A: Heap> Catalog<A> {
         columns: &[Column<A>],
     ) -> Result<(), AllocError>
         requires { is_table self.old name.now ≡ false }
-        ensures done { OnOk result (self.new ≡ after_create_table self.old actor.now name.now (map (λ c. column_of c) columns.now)) }
+        ensures done { OnOk result (self.new ≡ after_create_table self.old actor.now name.now (columns_of columns.now)) }
         ensures unchanged { OnErr result (self.new ≡ self.old) }
     {
         let table = new_table(self.alloc, actor, columns)?;
@@ -61,7 +61,7 @@ impl<A: Heap> Catalog<A> {
         name: &str,
         columns: &[Column<A>],
     ) -> Result<(), Refusal>
-        ensures { IsChange self.old self.new (unless (first_refusal (checks_create_table self.old name.now (map (λ c. column_of c) columns.now))) (after_create_table self.old actor.now name.now (map (λ c. column_of c) columns.now))) result }
+        ensures { IsChange self.old self.new (unless (first_refusal (checks_create_table self.old name.now (columns_of columns.now))) (after_create_table self.old actor.now name.now (columns_of columns.now))) result }
     {
         if let Some(why) = check_create_table(self, name, columns) {
             return Err(why);

@@ -9,9 +9,8 @@ ghost use Rattle.catalog.specs.PredicateChecks.{first_refusal};
 ghost use Rattle.catalog.specs.PolicyPredicate as spec;
 ghost use Rattle.catalog.specs.PolicyPredicate.{bound_predicate, checks_bound, checks_predicate, CheckedPredicate};
 
-use expr::{BoundExpr, is_movable};
+use expr::{BoundExpr, MovableExpr, is_movable};
 use memory::{Failure, Heap};
-use predicates::MovableExpr;
 use row_ast::Expr;
 use row_objects::Table;
 use scope::{Entry, bind_expr, everywhere};

@@ -8,7 +8,7 @@ use Rattle.value.specs.Names.{Name}
 use Rattle.row_ast.specs.Ast.{Query}
 use Rattle.catalog.specs.Catalog.{Catalog}
 use Rattle.resolve.specs.Resolved.{Bound}
-use Rattle.scope.specs.Entry.{and_then}
+use Rattle.memory.specs.Results.{and_then}
 use Rattle.replies.specs.Reply.{Reply}
 use Rattle.store.specs.Database.{Rows}
 use Rattle.analysis.specs.Analysis.{admitted_query, query_read, admitted, refusal_to}

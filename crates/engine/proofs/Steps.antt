@@ -1,6 +1,7 @@
 -- The tables of a world are the rows that the role sees of each entry.
 use Rattle.std.proofs.Common.{◌≡◌, ◌⊎◌, inl, inr, Bool, cond, List, [], ◌∷◌, ◌++◌, map, filter, refl, sym, ap, ap₂, ◌∙◌, append_assoc, append-nil}
 use Rattle.std.proofs.lemmas.List.{map-append}
+use Rattle.memory.proofs.Cases.{nil_is_not}
 use Rattle.value.specs.Datum.{Row}
 use Rattle.value.specs.Names.{Name}
 use Rattle.scope.specs.Entry.{Entry}
@@ -17,9 +18,6 @@ filter_same : {X : Type 0} (p q : X → Bool) → ((x : X) → p x ≡ q x) → 
 filter_same p q same [] = refl
 filter_same p q same (x ∷ xs) = ap (λ b. cond b (x ∷ filter p xs) (filter p xs)) (same x) ∙ ap (λ l. cond (q x) (x ∷ l) l) (filter_same p q same xs)
 
-none_is_not_one : (b : Bool) (bs : List Bool) → ◌≡◌ {A = List Bool} [] (b ∷ bs) → ⊥
-none_is_not_one b bs e = cc
-
 first_is : (b c : Bool) (bs cs : List Bool) → b ∷ bs ≡ c ∷ cs → b ≡ c
 first_is b c bs cs e = cc
 
@@ -31,7 +29,7 @@ module _ {E G : Type 0} (entry : E → Entry) (guard : G → Guard) (cat : Catal
   pub seen_are : (es : List E) (gs : List G) → ((row : Row) → map (λ g. shows role (guard g) row) gs ≡ map (λ e. sees cat role (entry e).table row) es) →
       map (seen_rows role) (guarded_tables rows (map entry es) (map guard gs)) ≡ seen cat rows role (map entry es)
   seen_are [] gs same = refl
-  seen_are (e ∷ es) [] same = absurd (none_is_not_one _ _ (same []))
+  seen_are (e ∷ es) [] same = absurd (nil_is_not _ _ (same []))
   seen_are (e ∷ es) (g ∷ gs) same =
       ap₂ ◌∷◌ (filter_same (shows role (guard g)) (sees cat role (entry e).table) (λ row. first_is _ _ _ _ (same row)) (rows (entry e).table.name))
       (seen_are es gs (λ row. others_are _ _ _ _ (same row)))

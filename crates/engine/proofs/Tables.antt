@@ -9,7 +9,6 @@ use Rattle.access.specs.Access.{RequiredPrivilege}
 use Rattle.resolve.specs.Resolved.{Bound, bound}
 use Rattle.resolve.specs.EntryTables.{AreTables}
 use Rattle.resolve.proofs.EntryTables.{binds_tables, given}
-use Rattle.replies.specs.Reply.{Reply}
 use Rattle.analysis.specs.Analysis.{admitted, admitted_query, permitted, query_read, unless_denied}
 use Rattle.store.specs.Database.{Database}
 use Rattle.store.specs.Agreement.{Agrees}

@@ -1,9 +1,9 @@
 //! Asking.
 
-ghost use Rattle.std.specs.Prelude.{◌≡◌, ℕ, List, None, Some, IfOk, map};
+ghost use Rattle.std.specs.Prelude.{◌≡◌, ℕ, List, None, Some, IfOk};
 ghost use Rattle.value.specs.Names.{Name};
 ghost use Rattle.row_ast.specs.View.{query_of};
-ghost use Rattle.expr.specs.View.{bound_item_of};
+ghost use Rattle.expr.specs.View.{bound_items_of};
 ghost use Rattle.resolve.specs.EntryTables.{AreTables};
 ghost use Rattle.resolve.specs.View.{bound_of};
 ghost use Rattle.catalog.specs.Catalog.{Catalog};
@@ -28,7 +28,7 @@ use store::Store;
 use value::Refusal;
 
 fn headings<A: Heap>(alloc: A, items: &[BoundItem<A>]) -> Result<Items<Text<A>, A>, AllocError>
-    ensures { IfOk result (λ headings. headings ≡ spec.headings (map (λ i. bound_item_of i) items.now)) }
+    ensures { IfOk result (λ headings. headings ≡ spec.headings (bound_items_of items.now)) }
 {
     let mut headings = Items::new(alloc);
     for item in items {

@@ -1,11 +1,10 @@
 -- The steps from the conditions that are known to all of them.
-use Rattle.std.proofs.Common.{◌≡◌, ◌≢◌, ℕ, ◌<◌, ◌≤◌, ◌+◌, List, length, get_or, drop, Option, Some, None, Result, Ok, Err, IsOk, IsErrAnd, Vec, Box, true, refl, sym, ap, ◌∙◌, rules, arith}
+use Rattle.std.proofs.Common.{◌≡◌, ◌≢◌, ℕ, ◌<◌, ◌≤◌, ◌+◌, List, length, get_or, drop, Option, Some, None, Result, Ok, Err, IsOk, Vec, Box, true, refl, sym, ap, ◌∙◌, rules, arith}
 use Rattle.std.proofs.lemmas.Grind.{common_steps}
-use Rattle.memory.proofs.Cases.{exits}
 use denote.Enum.Bare.{sameb, same_true}
 use Rattle.memory.specs.declared.failure.Failure.{Failure}
 use Rattle.memory.specs.declared.failure.Failure.TheVariants as failure
-use Rattle.memory.specs.Gives.{IsFailure, Gives}
+use Rattle.memory.specs.Gives.{IsFailure}
 use Rattle.value.specs.declared.order.Truth.{Truth}
 use Rattle.value.specs.declared.order.Truth.TheVariants.{False, Unknown, True}
 use Rattle.value.specs.contracts.order.Truth.{the_type}

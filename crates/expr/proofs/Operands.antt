@@ -1,5 +1,5 @@
--- The views of nodes with operands, and that their operands are lighter.
-use Rattle.std.proofs.Common.{◌≡◌, ℕ, suc, ◌+◌, ◌<◌, Bool, List, map, Box, sym, ap, ◌∙◌, arith}
+-- The views of nodes with operands.
+use Rattle.std.proofs.Common.{◌≡◌, ℕ, Bool, List, map, Box, sym, ap, ◌∙◌}
 use Rattle.value.specs.Datum.{datum}
 use Rattle.value.specs.declared.types.Value.{Value}
 use Rattle.value.specs.declared.types.ColType.{ColType}
@@ -50,21 +50,3 @@ module _ {A : Type 0} (e : BoundExpr A) (negated : Bool) (offset : ℕ) (a b c :
       ∙ ap (λ v. bound.Between negated offset (bound_expr_of v) (bound_expr_of b.value) (bound_expr_of c.value)) (sym q)
       ∙ ap (λ v. bound.Between negated offset (bound_expr_of x) (bound_expr_of v) (bound_expr_of c.value)) (sym r)
       ∙ ap (λ v. bound.Between negated offset (bound_expr_of x) (bound_expr_of y) (bound_expr_of v)) (sym s)
-
--- ---- the weights of the operands of a whole that weighs t
-
-module _ (x w t : ℕ) (h : w ≡ t) where
-  pub lighter : w ≡ suc x → x < t
-  lighter e = omega (arith, e, h)
-
-  pub left_lighter : (y : ℕ) → w ≡ suc (x + y) → x < t
-  left_lighter y e = omega (arith, e, h)
-
-  pub right_lighter : (y : ℕ) → w ≡ suc (y + x) → x < t
-  right_lighter y e = omega (arith, e, h)
-
-  pub middle_lighter : (y z : ℕ) → w ≡ suc (y + (x + z)) → x < t
-  middle_lighter y z e = omega (arith, e, h)
-
-  pub last_lighter : (y z : ℕ) → w ≡ suc (y + (z + x)) → x < t
-  last_lighter y z e = omega (arith, e, h)

@@ -1,6 +1,7 @@
 pub mod Aggregates
 pub mod Bound
 pub mod BoundQuery
+pub mod Codes
 pub mod Coding
 pub mod Columns
 pub mod Conjuncts

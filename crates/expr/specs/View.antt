@@ -1,6 +1,9 @@
 -- The views of the Rust types of bound trees as spec data.
 use Rattle.std.specs.Prelude.{List, Option, Some, None, Box, map, option_map}
 use Rattle.value.specs.Datum.{datum}
+use Rattle.expr.specs.Codes.{Code, Empty, Steps}
+use Rattle.expr.specs.declared.code.Code as code
+use Rattle.expr.specs.declared.code.Code.TheVariants as code_variants
 use Rattle.expr.specs.Bound as bound
 use Rattle.expr.specs.declared.bound.BoundExpr.{BoundExpr, Column, Literal, CurrentUser, Negate', Arithmetic', Comparison', Between', In', IsNull', Not', And', Or', Cast', Case', CountStar, Call', Row_of-BoundExpr, end_of-BoundExpr, more_of-BoundExpr, Row_of-BoundArm, end_of-BoundArm, more_of-BoundArm, Held-BoundExpr-Case-2, None', Some'}
 use Rattle.expr.specs.declared.bound.BoundArm.{BoundArm}
@@ -64,9 +67,12 @@ aggregate_calls_of calls = map (λ c. aggregate_call_of c) calls
 abbrev pub bound_item_of : {A : Type 0} → item.BoundItem A → BoundItem
 bound_item_of i = record { heading = i.heading; value = bound_expr_of i.value.value }
 
+abbrev pub bound_items_of : {A : Type 0} → List (item.BoundItem A) → List BoundItem
+bound_items_of items = map (λ i. bound_item_of i) items
+
 abbrev pub bound_query_of : {A : Type 0} → query.BoundQuery A → BoundQuery
 bound_query_of q = record {
-  items = map bound_item_of q.items;
+  items = bound_items_of q.items;
   ons = map (λ o. option_map (λ b. bound_expr_of b.value) o) q.ons;
   filter = option_map (λ b. bound_expr_of b.value) q.filter;
   group_by = q.group_by;
@@ -75,3 +81,7 @@ bound_query_of q = record {
   order_by = q.order_by;
   limit = q.limit;
 }
+
+abbrev pub code_of : {A : Type 0} → code.Code A → Code
+code_of code_variants.Empty = Empty
+code_of (code_variants.Steps steps) = Steps steps

@@ -1,20 +1,29 @@
 //! Expressions and queries whose columns are found: the columns and the aggregates in them, their copies, those that never
-//! fault, and the conjuncts of a query.
+//! fault, the conjuncts of a query, and the codes of its plans.
 #![tactic(auto)]
 
 mod aggregates;
 mod bound;
+mod code;
 mod columns;
 mod conjuncts;
 mod copies;
 mod movable;
+mod movable_expr;
 mod nodes;
 mod query;
 
 pub use aggregates::{AggregateCall, push_aggregates};
 pub use bound::{BoundArm, BoundExpr, ColumnId, is_column};
+pub use code::{Access, Code, CodeStep, Method};
 pub use columns::push_columns;
 pub use conjuncts::{fragile_conjuncts, movable_conjuncts};
 pub use copies::copy_expr;
 pub use movable::is_movable;
+pub use movable_expr::MovableExpr;
+pub use nodes::{
+    Arms, Copied, Members, arithmetic, arm, between, call, cast, comparison, conjunction,
+    disjunction, literal, logical_not, membership, negation, null_check, with_otherwise,
+    without_otherwise,
+};
 pub use query::{BoundCondition, BoundItem, BoundQuery, OutputKey};

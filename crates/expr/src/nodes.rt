@@ -10,13 +10,17 @@ use memory::{Heap, Items, boxed};
 use std::alloc::AllocError;
 use value::{Aggregate, Arithmetic, ColType, Comparison, Value};
 
-pub(crate) type Copied<A> = Result<Box<BoundExpr<A>, A>, AllocError>;
+/// An expression that was made, if there was memory.
+pub type Copied<A> = Result<Box<BoundExpr<A>, A>, AllocError>;
 
-pub(crate) type Members<A> = Result<Vec<BoundExpr<A>, A>, AllocError>;
+/// The members of a connective that were made.
+pub type Members<A> = Result<Vec<BoundExpr<A>, A>, AllocError>;
 
-pub(crate) type Arms<A> = Result<Vec<BoundArm<A>, A>, AllocError>;
+/// The arms of a CASE that were made.
+pub type Arms<A> = Result<Vec<BoundArm<A>, A>, AllocError>;
 
-pub(crate) fn literal<A: Heap>(alloc: A, value: Result<Value<A>, AllocError>) -> Copied<A>
+/// A literal, of what was made of its parts; out of memory where a part was not made.
+pub fn literal<A: Heap>(alloc: A, value: Result<Value<A>, AllocError>) -> Copied<A>
     ensures { (d : Datum) → IfOk value (λ v. datum v ≡ d) → IfOk result (λ b. bound_expr_of b.value ≡ bound.Literal d) }
 {
     match value {
@@ -25,7 +29,8 @@ pub(crate) fn literal<A: Heap>(alloc: A, value: Result<Value<A>, AllocError>) ->
     }
 }
 
-pub(crate) fn negation<A: Heap>(alloc: A, offset: u32, operand: Copied<A>) -> Copied<A>
+/// `- operand`, of what was made of its parts; out of memory where a part was not made.
+pub fn negation<A: Heap>(alloc: A, offset: u32, operand: Copied<A>) -> Copied<A>
     ensures { (e : bound.BoundExpr) → IfOk operand (λ b. bound_expr_of b.value ≡ e) → IfOk result (λ b. bound_expr_of b.value ≡ bound.Negate offset e) }
 {
     match operand {
@@ -34,7 +39,8 @@ pub(crate) fn negation<A: Heap>(alloc: A, offset: u32, operand: Copied<A>) -> Co
     }
 }
 
-pub(crate) fn arithmetic<A: Heap>(
+/// `left + right` and the like, of what was made of its parts; out of memory where a part was not made.
+pub fn arithmetic<A: Heap>(
     alloc: A,
     operator: Arithmetic,
     offset: u32,
@@ -57,7 +63,8 @@ pub(crate) fn arithmetic<A: Heap>(
     }
 }
 
-pub(crate) fn comparison<A: Heap>(
+/// `left = right` and the like, of what was made of its parts; out of memory where a part was not made.
+pub fn comparison<A: Heap>(
     alloc: A,
     operator: Comparison,
     offset: u32,
@@ -80,7 +87,8 @@ pub(crate) fn comparison<A: Heap>(
     }
 }
 
-pub(crate) fn between<A: Heap>(
+/// `operand [NOT] BETWEEN low AND high`, of what was made of its parts; out of memory where a part was not made.
+pub fn between<A: Heap>(
     alloc: A,
     negated: bool,
     offset: u32,
@@ -115,7 +123,8 @@ fn copy_values<A: Heap>(alloc: A, values: &[Value<A>]) -> Result<Items<Value<A>,
     Ok(copies)
 }
 
-pub(crate) fn membership<A: Heap>(
+/// `operand [NOT] IN (value, ..)`, of what was made of its parts; out of memory where a part was not made.
+pub fn membership<A: Heap>(
     alloc: A,
     negated: bool,
     offset: u32,
@@ -142,12 +151,8 @@ pub(crate) fn membership<A: Heap>(
     }
 }
 
-pub(crate) fn null_check<A: Heap>(
-    alloc: A,
-    negated: bool,
-    offset: u32,
-    operand: Copied<A>,
-) -> Copied<A>
+/// `operand IS [NOT] NULL`, of what was made of its parts; out of memory where a part was not made.
+pub fn null_check<A: Heap>(alloc: A, negated: bool, offset: u32, operand: Copied<A>) -> Copied<A>
     ensures { (e : bound.BoundExpr) → IfOk operand (λ b. bound_expr_of b.value ≡ e) → IfOk result (λ b. bound_expr_of b.value ≡ bound.IsNull negated offset e) }
 {
     match operand {
@@ -163,7 +168,8 @@ pub(crate) fn null_check<A: Heap>(
     }
 }
 
-pub(crate) fn logical_not<A: Heap>(alloc: A, offset: u32, operand: Copied<A>) -> Copied<A>
+/// `NOT operand`, of what was made of its parts; out of memory where a part was not made.
+pub fn logical_not<A: Heap>(alloc: A, offset: u32, operand: Copied<A>) -> Copied<A>
     ensures { (e : bound.BoundExpr) → IfOk operand (λ b. bound_expr_of b.value ≡ e) → IfOk result (λ b. bound_expr_of b.value ≡ bound.Not offset e) }
 {
     match operand {
@@ -172,7 +178,8 @@ pub(crate) fn logical_not<A: Heap>(alloc: A, offset: u32, operand: Copied<A>) ->
     }
 }
 
-pub(crate) fn cast<A: Heap>(alloc: A, offset: u32, to: ColType, operand: Copied<A>) -> Copied<A>
+/// `CAST(operand AS to)`, of what was made of its parts; out of memory where a part was not made.
+pub fn cast<A: Heap>(alloc: A, offset: u32, to: ColType, operand: Copied<A>) -> Copied<A>
     ensures { (e : bound.BoundExpr) → IfOk operand (λ b. bound_expr_of b.value ≡ e) → IfOk result (λ b. bound_expr_of b.value ≡ bound.Cast offset to e) }
 {
     match operand {
@@ -188,12 +195,8 @@ pub(crate) fn cast<A: Heap>(alloc: A, offset: u32, to: ColType, operand: Copied<
     }
 }
 
-pub(crate) fn call<A: Heap>(
-    alloc: A,
-    aggregate: Aggregate,
-    offset: u32,
-    argument: Copied<A>,
-) -> Copied<A>
+/// An aggregate of an expression, of what was made of its parts; out of memory where a part was not made.
+pub fn call<A: Heap>(alloc: A, aggregate: Aggregate, offset: u32, argument: Copied<A>) -> Copied<A>
     ensures { (e : bound.BoundExpr) → IfOk argument (λ b. bound_expr_of b.value ≡ e) → IfOk result (λ b. bound_expr_of b.value ≡ bound.Call aggregate offset e) }
 {
     match argument {
@@ -209,7 +212,8 @@ pub(crate) fn call<A: Heap>(
     }
 }
 
-pub(crate) fn conjunction<A: Heap>(alloc: A, offset: u32, members: Members<A>) -> Copied<A>
+/// `member AND member AND ..`, of what was made of its parts; out of memory where a part was not made.
+pub fn conjunction<A: Heap>(alloc: A, offset: u32, members: Members<A>) -> Copied<A>
     ensures { (es : bound.BoundExprs) → IfOk members (λ v. bound_exprs v.items ≡ es) → IfOk result (λ b. bound_expr_of b.value ≡ bound.And offset es) }
 {
     match members {
@@ -218,7 +222,8 @@ pub(crate) fn conjunction<A: Heap>(alloc: A, offset: u32, members: Members<A>) -
     }
 }
 
-pub(crate) fn disjunction<A: Heap>(alloc: A, offset: u32, members: Members<A>) -> Copied<A>
+/// `member OR member OR ..`, of what was made of its parts; out of memory where a part was not made.
+pub fn disjunction<A: Heap>(alloc: A, offset: u32, members: Members<A>) -> Copied<A>
     ensures { (es : bound.BoundExprs) → IfOk members (λ v. bound_exprs v.items ≡ es) → IfOk result (λ b. bound_expr_of b.value ≡ bound.Or offset es) }
 {
     match members {
@@ -227,7 +232,8 @@ pub(crate) fn disjunction<A: Heap>(alloc: A, offset: u32, members: Members<A>) -
     }
 }
 
-pub(crate) fn without_otherwise<A: Heap>(alloc: A, offset: u32, arms: Arms<A>) -> Copied<A>
+/// A CASE without ELSE, of what was made of its parts; out of memory where a part was not made.
+pub fn without_otherwise<A: Heap>(alloc: A, offset: u32, arms: Arms<A>) -> Copied<A>
     ensures { (as_ : bound.BoundArms) → IfOk arms (λ v. bound_arms v.items ≡ as_) → IfOk result (λ b. bound_expr_of b.value ≡ bound.Case offset as_ bound.Nothing) }
 {
     match arms {
@@ -246,7 +252,8 @@ pub(crate) fn without_otherwise<A: Heap>(alloc: A, offset: u32, arms: Arms<A>) -
     }
 }
 
-pub(crate) fn with_otherwise<A: Heap>(
+/// A CASE with ELSE, of what was made of its parts; out of memory where a part was not made.
+pub fn with_otherwise<A: Heap>(
     alloc: A,
     offset: u32,
     arms: Arms<A>,
@@ -274,7 +281,8 @@ pub(crate) fn with_otherwise<A: Heap>(
     }
 }
 
-pub(crate) fn arm<A: Heap>(when: Copied<A>, then: Copied<A>) -> Result<BoundArm<A>, AllocError>
+/// `WHEN when THEN result`, of what was made of its parts; out of memory where a part was not made.
+pub fn arm<A: Heap>(when: Copied<A>, then: Copied<A>) -> Result<BoundArm<A>, AllocError>
     ensures { (d e : bound.BoundExpr) → IfOk when (λ b. bound_expr_of b.value ≡ d) → IfOk then (λ b. bound_expr_of b.value ≡ e) → IfOk result (λ a. bound_arm_pair a ≡ (d, e)) }
 {
     let when = match when {

@@ -8,7 +8,7 @@ use Rattle.bags.specs.Sorting.{sorted_by}
 use Rattle.bags.proofs.Order.{SameSums, SameSums-IsPermutation, sorted_by-SameSums}
 use Rattle.bags.proofs.Bags.{SameSums-map, SameSums-filter, SameSums-filter_map, SameSums-length}
 use Rattle.bags.proofs.Least.{least_same}
-use Rattle.value.specs.Datum.{Datum, Row}
+use Rattle.value.specs.Datum.{Datum, Row, cell}
 use Rattle.value.specs.Orders.{number, row_cmp}
 use Rattle.value.specs.Exact.{in_range}
 use Rattle.value.specs.declared.operators.Aggregate.{Aggregate}
@@ -16,11 +16,12 @@ use Rattle.value.specs.declared.operators.Aggregate.TheVariants.{Count, Sum, Min
 use Rattle.value.proofs.DatumOrder.{datum_cmp_exact, row_cmp_total, row_cmp_exact}
 use Rattle.expr.specs.declared.bound.ColumnId.{ColumnId}
 use Rattle.expr.specs.Aggregates.{AggregateCall}
-use Rattle.stages.specs.Stages.{first_then, gives, stage}
+use Rattle.stages.specs.Stages.{gives, stage}
+use Rattle.memory.specs.Results.{first_then}
 use Rattle.groups.specs.Members.{Member}
 use Rattle.groups.specs.Groups.{Group, has_key, group_with, keys, classes, without_repeats}
 use Rattle.groups.specs.Classes.{grouped}
-use Rattle.groups.specs.Aggregates.{argument_at, not_null, values_at, exact_sum, number_at, or_null, towards, aggregate_of, totals}
+use Rattle.groups.specs.Aggregates.{not_null, values_at, exact_sum, number_at, or_null, towards, aggregate_of, totals}
 use Rattle.groups.specs.GroupRow.{with_totals, group_row, group_rows}
 use Rattle.groups.proofs.Totals.{towards_total}
 
@@ -64,7 +65,7 @@ same_totals : (calls : List AggregateCall) (index : ℕ) (xs ys : List Row) → 
 same_totals [] index xs ys same = refl
 same_totals (c ∷ calls) index xs ys same =
     ap₂ first_then
-    (same_aggregate c.aggregate c.offset (values_at index xs) (values_at index ys) (SameSums-filter_map xs ys same (λ arguments. not_null (argument_at arguments index))))
+    (same_aggregate c.aggregate c.offset (values_at index xs) (values_at index ys) (SameSums-filter_map xs ys same (λ arguments. not_null (cell arguments index))))
     (same_totals calls (index + 1) xs ys same)
 
 -- ---- groups

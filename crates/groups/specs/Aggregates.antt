@@ -1,9 +1,9 @@
 -- The aggregates of a group.
-use Rattle.std.specs.Prelude.{ℕ, ◌+◌, ℤ, pos, ◌+ℤ◌, Bool, true, false, List, [], ◌∷◌, length, slice_index_or, Option, Some, None, Result, Ok, Err}
+use Rattle.std.specs.Prelude.{ℕ, ◌+◌, ℤ, pos, ◌+ℤ◌, Bool, true, false, List, [], ◌∷◌, length, Option, Some, None, Result, Ok, Err}
 use Rattle.std.specs.List.{filter_map}
 use Rattle.std.specs.declared.cmp.Ordering.{Ordering}
 use Rattle.bags.specs.Least.{least}
-use Rattle.value.specs.Datum.{Datum, null, int, text, bool, Row}
+use Rattle.value.specs.Datum.{Datum, null, int, text, bool, Row, cell}
 use Rattle.value.specs.Orders.{number, datum_cmp}
 use Rattle.value.specs.Exact.{in_range}
 use Rattle.value.specs.declared.types.FaultKind.{FaultKind}
@@ -11,7 +11,7 @@ use Rattle.value.specs.declared.faults.Fault.{Fault}
 use Rattle.value.specs.declared.operators.Aggregate.{Aggregate}
 use Rattle.value.specs.declared.operators.Aggregate.TheVariants.{Count, Sum, Min, Max}
 use Rattle.expr.specs.Aggregates.{AggregateCall}
-use Rattle.stages.specs.Stages.{first_then}
+use Rattle.memory.specs.Results.{first_then}
 
 -- ---- the values of an argument
 
@@ -21,13 +21,9 @@ not_null (int n) = Some (int n)
 not_null (text t) = Some (text t)
 not_null (bool b) = Some (bool b)
 
--- a member has an argument for each aggregate, so that null never replaces one
-abbrev pub argument_at : Row → ℕ → Datum
-argument_at arguments index = slice_index_or arguments index null
-
--- on the members, nulls left out
+-- on the members, nulls left out; a member has an argument for each aggregate, so that no null stands for one that is missing
 abbrev pub values_at : ℕ → List Row → List Datum
-values_at index members = filter_map (λ arguments. not_null (argument_at arguments index)) members
+values_at index members = filter_map (λ arguments. not_null (cell arguments index)) members
 
 -- ---- the value of an aggregate
 

@@ -7,7 +7,7 @@ use Rattle.expr.specs.declared.bound.ColumnId.{ColumnId}
 use Rattle.expr.specs.Bound.{BoundExpr}
 use Rattle.expr.specs.Aggregates.{AggregateCall}
 use Rattle.eval.specs.Meaning.{Cells, Outcome, meaning}
-use Rattle.stages.specs.Stages.{first_then}
+use Rattle.memory.specs.Results.{first_then}
 
 -- the values of the GROUP BY columns, and those of the arguments of all aggregates, in written order
 pub record Member : Type 0 where

@@ -3,12 +3,12 @@
 ghost use Rattle.std.specs.Prelude.{◌≡◌, pos, length, Some, option_map, IfOk};
 ghost use Rattle.memory.specs.Gives.{Gives};
 ghost use Rattle.bags.specs.Least.{lesser, least};
-ghost use Rattle.value.specs.Datum.{datum, row_of};
+ghost use Rattle.value.specs.Datum.{datum, row_of, cell};
 ghost use Rattle.value.specs.Exact as exact;
 ghost use Rattle.value.specs.Orders as orders;
 ghost use Rattle.expr.specs.View.{aggregate_call_of, aggregate_calls_of};
 ghost use Rattle.groups.specs.Aggregates as spec;
-ghost use Rattle.groups.specs.Aggregates.{argument_at, not_null, values_at, towards, or_null};
+ghost use Rattle.groups.specs.Aggregates.{not_null, values_at, towards, or_null};
 ghost use Rattle.groups.specs.View.{rows_of};
 
 use expr::AggregateCall;
@@ -19,7 +19,7 @@ use value::{Aggregate, Fault, FaultKind, Value, cmp_values};
 
 // The argument at an index, unless it is null.
 fn value_at<A: Heap>(arguments: &[Value<A>], index: usize) -> Option<&Value<A>>
-    ensures { option_map (λ v. datum v.now) result ≡ not_null (argument_at (row_of arguments.now) index) }
+    ensures { option_map (λ v. datum v.now) result ≡ not_null (cell (row_of arguments.now) index) }
 {
     match arguments.get(index) {
         None => None,
@@ -43,7 +43,7 @@ fn count<A: Heap>(members: &[Items<Value<A>, A>], index: usize) -> usize
 
 // The number at an index, 0 where it is null.
 fn number<A: Heap>(arguments: &[Value<A>], index: usize) -> i64
-    ensures { result ≡ orders.number (argument_at (row_of arguments.now) index) }
+    ensures { result ≡ orders.number (cell (row_of arguments.now) index) }
 {
     match arguments.get(index) {
         Some(Value::Int(n)) => *n,

@@ -1,12 +1,12 @@
 //! The memberships of roles (PostgreSQL: Role Membership).
 
-ghost use Rattle.std.specs.Prelude.{◌≡◌, ◌≤◌, ◌++◌, ◌∷◌, Contains, IsTrue, List, OnErr, OnOk, [], false, length, map, true};
+ghost use Rattle.std.specs.Prelude.{◌≡◌, ◌≤◌, ◌++◌, ◌∷◌, Contains, IsTrue, List, OnErr, OnOk, [], false, length, true};
 ghost use Rattle.std.specs.List.{list_all, list_any};
 ghost use Rattle.value.specs.Names.{Name};
 ghost use Rattle.memberships.specs.Memberships as spec;
 ghost use Rattle.memberships.specs.Memberships.{belongs_by, closes_loop, is_membership, most_roles, with_membership, without_membership, Leads, HasNoLoop};
 ghost use Rattle.memberships.specs.Reached.{is_marked, is_of_roles, next_group};
-ghost use Rattle.memberships.specs.View.{membership_of};
+ghost use Rattle.memberships.specs.View.{memberships_of};
 
 use memory::{Heap, Text};
 use named::ByName;
@@ -41,7 +41,7 @@ fn next_group<V, A: Heap>(
     marks: &[bool],
 ) -> Option<usize>
     requires { length roles.now ≤ length marks.now }
-    ensures { result ≡ next_group roles.now marks.now (map (λ m. membership_of m) memberships.now) }
+    ensures { result ≡ next_group roles.now marks.now (memberships_of memberships.now) }
 {
     for m in memberships {
         if is_marked(roles, marks, m.member.as_str())
@@ -62,8 +62,8 @@ pub fn belongs_by<V, A: Heap>(
     s: &str,
 ) -> bool
     requires few { length roles.now ≤ most_roles }
-    requires known { list_all (is_of_roles roles.now) (map (λ m. membership_of m) memberships.now) ≡ true }
-    ensures { result ≡ belongs_by (map (λ m. membership_of m) memberships.now) r.now s.now }
+    requires known { list_all (is_of_roles roles.now) (memberships_of memberships.now) ≡ true }
+    ensures { result ≡ belongs_by (memberships_of memberships.now) r.now s.now }
 {
     let Some(start) = roles.index(r) else {
         return r == s;
@@ -85,8 +85,8 @@ pub fn closes_loop<V, A: Heap>(
     member: &str,
 ) -> bool
     requires few { length roles.now ≤ most_roles }
-    requires known { list_all (is_of_roles roles.now) (map (λ m. membership_of m) memberships.now) ≡ true }
-    ensures { result ≡ closes_loop (map (λ m. membership_of m) memberships.now) group.now member.now }
+    requires known { list_all (is_of_roles roles.now) (memberships_of memberships.now) ≡ true }
+    ensures { result ≡ closes_loop (memberships_of memberships.now) group.now member.now }
 {
     belongs_by(roles, memberships, group, member)
 }
@@ -94,7 +94,7 @@ pub fn closes_loop<V, A: Heap>(
 // ---- the set of memberships
 
 fn is_there<A: Heap>(memberships: &[Membership<A>], group: &str, member: &str) -> bool
-    ensures { result ≡ list_any (is_membership group.now member.now) (map (λ m. membership_of m) memberships.now) }
+    ensures { result ≡ list_any (is_membership group.now member.now) (memberships_of memberships.now) }
 {
     for m in memberships {
         if m.group.as_str() == group && m.member.as_str() == member {
@@ -111,7 +111,7 @@ pub fn add_membership<A: Heap>(
     group: &str,
     member: &str,
 ) -> Result<(), AllocError>
-    ensures done { OnOk result (map (λ m. membership_of m) memberships.new.items ≡ with_membership group.now member.now (map (λ m. membership_of m) memberships.old.items)) }
+    ensures done { OnOk result (memberships_of memberships.new.items ≡ with_membership group.now member.now (memberships_of memberships.old.items)) }
     ensures unchanged { OnErr result (memberships.new.items ≡ memberships.old.items) }
 {
     if is_there(memberships.as_slice(), group, member) {
@@ -129,7 +129,7 @@ pub fn remove_membership<A: Heap>(
     group: &str,
     member: &str,
 )
-    ensures { map (λ m. membership_of m) memberships.new.items ≡ without_membership group.now member.now (map (λ m. membership_of m) memberships.old.items) }
+    ensures { memberships_of memberships.new.items ≡ without_membership group.now member.now (memberships_of memberships.old.items) }
 {
     memberships.retain(move |m| !(m.group.as_str() == group && m.member.as_str() == member));
 }

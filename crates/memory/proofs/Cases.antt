@@ -1,5 +1,5 @@
--- Options and results by their cases, and the failure that `?` hands on.
-use Rattle.std.proofs.Common.{◌≡◌, Option, Some, None, Result, Ok, Err, IsErrAnd}
+-- Options, results and lists by their cases, and the failure that `?` hands on.
+use Rattle.std.proofs.Common.{◌≡◌, List, [], ◌∷◌, Option, Some, None, Result, Ok, Err, IsErrAnd}
 use Rattle.memory.specs.Gives.{Gives, IsFailure}
 use Rattle.memory.specs.declared.failure.Failure.{Failure}
 
@@ -11,6 +11,9 @@ none_is_not x e = cc
 
 pub some_is_not : {X : Type 0} (x : X) → ◌≡◌ {A = Option X} (Some x) None → ⊥
 some_is_not x e = cc
+
+pub nil_is_not : {X : Type 0} (x : X) (xs : List X) → ◌≡◌ {A = List X} [] (x ∷ xs) → ⊥
+nil_is_not x xs e = cc
 
 pub ok_is : {X E : Type 0} (x y : X) → ◌≡◌ {A = Result X E} (Ok x) (Ok y) → x ≡ y
 ok_is x y e = cc

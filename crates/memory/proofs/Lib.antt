@@ -1,2 +1,3 @@
 pub mod Cases
+pub mod Lighter
 pub mod Lists

@@ -12,7 +12,7 @@ use Rattle.expr.specs.Aggregates.{AggregateCall, aggregates, all_aggregates, arm
 use Rattle.eval.specs.Meaning.{Cells, holds}
 use Rattle.eval.specs.Laws.{AgreeOn}
 use Rattle.eval.proofs.Agreement.{agree_left, agree_right, same_meaning, same_holds}
-use Rattle.stages.specs.Stages.{first_then}
+use Rattle.memory.specs.Results.{first_then}
 use Rattle.groups.specs.Members.{argument, arguments, key_on, with_key, member_on}
 use Rattle.expr.specs.BoundQuery.{BoundItem, BoundQuery}
 use Rattle.expr.specs.Conjuncts.{members, conjuncts_of, conjuncts_in, conjuncts}

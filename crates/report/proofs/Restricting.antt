@@ -3,12 +3,11 @@ use Rattle.std.proofs.Common.{◌≡◌, ℕ, zero, suc, ◌+◌, ◌==◌, Bool
 use Rattle.std.specs.List.{flat_map, list_any}
 use Rattle.std.proofs.lemmas.Bool.Decides.{nat_tests}
 use Rattle.std.proofs.lemmas.List.{map-append}
-use Rattle.value.specs.Datum.{Row}
+use Rattle.value.specs.Datum.{Row, cell}
 use Rattle.expr.specs.declared.bound.ColumnId.{ColumnId}
 use Rattle.eval.specs.Laws.{AgreeOn}
 use Rattle.groups.proofs.SameGroups.{map-map}
 use Rattle.expr.specs.BoundQuery.{BoundQuery}
-use Rattle.tuples.specs.Rows.{cell}
 use Rattle.tuples.specs.Combinations.{Combination, combinations, joined_cells}
 use Rattle.expr.specs.NamedColumns.{named_columns}
 use Rattle.report.specs.Restricted.{kept_from, restricted, named_in}

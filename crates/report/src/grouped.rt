@@ -5,7 +5,7 @@ ghost use Rattle.std.specs.List.{flat_map};
 ghost use Rattle.memory.specs.Gives.{Gives};
 ghost use Rattle.value.specs.Datum.{row_of};
 ghost use Rattle.expr.specs.Aggregates.{aggregates};
-ghost use Rattle.expr.specs.View.{aggregate_calls_of, bound_expr_of, bound_item_of, bound_query_of};
+ghost use Rattle.expr.specs.View.{aggregate_calls_of, bound_expr_of, bound_items_of, bound_query_of};
 ghost use Rattle.groups.specs.View.{group_row_of, member_of};
 ghost use Rattle.tuples.specs.View.{world_of};
 ghost use Rattle.tuples.specs.World.{combination_at};
@@ -25,7 +25,7 @@ fn push_item_aggregates<'q, A: Heap>(
     calls: &mut Items<AggregateCall<'q, A>, A>,
     items: &'q [BoundItem<A>],
 ) -> Result<(), AllocError>
-    ensures { OnOk result (aggregate_calls_of calls.new ≡ aggregate_calls_of calls.old ++ flat_map spec.item_aggregates (map (λ i. bound_item_of i) items.now)) }
+    ensures { OnOk result (aggregate_calls_of calls.new ≡ aggregate_calls_of calls.old ++ flat_map spec.item_aggregates (bound_items_of items.now)) }
 {
     for item in items {
         push_aggregates(calls, &item.value)?;

@@ -2,9 +2,8 @@
 
 ghost use Rattle.std.specs.Prelude.{◌≡◌, IfOk, map, take};
 ghost use Rattle.bags.specs.Sorting.{sorted_by};
-ghost use Rattle.value.specs.Datum.{datum_of, row_of};
+ghost use Rattle.value.specs.Datum.{datum_of, row_of, cell};
 ghost use Rattle.value.specs.Orders.{datum_cmp};
-ghost use Rattle.tuples.specs.Rows.{cell};
 ghost use Rattle.report.specs.Ordered as spec;
 ghost use Rattle.report.specs.Ordered.{by_key, by_keys, output_cmp, limited};
 

@@ -3,7 +3,7 @@
 ghost use Rattle.std.specs.Prelude.{map};
 ghost use Rattle.memory.specs.Gives.{Gives};
 ghost use Rattle.value.specs.Datum.{datum, row_of};
-ghost use Rattle.expr.specs.View.{bound_expr_of, bound_item_of};
+ghost use Rattle.expr.specs.View.{bound_expr_of, bound_item_of, bound_items_of};
 ghost use Rattle.eval.specs.Meaning.{meaning};
 ghost use Rattle.report.specs.QueryStages.{truth_in, keeps, values_of};
 
@@ -67,7 +67,7 @@ pub(crate) fn values<A: Heap, R: Row<A>>(
     row: &R,
     role: &str,
 ) -> Result<Items<Value<A>, A>, Failure<Fault>>
-    ensures { Gives (λ values. row_of values) result (values_of (R.cells row.now) role.now (map bound_item_of items.now)) }
+    ensures { Gives (λ values. row_of values) result (values_of (R.cells row.now) role.now (bound_items_of items.now)) }
 {
     let mut values = Items::new(alloc);
     for item in items {

@@ -9,13 +9,14 @@ use Rattle.row_objects.specs.Objects.{Table}
 use Rattle.catalog.specs.Catalog.{Catalog, table_named}
 use Rattle.scope.specs.declared.error.BindError.{BindError}
 use Rattle.expr.specs.declared.query.OutputKey.{OutputKey}
-use Rattle.scope.specs.Entry.{Entry, and_then, fault}
+use Rattle.scope.specs.Entry.{Entry, fault}
+use Rattle.memory.specs.Results.{and_then}
 use Rattle.expr.specs.BoundQuery.{BoundQuery}
 use Rattle.resolve.specs.Entries.{JoinedTable, alias_of, entries, entries_in, entry_in, found_entry, is_used, joined}
 use Rattle.typing.specs.Clauses.{clause_error}
 use Rattle.resolve.specs.BoundQueries.{bound_query}
 use Rattle.resolve.specs.OrderBy.{output_keys}
-use Rattle.resolve.specs.Resolved.{Bound, bound, bound_with, checked, ordered, unless_fault, with_order}
+use Rattle.resolve.specs.Resolved.{Bound, bound_with, checked, ordered, unless_fault, with_order}
 use Rattle.resolve.specs.EntryTables.{AreTables, BindsTables}
 
 -- what is given at the end was given on the way

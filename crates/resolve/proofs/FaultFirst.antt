@@ -1,7 +1,7 @@
 -- A check, and the step after it.
 use Rattle.std.proofs.Common.{◌≡◌, Option, Some, None, Result, Err, refl}
 use Rattle.scope.specs.declared.error.BindError.{BindError}
-use Rattle.scope.specs.Entry.{and_then}
+use Rattle.memory.specs.Results.{and_then}
 use Rattle.resolve.specs.Resolved.{unless_fault}
 
 module _ {X Y : Type 0} (fault : Option BindError) (x : X) (next : X → Result Y BindError) where

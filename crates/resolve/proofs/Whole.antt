@@ -1,6 +1,5 @@
 -- A query of its parts.
-use Rattle.std.proofs.Common.{◌≡◌, ℕ, Bool, List, [], Option, Result, Ok, Err, IsErrAnd, refl, ap}
-use Rattle.memory.proofs.Cases.{exits}
+use Rattle.std.proofs.Common.{◌≡◌, ℕ, Bool, List, [], Option, Result, Ok, Err, refl, ap}
 use Rattle.memory.specs.Gives.{Gives}
 use Rattle.memory.specs.declared.failure.Failure.{Failure}
 use Rattle.memory.specs.declared.failure.Failure.TheVariants as failure

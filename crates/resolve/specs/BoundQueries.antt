@@ -10,7 +10,8 @@ use Rattle.expr.specs.Bound as bound
 use Rattle.expr.specs.Bound.{BoundExpr}
 use Rattle.scope.specs.declared.error.BindError.{BindError}
 use Rattle.scope.specs.declared.lookup.Scope.{Scope}
-use Rattle.scope.specs.Entry.{and_then, Entry}
+use Rattle.scope.specs.Entry.{Entry}
+use Rattle.memory.specs.Results.{and_then}
 use Rattle.scope.specs.Lookup.{everywhere, find_column, on_scope}
 use Rattle.expr.specs.BoundQuery.{BoundItem, BoundQuery}
 use Rattle.scope.specs.BoundExprs.{bound_expr}

@@ -7,7 +7,8 @@ use Rattle.value.specs.Names.{Name}
 use Rattle.row_objects.specs.Objects.{Table}
 use Rattle.catalog.specs.Catalog.{Catalog, table_named}
 use Rattle.scope.specs.declared.error.BindError.{BindError}
-use Rattle.scope.specs.Entry.{Entry, and_then, fault}
+use Rattle.scope.specs.Entry.{Entry, fault}
+use Rattle.memory.specs.Results.{and_then}
 
 -- a table of FROM, the index of the first one of its comma item, and its ON
 pub record JoinedTable : Type 0 where

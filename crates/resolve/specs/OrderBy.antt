@@ -6,7 +6,8 @@ use Rattle.row_ast.specs.Ast as ast
 use Rattle.value.specs.Names.{Name}
 use Rattle.scope.specs.declared.error.BindError.{BindError}
 use Rattle.expr.specs.declared.query.OutputKey.{OutputKey}
-use Rattle.scope.specs.Entry.{and_then, fault}
+use Rattle.scope.specs.Entry.{fault}
+use Rattle.memory.specs.Results.{and_then}
 use Rattle.expr.specs.BoundQuery.{BoundItem}
 
 -- the indices of the output columns that have a heading, from an index on

@@ -4,7 +4,8 @@ use Rattle.row_ast.specs.Ast as ast
 use Rattle.catalog.specs.Catalog.{Catalog}
 use Rattle.scope.specs.declared.error.BindError.{BindError}
 use Rattle.expr.specs.declared.query.OutputKey.{OutputKey}
-use Rattle.scope.specs.Entry.{Entry, and_then}
+use Rattle.scope.specs.Entry.{Entry}
+use Rattle.memory.specs.Results.{and_then}
 use Rattle.expr.specs.BoundQuery.{BoundQuery}
 use Rattle.typing.specs.Clauses.{clause_error}
 use Rattle.resolve.specs.Entries.{entries}

@@ -5,7 +5,7 @@ ghost use Rattle.memory.specs.Gives.{Gives};
 ghost use Rattle.row_ast.specs.View.{from_item_of, join_of, table_ref_of};
 ghost use Rattle.row_objects.specs.View.{table_of};
 ghost use Rattle.resolve.specs.Entries as spec;
-ghost use Rattle.scope.specs.View.{entry_of};
+ghost use Rattle.scope.specs.View.{entry_of, entries_of};
 ghost use Rattle.resolve.specs.View.{joined_table_of};
 
 use catalog::Catalog;
@@ -95,7 +95,7 @@ fn alias_of<A: Heap>(table: &TableRef<A>) -> &str
 }
 
 fn is_used<A: Heap>(entries: &[Entry<'_, A>], alias: &str) -> bool
-    ensures { result ≡ spec.is_used alias.now (map (λ e. entry_of e) entries.now) }
+    ensures { result ≡ spec.is_used alias.now (entries_of entries.now) }
 {
     for entry in entries {
         if entry.alias == alias {
@@ -110,7 +110,7 @@ fn found_entry<'s, A: Heap>(
     joined: &JoinedTable<'s, A>,
     table: Table<'s, A>,
 ) -> Result<Entry<'s, A>, Failure<BindError>>
-    ensures { Gives (λ e. entry_of e) result (spec.found_entry (map (λ e. entry_of e) before.now) (joined_table_of joined.now) (Some (table_of table.entry))) }
+    ensures { Gives (λ e. entry_of e) result (spec.found_entry (entries_of before.now) (joined_table_of joined.now) (Some (table_of table.entry))) }
 {
     let alias = alias_of(joined.table);
     if is_used(before, alias) {
@@ -132,7 +132,7 @@ fn entry_in<'s, A: Heap>(
     before: &[Entry<'s, A>],
     joined: &JoinedTable<'s, A>,
 ) -> Result<Entry<'s, A>, Failure<BindError>>
-    ensures { Gives (λ e. entry_of e) result (spec.entry_in catalog.now (map (λ e. entry_of e) before.now) (joined_table_of joined.now)) }
+    ensures { Gives (λ e. entry_of e) result (spec.entry_in catalog.now (entries_of before.now) (joined_table_of joined.now)) }
 {
     match catalog.table(joined.table.table.as_str()) {
         Some(table) => found_entry(before, joined, table),
@@ -148,7 +148,7 @@ fn entries_in<'s, A: Heap>(
     catalog: &'s Catalog<A>,
     tables: &[JoinedTable<'s, A>],
 ) -> Result<Items<Entry<'s, A>, A>, Failure<BindError>>
-    ensures { Gives (λ entries. map (λ e. entry_of e) entries) result (spec.entries_in catalog.now [] (map (λ j. joined_table_of j) tables.now)) }
+    ensures { Gives (λ entries. entries_of entries) result (spec.entries_in catalog.now [] (map (λ j. joined_table_of j) tables.now)) }
 {
     let mut entries = Items::new(alloc);
     for joined in tables {
@@ -166,7 +166,7 @@ pub fn entries<'s, A: Heap>(
     catalog: &'s Catalog<A>,
     from: &'s [FromItem<A>],
 ) -> Result<Items<Entry<'s, A>, A>, Failure<BindError>>
-    ensures { Gives (λ entries. map (λ e. entry_of e) entries) result (spec.entries catalog.now (map (λ f. from_item_of f) from.now)) }
+    ensures { Gives (λ entries. entries_of entries) result (spec.entries catalog.now (map (λ f. from_item_of f) from.now)) }
 {
     let tables = joined(alloc, from)?;
     entries_in(alloc, catalog, tables.as_slice())

@@ -3,7 +3,7 @@
 ghost use Rattle.std.specs.Prelude.{◌≡◌, [], length, map};
 ghost use Rattle.memory.specs.Gives.{Gives};
 ghost use Rattle.row_ast.specs.View.{sort_key_of, sort_target_of};
-ghost use Rattle.expr.specs.View.{bound_item_of};
+ghost use Rattle.expr.specs.View.{bound_items_of};
 ghost use Rattle.resolve.specs.OrderBy as spec;
 
 use expr::{BoundItem, OutputKey};
@@ -18,7 +18,7 @@ fn index_of_heading<A: Heap>(
     heading: &str,
     offset: u32,
 ) -> Result<usize, BindError>
-    ensures { result ≡ spec.one_index offset (spec.indexes_of heading.now 0 (map (λ i. bound_item_of i) items.now)) }
+    ensures { result ≡ spec.one_index offset (spec.indexes_of heading.now 0 (bound_items_of items.now)) }
 {
     let mut found = None;
     for (index, item) in items.iter().enumerate() {
@@ -59,7 +59,7 @@ fn target_index<A: Heap>(
     target: &SortTarget<A>,
     offset: u32,
 ) -> Result<usize, BindError>
-    ensures { result ≡ spec.target_index (map (λ i. bound_item_of i) items.now) offset (sort_target_of target.now) }
+    ensures { result ≡ spec.target_index (bound_items_of items.now) offset (sort_target_of target.now) }
 {
     match target {
         SortTarget::Heading(heading) => index_of_heading(items, heading.as_str(), offset),
@@ -68,7 +68,7 @@ fn target_index<A: Heap>(
 }
 
 fn output_key<A: Heap>(items: &[BoundItem<A>], key: &SortKey<A>) -> Result<OutputKey, BindError>
-    ensures { result ≡ spec.output_key (map (λ i. bound_item_of i) items.now) (sort_key_of key.now) }
+    ensures { result ≡ spec.output_key (bound_items_of items.now) (sort_key_of key.now) }
 {
     let index = target_index(items, &key.target, key.offset)?;
     Ok(OutputKey {
@@ -83,7 +83,7 @@ pub(crate) fn output_keys<A: Heap>(
     items: &[BoundItem<A>],
     order_by: &[SortKey<A>],
 ) -> Result<Items<OutputKey, A>, Failure<BindError>>
-    ensures { Gives (λ keys. keys) result (spec.output_keys (map (λ i. bound_item_of i) items.now) [] (map (λ k. sort_key_of k) order_by.now)) }
+    ensures { Gives (λ keys. keys) result (spec.output_keys (bound_items_of items.now) [] (map (λ k. sort_key_of k) order_by.now)) }
 {
     let mut keys = Items::new(alloc);
     for key in order_by {

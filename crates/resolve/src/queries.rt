@@ -2,11 +2,11 @@
 
 ghost use Rattle.std.specs.Prelude.{◌≡◌, ◌++◌, OnOk, IfOk, [], map, option_map};
 ghost use Rattle.memory.specs.Gives.{Gives};
-ghost use Rattle.value.specs.Columns.{column_of};
+ghost use Rattle.value.specs.Columns.{column_of, columns_of};
 ghost use Rattle.row_ast.specs.View.{column_ref_of, condition_of, expr_of, query_of, select_item_of, select_list_of};
-ghost use Rattle.expr.specs.View.{bound_expr_of, bound_item_of, bound_query_of};
+ghost use Rattle.expr.specs.View.{bound_expr_of, bound_item_of, bound_items_of, bound_query_of};
 ghost use Rattle.resolve.specs.BoundQueries as spec;
-ghost use Rattle.scope.specs.View.{entry_of};
+ghost use Rattle.scope.specs.View.{entries_of};
 
 use expr::{BoundCondition, BoundExpr, BoundItem, BoundQuery, ColumnId};
 use memory::{Failure, Heap, Items, Text, boxed};
@@ -53,7 +53,7 @@ fn bind_item<A: Heap>(
     scope: Scope,
     item: &SelectItem<A>,
 ) -> Result<BoundItem<A>, Failure<BindError>>
-    ensures { Gives (λ i. bound_item_of i) result (spec.bound_item (map (λ e. entry_of e) entries.now) scope (select_item_of item.now)) }
+    ensures { Gives (λ i. bound_item_of i) result (spec.bound_item (entries_of entries.now) scope (select_item_of item.now)) }
 {
     let value = bind_expr(alloc, entries, scope, &item.value)?;
     let heading = Text::new(alloc, heading(item))?;
@@ -66,7 +66,7 @@ fn bind_items<A: Heap>(
     scope: Scope,
     items: &[SelectItem<A>],
 ) -> Result<Items<BoundItem<A>, A>, Failure<BindError>>
-    ensures { Gives (λ items. map (λ i. bound_item_of i) items) result (spec.bound_items (map (λ e. entry_of e) entries.now) scope [] (map (λ i. select_item_of i) items.now)) }
+    ensures { Gives (λ items. bound_items_of items) result (spec.bound_items (entries_of entries.now) scope [] (map (λ i. select_item_of i) items.now)) }
 {
     let mut all = Items::new(alloc);
     for item in items {
@@ -96,7 +96,7 @@ fn push_column_items<A: Heap>(
     entry: usize,
     columns: &[Column<A>],
 ) -> Result<(), AllocError>
-    ensures { OnOk result (map (λ i. bound_item_of i) items.new ≡ map (λ i. bound_item_of i) items.old ++ spec.column_items entry 0 (map (λ c. column_of c) columns.now)) }
+    ensures { OnOk result (bound_items_of items.new ≡ bound_items_of items.old ++ spec.column_items entry 0 (columns_of columns.now)) }
 {
     for (index, column) in columns.iter().enumerate() {
         let id = ColumnId {
@@ -113,7 +113,7 @@ fn push_every_item<A: Heap>(
     items: &mut Items<BoundItem<A>, A>,
     entries: &[Entry<'_, A>],
 ) -> Result<(), AllocError>
-    ensures { OnOk result (map (λ i. bound_item_of i) items.new ≡ map (λ i. bound_item_of i) items.old ++ spec.every_item 0 (map (λ e. entry_of e) entries.now)) }
+    ensures { OnOk result (bound_items_of items.new ≡ bound_items_of items.old ++ spec.every_item 0 (entries_of entries.now)) }
 {
     for (number, entry) in entries.iter().enumerate() {
         push_column_items(alloc, items, number, entry.table.columns())?;
@@ -125,7 +125,7 @@ fn every_item<A: Heap>(
     alloc: A,
     entries: &[Entry<'_, A>],
 ) -> Result<Items<BoundItem<A>, A>, AllocError>
-    ensures { IfOk result (λ items. map (λ i. bound_item_of i) items ≡ spec.every_item 0 (map (λ e. entry_of e) entries.now)) }
+    ensures { IfOk result (λ items. bound_items_of items ≡ spec.every_item 0 (entries_of entries.now)) }
 {
     let mut items = Items::new(alloc);
     push_every_item(alloc, &mut items, entries)?;
@@ -138,7 +138,7 @@ fn bind_select<A: Heap>(
     scope: Scope,
     select: &SelectList<A>,
 ) -> Result<Items<BoundItem<A>, A>, Failure<BindError>>
-    ensures { Gives (λ items. map (λ i. bound_item_of i) items) result (spec.bound_select (map (λ e. entry_of e) entries.now) scope (select_list_of select.now)) }
+    ensures { Gives (λ items. bound_items_of items) result (spec.bound_select (entries_of entries.now) scope (select_list_of select.now)) }
 {
     match select {
         SelectList::All { .. } => Ok(every_item(alloc, entries)?),
@@ -153,7 +153,7 @@ pub fn bind_condition<A: Heap>(
     scope: Scope,
     condition: Option<&Condition<A>>,
 ) -> Result<BoundCondition<A>, Failure<BindError>>
-    ensures { Gives (λ o. option_map (λ b. bound_expr_of b.value) o) result (spec.bound_condition (map (λ e. entry_of e) entries.now) scope (option_map (λ c. condition_of c.now) condition.entry)) }
+    ensures { Gives (λ o. option_map (λ b. bound_expr_of b.value) o) result (spec.bound_condition (entries_of entries.now) scope (option_map (λ c. condition_of c.now) condition.entry)) }
 {
     match condition {
         Some(condition) => match bind_expr(alloc, entries, scope, &condition.predicate) {
@@ -168,7 +168,7 @@ fn bind_ons<A: Heap>(
     alloc: A,
     entries: &[Entry<'_, A>],
 ) -> Result<Items<BoundCondition<A>, A>, Failure<BindError>>
-    ensures { Gives (λ ons. map (λ o. option_map (λ b. bound_expr_of b.value) o) ons) result (spec.bound_ons (map (λ e. entry_of e) entries.now) 0 [] (map (λ e. entry_of e) entries.now)) }
+    ensures { Gives (λ ons. map (λ o. option_map (λ b. bound_expr_of b.value) o) ons) result (spec.bound_ons (entries_of entries.now) 0 [] (entries_of entries.now)) }
 {
     let mut ons = Items::new(alloc);
     for (number, entry) in entries.iter().enumerate() {
@@ -186,7 +186,7 @@ fn bind_columns<A: Heap>(
     scope: Scope,
     columns: &[ColumnRef<A>],
 ) -> Result<Items<ColumnId, A>, Failure<BindError>>
-    ensures { Gives (λ ids. ids) result (spec.bound_columns (map (λ e. entry_of e) entries.now) scope [] (map (λ c. column_ref_of c) columns.now)) }
+    ensures { Gives (λ ids. ids) result (spec.bound_columns (entries_of entries.now) scope [] (map (λ c. column_ref_of c) columns.now)) }
 {
     let mut ids = Items::new(alloc);
     for column in columns {
@@ -204,7 +204,7 @@ fn bind_optional<A: Heap>(
     scope: Scope,
     condition: &Option<Condition<A>>,
 ) -> Result<BoundCondition<A>, Failure<BindError>>
-    ensures { Gives (λ o. option_map (λ b. bound_expr_of b.value) o) result (spec.bound_condition (map (λ e. entry_of e) entries.now) scope (option_map condition_of condition.now)) }
+    ensures { Gives (λ o. option_map (λ b. bound_expr_of b.value) o) result (spec.bound_condition (entries_of entries.now) scope (option_map condition_of condition.now)) }
 {
     match condition {
         Some(condition) => bind_condition(alloc, entries, scope, Some(condition)),
@@ -219,7 +219,7 @@ pub fn bind_query<A: Heap>(
     entries: &[Entry<'_, A>],
     query: &Query<A>,
 ) -> Result<Box<BoundQuery<A>, A>, Failure<BindError>>
-    ensures { Gives (λ b. bound_query_of b.value) result (spec.bound_query (map (λ e. entry_of e) entries.now) (query_of query.now)) }
+    ensures { Gives (λ b. bound_query_of b.value) result (spec.bound_query (entries_of entries.now) (query_of query.now)) }
 {
     let scope = everywhere(entries);
     let items = bind_select(alloc, entries, scope, &query.select)?;

@@ -1,10 +1,10 @@
 //! Queries whose names are found, and whose aggregates and types are in order.
 
-ghost use Rattle.std.specs.Prelude.{◌≡◌, map};
+ghost use Rattle.std.specs.Prelude.{◌≡◌};
 ghost use Rattle.memory.specs.Gives.{Gives};
 ghost use Rattle.row_ast.specs.View.{query_of};
 ghost use Rattle.expr.specs.View.{bound_query_of};
-ghost use Rattle.scope.specs.View.{entry_of};
+ghost use Rattle.scope.specs.View.{entries_of};
 ghost use Rattle.resolve.specs.Resolved as spec;
 ghost use Rattle.resolve.specs.View.{bound_of};
 
@@ -44,7 +44,7 @@ fn ordered<'s, A: Heap>(
     query: &Query<A>,
     bound: Box<BoundQuery<A>, A>,
 ) -> Result<Bound<'s, A>, Failure<BindError>>
-    ensures { Gives (λ b. bound_of b) result (spec.ordered (map (λ e. entry_of e) entries.entry) (query_of query.now) (bound_query_of bound.value)) }
+    ensures { Gives (λ b. bound_of b) result (spec.ordered (entries_of entries.entry) (query_of query.now) (bound_query_of bound.value)) }
 {
     match output_keys(alloc, bound.items.as_slice(), query.order_by.as_slice()) {
         Ok(keys) => Ok(Bound {
@@ -61,7 +61,7 @@ fn checked<'s, A: Heap>(
     query: &Query<A>,
     bound: Box<BoundQuery<A>, A>,
 ) -> Result<Bound<'s, A>, Failure<BindError>>
-    ensures { Gives (λ b. bound_of b) result (spec.checked (map (λ e. entry_of e) entries.entry) (query_of query.now) (bound_query_of bound.value)) }
+    ensures { Gives (λ b. bound_of b) result (spec.checked (entries_of entries.entry) (query_of query.now) (bound_query_of bound.value)) }
 {
     match clause_error(entries.as_slice(), bound.group_by.as_slice(), query) {
         Some(fault) => Err(Failure::Error(fault)),
@@ -74,7 +74,7 @@ fn bind_with<'s, A: Heap>(
     entries: Items<Entry<'s, A>, A>,
     query: &Query<A>,
 ) -> Result<Bound<'s, A>, Failure<BindError>>
-    ensures { Gives (λ b. bound_of b) result (spec.bound_with (query_of query.now) (map (λ e. entry_of e) entries.entry)) }
+    ensures { Gives (λ b. bound_of b) result (spec.bound_with (query_of query.now) (entries_of entries.entry)) }
 {
     match bind_query(alloc, entries.as_slice(), query) {
         Ok(bound) => checked(alloc, entries, query, bound),

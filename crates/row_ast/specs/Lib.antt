@@ -1,3 +1,4 @@
 pub mod Ast
 pub mod Statements
 pub mod View
+pub mod Weights

@@ -1,5 +1,5 @@
 -- The views of the Rust types of a catalogue's objects as spec data.
-use Rattle.std.specs.Prelude.{map}
+use Rattle.std.specs.Prelude.{List, map}
 use Rattle.value.specs.Columns.{column_of}
 use Rattle.value.specs.Names.{Name}
 use Rattle.row_objects.specs.declared.objects.Role as declared
@@ -14,12 +14,18 @@ use Rattle.row_objects.specs.Grants.{Grant}
 abbrev pub grant_of : {A : Type 0} → declared_grant.Grant A → Grant
 grant_of g = record { to = g.to; column = g.column }
 
+abbrev pub grants_of : {A : Type 0} → List (declared_grant.Grant A) → List Grant
+grants_of grants = map (λ g. grant_of g) grants
+
 -- a role by its name
 abbrev pub role_of : Name × declared.Role → Role
 role_of r = record { name = r.0; superuser = r.1.superuser; bypass_rls = r.1.bypass_rls }
 
 abbrev pub policy_of : {A : Type 0} → declared_policy.Policy A → Policy
 policy_of p = record { name = p.name; restrictive = p.restrictive; roles = p.roles; predicate = p.predicate }
+
+abbrev pub policies_of : {A : Type 0} → List (declared_policy.Policy A) → List Policy
+policies_of policies = map (λ p. policy_of p) policies
 
 abbrev pub index_of : {A : Type 0} → declared_index.Index A → Index
 index_of i = record { name = i.name; column = i.column }

@@ -1,10 +1,10 @@
 //! The set of grants on a table and its columns (PostgreSQL: GRANT, REVOKE).
 
-ghost use Rattle.std.specs.Prelude.{◌≡◌, IfOk, OnErr, OnOk, Some, map, not, option_copied};
+ghost use Rattle.std.specs.Prelude.{◌≡◌, IfOk, OnErr, OnOk, Some, not, option_copied};
 ghost use Rattle.std.specs.Str.{bytes_eq};
 ghost use Rattle.std.specs.List.{list_any};
 ghost use Rattle.row_objects.specs.Grants.{grants_to, grants_to_all, has_grant, is_revoked, same_grant, takes, with_grant, with_grants, without_grants, IsFront};
-ghost use Rattle.row_objects.specs.View.{grant_of};
+ghost use Rattle.row_objects.specs.View.{grant_of, grants_of};
 
 use memory::{Heap, Items, Text};
 use std::alloc::AllocError;
@@ -35,7 +35,7 @@ fn is_same<A: Heap>(grant: &Grant<A>, to: &str, column: Option<&str>) -> bool
 }
 
 fn has_grant<A: Heap>(grants: &[Grant<A>], to: &str, column: Option<&str>) -> bool
-    ensures { result ≡ has_grant (map (λ g. grant_of g) grants.now) (record { to = to.now; column = option_copied column.entry }) }
+    ensures { result ≡ has_grant (grants_of grants.now) (record { to = to.now; column = option_copied column.entry }) }
 {
     for grant in grants {
         if is_same(grant, to, column) {
@@ -60,7 +60,7 @@ fn push_grant<A: Heap>(
     to: &str,
     column: Option<&str>,
 ) -> Result<(), AllocError>
-    ensures done { OnOk result (map (λ g. grant_of g) grants.new.items ≡ with_grant (map (λ g. grant_of g) grants.old.items) (record { to = to.now; column = option_copied column.entry })) }
+    ensures done { OnOk result (grants_of grants.new.items ≡ with_grant (grants_of grants.old.items) (record { to = to.now; column = option_copied column.entry })) }
     ensures front { IsFront grants.old.items grants.new.items }
 {
     if has_grant(grants.as_slice(), to, column) {
@@ -78,7 +78,7 @@ fn push_columns<A: Heap>(
     to: &str,
     columns: &[Text<A>],
 ) -> Result<(), AllocError>
-    ensures done { OnOk result (map (λ g. grant_of g) grants.new.items ≡ with_grants (map (λ g. grant_of g) grants.old.items) (grants_to (Some columns.now) to.now)) }
+    ensures done { OnOk result (grants_of grants.new.items ≡ with_grants (grants_of grants.old.items) (grants_to (Some columns.now) to.now)) }
     ensures front { IsFront grants.old.items grants.new.items }
 {
     for column in columns {
@@ -93,7 +93,7 @@ fn push_to<A: Heap>(
     to: &str,
     columns: &Option<Items<Text<A>, A>>,
 ) -> Result<(), AllocError>
-    ensures done { OnOk result (map (λ g. grant_of g) grants.new.items ≡ with_grants (map (λ g. grant_of g) grants.old.items) (grants_to columns.now to.now)) }
+    ensures done { OnOk result (grants_of grants.new.items ≡ with_grants (grants_of grants.old.items) (grants_to columns.now to.now)) }
     ensures front { IsFront grants.old.items grants.new.items }
 {
     match columns {
@@ -108,7 +108,7 @@ fn push_all<A: Heap>(
     columns: &Option<Items<Text<A>, A>>,
     roles: &[Text<A>],
 ) -> Result<(), AllocError>
-    ensures done { OnOk result (map (λ g. grant_of g) grants.new.items ≡ with_grants (map (λ g. grant_of g) grants.old.items) (grants_to_all columns.now roles.now)) }
+    ensures done { OnOk result (grants_of grants.new.items ≡ with_grants (grants_of grants.old.items) (grants_to_all columns.now roles.now)) }
     ensures front { IsFront grants.old.items grants.new.items }
 {
     for role in roles {
@@ -125,7 +125,7 @@ pub fn add_grants<A: Heap>(
     columns: &Option<Items<Text<A>, A>>,
     roles: &[Text<A>],
 ) -> Result<(), AllocError>
-    ensures done { OnOk result (map (λ g. grant_of g) grants.new ≡ with_grants (map (λ g. grant_of g) grants.old) (grants_to_all columns.now roles.now)) }
+    ensures done { OnOk result (grants_of grants.new ≡ with_grants (grants_of grants.old) (grants_to_all columns.now roles.now)) }
     ensures unchanged { OnErr result (grants.new ≡ grants.old) }
 {
     let mut list = replace(grants, Items::new(alloc)).into_vec();
@@ -183,7 +183,7 @@ fn keep_others<A: Heap>(
     columns: &Option<Items<Text<A>, A>>,
     roles: &[Text<A>],
 )
-    ensures { map (λ g. grant_of g) grants.new.items ≡ without_grants columns.now roles.now (map (λ g. grant_of g) grants.old.items) }
+    ensures { grants_of grants.new.items ≡ without_grants columns.now roles.now (grants_of grants.old.items) }
 {
     grants.retain(|grant| !is_revoked(columns, roles, grant));
 }
@@ -195,7 +195,7 @@ pub fn remove_grants<A: Heap>(
     columns: &Option<Items<Text<A>, A>>,
     roles: &[Text<A>],
 )
-    ensures { map (λ g. grant_of g) grants.new ≡ without_grants columns.now roles.now (map (λ g. grant_of g) grants.old) }
+    ensures { grants_of grants.new ≡ without_grants columns.now roles.now (grants_of grants.old) }
 {
     let mut list = replace(grants, Items::new(alloc)).into_vec();
     keep_others(&mut list, columns, roles);

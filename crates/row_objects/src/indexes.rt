@@ -1,7 +1,7 @@
 //! The indexes of tables.
 
 ghost use Rattle.std.specs.Prelude.{◌≡◌, IfOk, map, option_map};
-ghost use Rattle.value.specs.Columns.{column_of};
+ghost use Rattle.value.specs.Columns.{columns_of};
 ghost use Rattle.row_objects.specs.Indexes as spec;
 ghost use Rattle.row_objects.specs.Indexes.{any_index, has_index, is_indexed};
 ghost use Rattle.row_objects.specs.View.{index_of, table_entry};
@@ -55,7 +55,7 @@ pub fn new_index<A: Heap>(
     column: &str,
     columns: &[Column<A>],
 ) -> Result<Option<Index<A>>, AllocError>
-    ensures { IfOk result (λ made. option_map (λ i. index_of i) made ≡ spec.new_index name.now column.now (map (λ c. column_of c) columns.now)) }
+    ensures { IfOk result (λ made. option_map (λ i. index_of i) made ≡ spec.new_index name.now column.now (columns_of columns.now)) }
 {
     let Some(column) = column_index(columns, column) else {
         return Ok(None);

@@ -1,8 +1,8 @@
 //! The columns that names resolve to.
 
-ghost use Rattle.std.specs.Prelude.{◌≡◌, is_some, map, option_map};
+ghost use Rattle.std.specs.Prelude.{◌≡◌, is_some, option_map};
 ghost use Rattle.std.specs.List.{list_all};
-ghost use Rattle.value.specs.Columns.{column_of};
+ghost use Rattle.value.specs.Columns.{column_of, columns_of};
 ghost use Rattle.row_objects.specs.ColumnNames.{are_columns, column_named, has_name, has_name_twice, is_qualified, column_index};
 
 use memory::{Heap, Items, Text};
@@ -10,7 +10,7 @@ use value::Column;
 
 /// The column of that name.
 pub fn column_named<'c, A: Heap>(columns: &'c [Column<A>], name: &str) -> Option<&'c Column<A>>
-    ensures { option_map (λ c. column_of c.now) result ≡ column_named name.now (map (λ c. column_of c) columns.now) }
+    ensures { option_map (λ c. column_of c.now) result ≡ column_named name.now (columns_of columns.now) }
 {
     for column in columns {
         if name == column.name.as_str() {
@@ -22,7 +22,7 @@ pub fn column_named<'c, A: Heap>(columns: &'c [Column<A>], name: &str) -> Option
 
 /// The index of the column of that name.
 pub fn column_index<A: Heap>(columns: &[Column<A>], name: &str) -> Option<usize>
-    ensures { result ≡ column_index (map (λ c. column_of c) columns.now) name.now }
+    ensures { result ≡ column_index (columns_of columns.now) name.now }
 {
     for (i, column) in columns.iter().enumerate() {
         if name == column.name.as_str() {
@@ -43,7 +43,7 @@ pub fn is_qualified<A: Heap>(table: &str, qualifier: &Option<Text<A>>) -> bool
 }
 
 fn have_names<A: Heap>(columns: &[Column<A>], names: &[Text<A>]) -> bool
-    ensures { result ≡ list_all (λ name. is_some (column_named name (map (λ c. column_of c) columns.now))) names.now }
+    ensures { result ≡ list_all (λ name. is_some (column_named name (columns_of columns.now))) names.now }
 {
     for name in names {
         let Some(_) = column_named(columns, name.as_str()) else {
@@ -55,7 +55,7 @@ fn have_names<A: Heap>(columns: &[Column<A>], names: &[Text<A>]) -> bool
 
 /// True where there is no list of names, or each is a column's.
 pub fn are_columns<A: Heap>(columns: &[Column<A>], names: &Option<Items<Text<A>, A>>) -> bool
-    ensures { result ≡ are_columns (map (λ c. column_of c) columns.now) names.now }
+    ensures { result ≡ are_columns (columns_of columns.now) names.now }
 {
     match names {
         None => true,
@@ -64,7 +64,7 @@ pub fn are_columns<A: Heap>(columns: &[Column<A>], names: &Option<Items<Text<A>,
 }
 
 fn has_name<A: Heap>(columns: &[Column<A>], name: &str) -> bool
-    ensures { result ≡ has_name name.now (map (λ c. column_of c) columns.now) }
+    ensures { result ≡ has_name name.now (columns_of columns.now) }
 {
     for column in columns {
         if name == column.name.as_str() {
@@ -76,7 +76,7 @@ fn has_name<A: Heap>(columns: &[Column<A>], name: &str) -> bool
 
 /// True where two of the columns have the same name.
 pub fn has_name_twice<A: Heap>(columns: &[Column<A>]) -> bool
-    ensures { result ≡ has_name_twice (map (λ c. column_of c) columns.now) }
+    ensures { result ≡ has_name_twice (columns_of columns.now) }
 {
     for (i, column) in columns.iter().enumerate() {
         if has_name(&columns[i + 1..], column.name.as_str()) {

@@ -1,12 +1,12 @@
 //! Roles, tables, policies and indexes.
 
 ghost use Rattle.std.specs.Prelude.{◌≡◌, map};
-ghost use Rattle.value.specs.Columns.{column_of};
-ghost use Rattle.row_objects.specs.View.{grant_of, index_of, policy_of, table_entry, table_of};
+ghost use Rattle.value.specs.Columns.{columns_of};
+ghost use Rattle.row_objects.specs.View.{grants_of, index_of, policies_of, table_entry, table_of};
 
 use crate::grants::Grant;
+use expr::MovableExpr;
 use memory::{Heap, Items, Text};
-use predicates::MovableExpr;
 use value::Column;
 
 /// A role, whose name is its key (PostgreSQL: Database Roles).
@@ -83,7 +83,7 @@ impl<'c, A: Heap> Table<'c, A> {
 
     /// The columns, in order.
     pub fn columns(self) -> &'c [Column<A>]
-        ensures { map (λ c. column_of c) result.now ≡ (table_of self.entry).columns }
+        ensures { columns_of result.now ≡ (table_of self.entry).columns }
     {
         self.parts.columns.as_slice()
     }
@@ -111,14 +111,14 @@ impl<'c, A: Heap> Table<'c, A> {
 
     /// The policies, in order of creation.
     pub fn policies(self) -> &'c [Policy<A>]
-        ensures { map (λ p. policy_of p) result.now ≡ (table_of self.entry).policies }
+        ensures { policies_of result.now ≡ (table_of self.entry).policies }
     {
         self.parts.policies.as_slice()
     }
 
     /// The grants, none twice.
     pub fn grants(self) -> &'c [Grant<A>]
-        ensures { map (λ g. grant_of g) result.now ≡ (table_of self.entry).grants }
+        ensures { grants_of result.now ≡ (table_of self.entry).grants }
     {
         self.parts.grants.as_slice()
     }

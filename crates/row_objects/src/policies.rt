@@ -4,13 +4,13 @@ ghost use Rattle.std.specs.Prelude.{◌≡◌, IfOk, map};
 ghost use Rattle.row_ast.specs.View.{create_policy_of};
 ghost use Rattle.row_objects.specs.Policies as spec;
 ghost use Rattle.row_objects.specs.Policies.{has_policy, has_policy_room, without_policy};
-ghost use Rattle.row_objects.specs.View.{policy_of, table_entry};
+ghost use Rattle.row_objects.specs.View.{policy_of, policies_of, table_entry};
 
 use crate::copies::copy_names;
 use crate::objects::{Policy, TableDef};
+use expr::MovableExpr;
 use memory::{Heap, Items, Text};
 use named::ByName;
-use predicates::MovableExpr;
 use row_ast::CreatePolicy;
 use std::alloc::AllocError;
 use std::mem::replace;
@@ -38,7 +38,7 @@ pub fn new_policy<A: Heap>(
 
 /// True where there is a policy of that name.
 pub fn has_policy<A: Heap>(policies: &[Policy<A>], name: &str) -> bool
-    ensures { result ≡ has_policy (map (λ p. policy_of p) policies.now) name.now }
+    ensures { result ≡ has_policy (policies_of policies.now) name.now }
 {
     for policy in policies {
         if name == policy.name.as_str() {
@@ -49,14 +49,14 @@ pub fn has_policy<A: Heap>(policies: &[Policy<A>], name: &str) -> bool
 }
 
 fn keep_others<A: Heap>(policies: &mut Vec<Policy<A>, A>, name: &str)
-    ensures { map (λ p. policy_of p) policies.new.items ≡ without_policy name.now (map (λ p. policy_of p) policies.old.items) }
+    ensures { policies_of policies.new.items ≡ without_policy name.now (policies_of policies.old.items) }
 {
     policies.retain(move |policy| !(name == policy.name.as_str()));
 }
 
 /// Takes out the policy of that name. It takes no memory.
 pub fn remove_policy<A: Heap>(alloc: A, policies: &mut Items<Policy<A>, A>, name: &str)
-    ensures { map (λ p. policy_of p) policies.new ≡ without_policy name.now (map (λ p. policy_of p) policies.old) }
+    ensures { policies_of policies.new ≡ without_policy name.now (policies_of policies.old) }
 {
     let mut list = replace(policies, Items::new(alloc)).into_vec();
     keep_others(&mut list, name);

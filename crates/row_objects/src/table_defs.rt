@@ -1,7 +1,7 @@
 //! New tables.
 
-ghost use Rattle.std.specs.Prelude.{◌≡◌, IfOk, List, map, ℕ};
-ghost use Rattle.value.specs.Columns.{column_of};
+ghost use Rattle.std.specs.Prelude.{◌≡◌, IfOk, List, ℕ};
+ghost use Rattle.value.specs.Columns.{columns_of};
 ghost use Rattle.row_objects.specs.TableDefs.{new_table};
 ghost use Rattle.row_objects.specs.View.{table_entry};
 
@@ -16,7 +16,7 @@ pub fn new_table<A: Heap>(
     actor: &str,
     columns: &[Column<A>],
 ) -> Result<TableDef<A>, AllocError>
-    ensures { IfOk result (λ t. (name : List ℕ) → table_entry (name, t) ≡ new_table actor.now name (map (λ c. column_of c) columns.now)) }
+    ensures { IfOk result (λ t. (name : List ℕ) → table_entry (name, t) ≡ new_table actor.now name (columns_of columns.now)) }
 {
     let columns = copy_columns(alloc, columns)?;
     let owner = Text::new(alloc, actor)?;

@@ -1,6 +1,6 @@
 //! The objects of CREATE, from tokens.
 
-ghost use Rattle.std.specs.Prelude.{◌≡◌, map, option_map};
+ghost use Rattle.std.specs.Prelude.{◌≡◌, option_map};
 ghost use Rattle.row_grammar.specs.Grammar.{both};
 ghost use Rattle.row_grammar.specs.Limits.{reads};
 ghost use Rattle.row_tokens.specs.declared.token.TokenKind.TheVariants as kinds;
@@ -13,7 +13,7 @@ ghost use Rattle.row_statements.specs.Creates as rules;
 ghost use Rattle.row_ast.specs.Statements as statements;
 ghost use Rattle.row_ast.specs.View.{statement_of};
 ghost use Rattle.value.specs.Columns as columns;
-ghost use Rattle.value.specs.Columns.{column_of};
+ghost use Rattle.value.specs.Columns.{column_of, columns_of};
 ghost use Rattle.row_expressions.specs.View.{located};
 
 use memory::{Heap, Items, Text};
@@ -126,7 +126,7 @@ fn column_defs<'t, A: Heap>(
     reader: Reader<A>,
     tokens: &'t [Token<'t>],
 ) -> Parsed<'t, Items<Column<A>, A>>
-    ensures { Parses (λ t. map (λ c. column_of c) t) rules.column_defs reader tokens.now result }
+    ensures { Parses (λ t. columns_of t) rules.column_defs reader tokens.now result }
 {
     comma_list::<A, ColumnDefParser>(reader, tokens)
 }
@@ -136,7 +136,7 @@ fn enclosed_columns<'t, A: Heap>(
     reader: Reader<A>,
     tokens: &'t [Token<'t>],
 ) -> Parsed<'t, Items<Column<A>, A>>
-    ensures { Parses (λ t. map (λ c. column_of c) t) (enclosed rules.column_defs) reader tokens.now result }
+    ensures { Parses (λ t. columns_of t) (enclosed rules.column_defs) reader tokens.now result }
 {
     let (_, rest) = expect(TokenKind::Open, tokens)?;
     closed(column_defs(reader, rest))

@@ -10,7 +10,7 @@ use Rattle.row_ast.specs.View.{expr_of, exprs, arms}
 use Rattle.row_ast.specs.declared.expr.Expr.{Expr}
 use Rattle.row_ast.specs.declared.expr.Arm.{Arm}
 use Rattle.expr.specs.Bound as bound
-use Rattle.expr.specs.Bound.{BoundExpr, BoundExprs, BoundArms, bound_exprs_of}
+use Rattle.expr.specs.Bound.{BoundExpr, BoundExprs, BoundArms}
 use Rattle.expr.specs.View.{bound_expr_of, bound_arm_pair}
 use Rattle.expr.specs.declared.bound.BoundExpr as code
 use Rattle.expr.specs.declared.bound.BoundExpr.{Case, And, Or}
@@ -19,7 +19,8 @@ use Rattle.expr.proofs.Trees.{bound_exprs_hidden, bound_arms_hidden}
 use Rattle.scope.proofs.Walks.{exprs_step, exprs_over, arms_step, arms_over}
 use Rattle.scope.specs.declared.error.BindError.{BindError}
 use Rattle.scope.specs.declared.lookup.Scope.{Scope}
-use Rattle.scope.specs.Entry.{and_then, Entry}
+use Rattle.scope.specs.Entry.{Entry}
+use Rattle.memory.specs.Results.{and_then}
 use Rattle.scope.specs.BoundExprs as spec
 use Rattle.scope.specs.BoundExprs.{bound_expr, bound_members, bound_arms, pair}
 

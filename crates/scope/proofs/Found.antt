@@ -4,7 +4,7 @@ use Rattle.std.proofs.Math.ListN.{drop_of_length-le}
 use Rattle.memory.specs.Gives.{Gives}
 use Rattle.memory.specs.declared.failure.Failure.{Failure}
 use Rattle.memory.specs.declared.failure.Failure.TheVariants as failure
-use Rattle.scope.specs.Entry.{and_then}
+use Rattle.memory.specs.Results.{and_then}
 
 -- a failure of a part is one of the whole
 pub failed : {X Y Z W E : Type 0} (v : X → Y) (w : Z → W) (e : Failure E) (stated : Result Y E) (f : Y → Result W E) (whole : Result W E) → and_then stated f ≡ whole → Gives v (Err e) stated → Gives w (Err e) whole

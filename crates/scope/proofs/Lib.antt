@@ -1,4 +1,3 @@
 pub mod Binds
 pub mod Found
-pub mod Operands
 pub mod Walks

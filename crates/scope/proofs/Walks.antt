@@ -6,7 +6,7 @@ use Rattle.row_ast.specs.View.{expr_of, exprs, arms}
 use Rattle.row_ast.specs.declared.expr.Expr.{Expr, And, Or, Case}
 use Rattle.row_ast.specs.declared.expr.Arm.{Arm}
 use Rattle.row_ast.proofs.Trees.{exprs_hidden, arms_hidden}
-use Rattle.scope.specs.Weights.{weight, all_weight, arms_weight}
+use Rattle.row_ast.specs.Weights.{weight, all_weight, arms_weight}
 
 -- ---- the views of nodes with members
 

@@ -5,7 +5,8 @@ use Rattle.expr.specs.Bound as bound
 use Rattle.expr.specs.Bound.{BoundExpr, BoundOtherwise, bound_exprs_of, bound_arms_of}
 use Rattle.scope.specs.declared.error.BindError.{BindError}
 use Rattle.scope.specs.declared.lookup.Scope.{Scope}
-use Rattle.scope.specs.Entry.{and_then, Entry}
+use Rattle.scope.specs.Entry.{Entry}
+use Rattle.memory.specs.Results.{and_then}
 use Rattle.scope.specs.Lookup.{find_column}
 
 abbrev pub conjunction : ℕ → Result (List BoundExpr) BindError → Result BoundExpr BindError

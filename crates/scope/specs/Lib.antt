@@ -2,4 +2,3 @@ pub mod BoundExprs
 pub mod Entry
 pub mod Lookup
 pub mod View
-pub mod Weights

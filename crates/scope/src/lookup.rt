@@ -1,8 +1,8 @@
 //! The column that a name resolves to.
 
-ghost use Rattle.std.specs.Prelude.{◌≡◌, ◌+◌, ◌<◌, map};
+ghost use Rattle.std.specs.Prelude.{◌≡◌, ◌+◌, ◌<◌};
 ghost use Rattle.row_ast.specs.View.{column_ref_of};
-ghost use Rattle.scope.specs.View.{entry_of};
+ghost use Rattle.scope.specs.View.{entry_of, entries_of};
 ghost use Rattle.scope.specs.Lookup as spec;
 
 use crate::entry::Entry;
@@ -37,7 +37,7 @@ enum Search {
 
 /// The scope of items, WHERE, GROUP BY and HAVING: every entry.
 pub fn everywhere<A: Heap>(entries: &[Entry<'_, A>]) -> Scope
-    ensures { result ≡ spec.everywhere (map (λ e. entry_of e) entries.now) }
+    ensures { result ≡ spec.everywhere (entries_of entries.now) }
 {
     Scope {
         from: 0,
@@ -108,7 +108,7 @@ pub fn find_column<A: Heap>(
     scope: Scope,
     column: &ColumnRef<A>,
 ) -> Result<ColumnId, BindError>
-    ensures { result ≡ spec.find_column (map (λ e. entry_of e) entries.now) scope (column_ref_of column.now) }
+    ensures { result ≡ spec.find_column (entries_of entries.now) scope (column_ref_of column.now) }
 {
     let mut search = Search::NoEntry;
     for (number, entry) in entries.iter().enumerate() {

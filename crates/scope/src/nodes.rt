@@ -10,7 +10,7 @@ ghost use Rattle.expr.specs.Bound.{BoundExpr as SpecExpr, Nothing};
 ghost use Rattle.expr.specs.View.{bound_arm_pair, bound_expr_of};
 ghost use Rattle.scope.specs.declared.error.BindError.{BindError as SpecFault};
 ghost use Rattle.scope.specs.BoundExprs as spec;
-ghost use Rattle.scope.specs.Entry.{and_then};
+ghost use Rattle.memory.specs.Results.{and_then};
 
 use crate::error::BindError;
 use expr::{BoundArm, BoundExpr, ColumnId};

@@ -7,7 +7,8 @@ use Rattle.value.specs.declared.refusal.Refusal.TheVariants as code
 use Rattle.memory.specs.Gives.{IsFailure}
 use Rattle.row_ast.specs.Statements.{Statement}
 use Rattle.store.specs.Database.{Database, changed_database}
-use Rattle.setup.specs.Schema.{StopsAfter, applied, applied_from, numbered, refused_by, root, then_apply}
+use Rattle.setup.specs.Schema.{StopsAfter, applied, applied_from, numbered, refused_by, root}
+use Rattle.memory.specs.Results.{and_then}
 use Rattle.setup.specs.declared.error.SchemaError.{SchemaError}
 use Rattle.setup.specs.declared.error.SchemaError.TheVariants as errors
 
@@ -15,11 +16,11 @@ use Rattle.setup.specs.declared.error.SchemaError.TheVariants as errors
 applied_more : (n : ℕ) (db mid after : Database) (acts : List Statement) (act : Statement) → applied_from n db acts ≡ Ok mid → changed_database mid root act ≡ Ok after → applied_from n db (acts ++ act ∷ []) ≡ Ok after
 applied_more n db mid after [] act h e =
     let same : db ≡ mid = cc in
-    ap (λ (r : Result Database Refusal). then_apply (numbered n r) (λ d. Ok d)) (subst (λ d. changed_database d root act ≡ Ok after) (sym same) e)
+    ap (λ (r : Result Database Refusal). and_then (numbered n r) (λ d. Ok d)) (subst (λ d. changed_database d root act ≡ Ok after) (sym same) e)
 applied_more n db mid after (a ∷ acts) act h e = go (λ d k. applied_more (n + 1) d mid after acts act k e) (numbered n (changed_database db root a)) h
   where
     go : ((d : Database) → applied_from (n + 1) d acts ≡ Ok mid → applied_from (n + 1) d (acts ++ act ∷ []) ≡ Ok after) → (r : Result Database SchemaError)
-        → then_apply r (λ d. applied_from (n + 1) d acts) ≡ Ok mid → then_apply r (λ d. applied_from (n + 1) d (acts ++ act ∷ [])) ≡ Ok after
+        → and_then r (λ d. applied_from (n + 1) d acts) ≡ Ok mid → and_then r (λ d. applied_from (n + 1) d (acts ++ act ∷ [])) ≡ Ok after
     go more (Err x) h = cc
     go more (Ok d) h = more d h
 

@@ -1,5 +1,6 @@
 -- The database that a schema text makes.
 use Rattle.std.specs.Prelude.{◌≡◌, ◌⊎◌, ℕ, ◌+◌, List, [], ◌∷◌, take, codes, Result, Ok, Err}
+use Rattle.memory.specs.Results.{and_then}
 use Rattle.memory.specs.declared.failure.Failure.{Failure}
 use Rattle.memory.specs.declared.failure.Failure.TheVariants.{Error, OutOfMemory}
 use Rattle.value.specs.declared.refusal.Refusal.{Refusal}
@@ -27,14 +28,10 @@ abbrev pub refused_by : ℕ → Refusal → Failure SchemaError
 refused_by n code.OutOfMemory = OutOfMemory
 refused_by n why = Error (errors.Statement n why)
 
-abbrev pub then_apply : Result Database SchemaError → (Database → Result Database SchemaError) → Result Database SchemaError
-then_apply (Err e) f = Err e
-then_apply (Ok db) f = f db
-
 -- the database after each statement in turn, applied by root, or the first refusal; statements count from a number
 abbrev pub applied_from : ℕ → Database → List Statement → Result Database SchemaError
 applied_from n db [] = Ok db
-applied_from n db (s ∷ more) = then_apply (numbered n (changed_database db root s)) (λ after. applied_from (n + 1) after more)
+applied_from n db (s ∷ more) = and_then (numbered n (changed_database db root s)) (λ after. applied_from (n + 1) after more)
 
 -- the statements count from 1
 abbrev pub applied : Database → List Statement → Result Database SchemaError

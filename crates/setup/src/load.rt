@@ -1,7 +1,7 @@
 //! The rows of tables, from the files of a folder.
 
-ghost use Rattle.std.specs.Prelude.{◌≡◌, ◌<◌, ℕ, List, length, map, None, Option, Ok, IfErr, IfOk, OnErr, OnOk, slice_get, true};
-ghost use Rattle.value.specs.Columns.{column_of};
+ghost use Rattle.std.specs.Prelude.{◌≡◌, ◌<◌, ℕ, List, length, None, Option, Ok, IfErr, IfOk, OnErr, OnOk, slice_get, true};
+ghost use Rattle.value.specs.Columns.{columns_of};
 ghost use Rattle.catalog.specs.Catalog.{is_table};
 ghost use Rattle.store.specs.Database.{columns_in};
 ghost use Rattle.store.specs.Loads.{IsLoadFrom};
@@ -33,7 +33,7 @@ pub trait Folder<A: Heap> {
 }
 
 fn name_at<A: Heap>(columns: &[Column<A>], index: u64) -> &str
-    ensures { result.now ≡ name_at (slice_get (map (λ c. column_of c) columns.now) index) }
+    ensures { result.now ≡ name_at (slice_get (columns_of columns.now) index) }
 {
     match columns.get(index as usize) {
         Some(column) => column.name.as_str(),
@@ -43,7 +43,7 @@ fn name_at<A: Heap>(columns: &[Column<A>], index: u64) -> &str
 
 // The name of the column of an error.
 fn column_name<A: Heap>(columns: &[Column<A>], error: LoadError) -> &str
-    ensures { result.now ≡ column_name (map (λ c. column_of c) columns.now) error }
+    ensures { result.now ≡ column_name (columns_of columns.now) error }
 {
     match error {
         LoadError::Cell { row: _, column } | LoadError::NotNull { row: _, column } => {

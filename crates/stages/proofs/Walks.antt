@@ -7,7 +7,7 @@ use Rattle.memory.specs.declared.failure.Failure.TheVariants as failures
 use Rattle.value.specs.Datum.{Datum, datum, row_of}
 use Rattle.value.specs.declared.types.Value.{Value}
 use Rattle.value.specs.declared.faults.Fault.{Fault}
-use Rattle.stages.specs.Stages.{first_then}
+use Rattle.memory.specs.Results.{first_then}
 
 -- the next element and the rest
 pub next : {X : Type 0} (xs : List X) (i : ℕ) (x : X) → i < length xs → x ≡ get_or xs i x → drop i xs ≡ x ∷ drop (i + 1) xs

@@ -1,5 +1,5 @@
 -- A stage of a query: the values of all its combinations or groups, or the least of their faults.
-use Rattle.std.specs.Prelude.{Bool, true, false, List, ◌∷◌, Option, Some, None, Result, Ok, Err}
+use Rattle.std.specs.Prelude.{Bool, true, false, List, Option, Some, None, Result, Ok, Err}
 use Rattle.std.specs.List.{filter_map}
 use Rattle.std.specs.declared.cmp.Ordering.{Ordering}
 use Rattle.std.specs.Ordering.{nat_cmp, on, then_cmp}
@@ -37,12 +37,6 @@ abbrev pub gives_if : {Y : Type 0} → Y → Result Bool Fault → Fate Y
 gives_if y (Ok true) = Ok (Some y)
 gives_if y (Ok false) = Ok None
 gives_if y (Err fault) = Err fault
-
--- one more value before the others; the first fault from left to right
-abbrev pub first_then : {X : Type 0} → Result X Fault → Result (List X) Fault → Result (List X) Fault
-first_then (Ok x) (Ok xs) = Ok (x ∷ xs)
-first_then (Ok x) (Err fault) = Err fault
-first_then (Err fault) more = Err fault
 
 -- ---- a stage
 

@@ -4,6 +4,7 @@ use Rattle.std.proofs.lemmas.List.{length-map}
 use Rattle.std.proofs.lemmas.Slice.Eq.{bytes_eq-Decides}
 use Rattle.std.specs.Str.{bytes_eq}
 use Rattle.std.specs.List.{position_from}
+use Rattle.memory.proofs.Cases.{nil_is_not}
 use Rattle.value.specs.Columns.{Column}
 use Rattle.tables.specs.Loading.{TableRows}
 use Rattle.value.specs.declared.refusal.Refusal.{Refusal}
@@ -19,12 +20,6 @@ use Rattle.store.specs.Agreement.{HasContents, HasEachContents, contents_columns
 
 turned : (a b : Name) → bytes_eq a b ≡ bytes_eq b a
 turned a b = grind (arith, bytes_eq-Decides)
-
-none_is_not_one : (c : Name × List Column) (cs : List (Name × List Column)) → ◌≡◌ {A = List (Name × List Column)} [] (c ∷ cs) → ⊥
-none_is_not_one c cs e = cc
-
-one_is_not_none : (c : Name × List Column) (cs : List (Name × List Column)) → ◌≡◌ {A = List (Name × List Column)} (c ∷ cs) [] → ⊥
-one_is_not_none c cs e = cc
 
 first_name : (c d : Name × List Column) (cs ds : List (Name × List Column)) → c ∷ cs ≡ d ∷ ds → c.0 ≡ d.0
 first_name c d cs ds e = cc
@@ -42,15 +37,15 @@ module _ (name : Name) where
   -- the index of the contents is that of the table
   pub same_place : (k : ℕ) (ts : List (Name × TableRows)) (cs : List Table) → contents_columns ts ≡ map with_columns cs → position_from (is_named name) k ts ≡ position_from (λ t. bytes_eq name t.name) k cs
   same_place k [] [] e = refl
-  same_place k [] (c ∷ cs) e = absurd (none_is_not_one _ _ e)
-  same_place k (t ∷ ts) [] e = absurd (one_is_not_none _ _ e)
+  same_place k [] (c ∷ cs) e = absurd (nil_is_not _ _ e)
+  same_place k (t ∷ ts) [] e = absurd (nil_is_not _ _ (sym e))
   same_place k (t ∷ ts) (c ∷ cs) e = ap₂ (λ b o. cond b (Some k) o) (same_test t c (first_name _ _ _ _ e)) (same_place (k + 1) ts cs (others _ _ _ _ e))
 
   -- there are contents exactly where there is a table
   pub same_there : (ts : List (Name × TableRows)) (cs : List Table) → contents_columns ts ≡ map with_columns cs → is_some (find (is_named name) ts) ≡ is_some (find (λ t. bytes_eq name t.name) cs)
   same_there [] [] e = refl
-  same_there [] (c ∷ cs) e = absurd (none_is_not_one _ _ e)
-  same_there (t ∷ ts) [] e = absurd (one_is_not_none _ _ e)
+  same_there [] (c ∷ cs) e = absurd (nil_is_not _ _ e)
+  same_there (t ∷ ts) [] e = absurd (nil_is_not _ _ (sym e))
   same_there (t ∷ ts) (c ∷ cs) e = one (is_named name t) (bytes_eq name c.name) (same_test t c (first_name _ _ _ _ e)) (same_there ts cs (others _ _ _ _ e))
     where
       one : (a b : Bool) → a ≡ b → is_some (find (is_named name) ts) ≡ is_some (find (λ t. bytes_eq name t.name) cs)
@@ -63,8 +58,8 @@ module _ (name : Name) where
   -- the contents that are found have the columns of the table that is found
   found_contents : (ts : List (Name × TableRows)) (cs : List Table) (t : Table) → contents_columns ts ≡ map with_columns cs → find (λ t. bytes_eq name t.name) cs ≡ Some t → HasContents ts name t
   found_contents [] [] t e h = absurd (cc)
-  found_contents [] (c ∷ cs) t e h = absurd (none_is_not_one _ _ e)
-  found_contents (x ∷ ts) [] t e h = absurd (one_is_not_none _ _ e)
+  found_contents [] (c ∷ cs) t e h = absurd (nil_is_not _ _ e)
+  found_contents (x ∷ ts) [] t e h = absurd (nil_is_not _ _ (sym e))
   found_contents (x ∷ ts) (c ∷ cs) t e h = one (is_named name x) (bytes_eq name c.name) (same_test x c (first_name _ _ _ _ e)) h (found_contents ts cs t (others _ _ _ _ e))
     where
       one : (a b : Bool) → a ≡ b → cond b (Some c) (find (λ t. bytes_eq name t.name) cs) ≡ Some t → (find (λ t. bytes_eq name t.name) cs ≡ Some t → HasContents ts name t)

@@ -1,9 +1,10 @@
 //! A catalogue with its tables.
 
-ghost use Rattle.std.specs.Prelude.{◌≡◌, List, IfOk, IfSome, IsErrOf, OnErr, OnOk, Some, ◌<◌, None, is_some, length, map, option_map, slice_get, true};
+ghost use Rattle.std.specs.Prelude.{◌≡◌, List, IfOk, IfSome, IsErrOf, OnErr, OnOk, Some, ◌<◌, None, is_some, length, option_map, slice_get, true};
 ghost use Rattle.std.specs.List.{position_from};
 ghost use Rattle.tables.specs.Loading.{Fields, reported};
-ghost use Rattle.value.specs.Columns.{column_of};
+ghost use Rattle.value.specs.Columns.{columns_of};
+ghost use Rattle.value.specs.Names.{Name};
 ghost use Rattle.row_ast.specs.Statements.{CreateTable};
 ghost use Rattle.row_ast.specs.View.{statement_of};
 ghost use Rattle.catalog.specs.Catalog.{is_table};
@@ -47,7 +48,7 @@ impl<A: Heap> Model for Store<A> {
 
     ghost use Rattle.std.specs.Prelude.{ℕ};
     ghost use Rattle.std.specs.Coded.{codes, coded_ℕ};
-    ghost use Rattle.predicates.specs.declared.movable_expr.MovableExpr as movable_expr;
+    ghost use Rattle.expr.specs.declared.movable_expr.MovableExpr as movable_expr;
 
     ghost coded = { Prim.hlevel (codes, movable_expr.the_code ℕ coded_ℕ) };
 
@@ -83,7 +84,7 @@ fn store_failure(failure: Failure<LoadError>) -> Failure<StoreError>
 
 // A new table, with no rows.
 fn new_table<A: Heap>(alloc: A, name: &str, columns: &[Column<A>]) -> Result<Stored<A>, AllocError>
-    ensures { IfOk result (λ t. stored_of t ≡ (name.now, empty_table (map (λ c. column_of c) columns.now))) }
+    ensures { IfOk result (λ t. stored_of t ≡ (name.now, empty_table (columns_of columns.now))) }
 {
     let columns = copy_columns(alloc, columns)?;
     let name = Text::new(alloc, name)?;
@@ -133,7 +134,7 @@ impl<A: Heap> Store<A> {
         name: &str,
         columns: &[Column<A>],
     ) -> Result<(), Refusal>
-        requires { statement_of statement.now ≡ CreateTable name.now (map (λ c. column_of c) columns.now) }
+        requires { statement_of statement.now ≡ CreateTable name.now (columns_of columns.now) }
         ensures { IsChange self.old self.new (changed_database self.old actor.now (statement_of statement.now)) result }
     {
         let Ok(table) = new_table(self.alloc, name, columns) else {
@@ -216,10 +217,10 @@ impl<A: Heap> Store<A> {
         ensures unchanged { OnErr result (self.new ≡ self.old) }
         ensures loaded { IsLoadFrom (R.remaining reader) self.old.tables self.new.tables table.now result }
     {
-        if self.table_index(table).is_none() {
+        let Some(index) = self.table_index(table) else {
             return Err(Failure::Error(StoreError::UndefinedTable));
-        }
-        match self.append(table, reader) {
+        };
+        match self.append_at(index, reader) {
             Ok(()) => Ok(()),
             Err(failure) => Err(store_failure(failure)),
         }
@@ -237,6 +238,20 @@ impl<A: Heap> Store<A> {
         ensures loaded { IsLoadFrom (R.remaining reader) self.old.tables self.new.tables table.now (store_result result) }
     {
         let index = self.table_index(table).unwrap();
+        self.append_at(index, reader)
+    }
+
+    // Adds the rows that a reader gives to the table at an index.
+    fn append_at<R: Read + Drop>(
+        &mut self,
+        index: usize,
+        reader: R,
+    ) -> Result<(), Failure<LoadError>>
+        requires { index < length self.old.tables }
+        ensures catalog { self.new.catalog ≡ self.old.catalog }
+        ensures unchanged { OnErr result (self.new ≡ self.old) }
+        ensures loaded { (name : Name) → position_from (is_named name) 0 self.old.tables ≡ Some index → IsLoadFrom (R.remaining reader) self.old.tables self.new.tables name (store_result result) }
+    {
         self.tables[index].contents.append(reader)
     }
 

@@ -13,7 +13,8 @@ use Rattle.memory.specs.Gives.{Gives, IsFailure}
 use Rattle.tables.specs.declared.LoadError.{LoadError}
 use Rattle.tables.specs.declared.LoadError.TheVariants as error
 use Rattle.value.specs.declared.column.Column as declared
-use Rattle.tables.specs.Loading.{Fields, both, cell_of, cells_of}
+use Rattle.tables.specs.Loading.{Fields, cell_of, cells_of}
+use Rattle.memory.specs.Results.{first_then}
 use Rattle.value.specs.Columns.{Column, column_of}
 use Rattle.tables.specs.Reading.{AddsRow}
 use Rattle.tables.proofs.Records.{after, after-nil}
@@ -48,12 +49,12 @@ drop-map v [] i x lt e = absurd (omega (arith, lt))
 drop-map v (y ∷ ys) zero x lt e = ap (λ z. v z ∷ map v ys) (sym e)
 drop-map v (y ∷ ys) (suc i) x lt e = rw add-one (rw add-one at (drop-map v ys i x (omega (arith, lt)) e))
 
-pub after-both : {X : Type 0} (xs : List X) (x : X) (r : Result (List X) LoadError) → after xs (both (Ok x) r) ≡ after (xs ++ x ∷ []) r
-after-both xs x (Ok ys) = ap Ok (sym (append_assoc xs (x ∷ []) ys))
-after-both xs x (Err e) = refl
+pub after-first_then : {X : Type 0} (xs : List X) (x : X) (r : Result (List X) LoadError) → after xs (first_then (Ok x) r) ≡ after (xs ++ x ∷ []) r
+after-first_then xs x (Ok ys) = ap Ok (sym (append_assoc xs (x ∷ []) ys))
+after-first_then xs x (Err e) = refl
 
 cells_step : (cs : List Column) (fs : Fields) (row i : ℕ) (c : Column) (f : List ℕ) → drop i cs ≡ c ∷ drop (i + 1) cs → drop i fs ≡ f ∷ drop (i + 1) fs
-    → cells_of (drop i cs) row i (drop i fs) ≡ both (cell_of c row i f) (cells_of (drop (i + 1) cs) row (i + 1) (drop (i + 1) fs))
+    → cells_of (drop i cs) row i (drop i fs) ≡ first_then (cell_of c row i f) (cells_of (drop (i + 1) cs) row (i + 1) (drop (i + 1) fs))
 unfolding cells_of
 cells_step cs fs row i c f h k = rw (h, k) refl
 
@@ -61,12 +62,12 @@ cells_step cs fs row i c f h k = rw (h, k) refl
 one_cell : {A : Type 0} (columns : List (declared.Column A)) (fs : Fields) (row i : ℕ) (x : declared.Column A) (f : List ℕ) (xs : List Datum) (whole : Result (List Datum) LoadError)
     → i < length columns → x ≡ get_or columns i x → Some f ≡ field_at fs i
     → whole ≡ after xs (cells_of (drop i (map column_of columns)) row i (drop i fs))
-    → whole ≡ after xs (both (cell_of (column_of x) row i f) (cells_of (drop (i + 1) (map column_of columns)) row (i + 1) (drop (i + 1) fs)))
+    → whole ≡ after xs (first_then (cell_of (column_of x) row i f) (cells_of (drop (i + 1) (map column_of columns)) row (i + 1) (drop (i + 1) fs)))
 one_cell columns fs row i x f xs whole lt is at e = e ∙ ap (after xs) (cells_step _ _ row i _ _ (drop-map column_of columns i x lt is) (drop-field_at fs i f at))
 
 -- a cell of the row gives no value
 cell_refused : {X Y : Type 0} (view : X → Datum) (views : Y → List Datum) (e : Failure LoadError) (xs : List Datum) (cell : Result Datum LoadError) (rest whole : Result (List Datum) LoadError)
-    → whole ≡ after xs (both cell rest) → Gives view (Err e) cell → Gives views (Err e) whole
+    → whole ≡ after xs (first_then cell rest) → Gives view (Err e) cell → Gives views (Err e) whole
 cell_refused view views OutOfMemory xs cell rest whole is gives = tt
 cell_refused view views (Error e) xs cell rest whole is gives = rw gives at is
 
@@ -91,7 +92,7 @@ one_more_cell columns fs row i x f values v new whole lt is at count so_far cell
     let next = one_cell columns fs row i x f (row_of values) whole lt is at so_far in
     let two : row_of new ≡ row_of values ++ datum v ∷ [] = ap row_of all ∙ map-append datum values (v ∷ []) in
     let longer : length new ≡ i + 1 = omega (arith, ap length all, length-append values (v ∷ []), count) in
-    (longer, next ∙ ap (λ (r : Result Datum LoadError). after (row_of values) (both r rest)) cell ∙ after-both (row_of values) (datum v) rest ∙ ap (λ (xs : List Datum). after xs rest) (sym two))
+    (longer, next ∙ ap (λ (r : Result Datum LoadError). after (row_of values) (first_then r rest)) cell ∙ after-first_then (row_of values) (datum v) rest ∙ ap (λ (xs : List Datum). after xs rest) (sym two))
 
 -- before the first cell
 pub no_cell_yet : {A : Type 0} (cs : List Column) (fs : Fields) (row : ℕ) (values : List (Value A)) → values ≡ []

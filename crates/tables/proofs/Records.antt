@@ -7,7 +7,8 @@ use Rattle.csv_records.specs.Left.{FirstHasOther, TakesFirst}
 use Rattle.value.specs.Datum.{Row}
 use Rattle.tables.specs.declared.LoadError.{LoadError}
 use Rattle.tables.specs.declared.LoadError.TheVariants as error
-use Rattle.tables.specs.Loading.{Fields, both, cells_of, rows_of}
+use Rattle.tables.specs.Loading.{Fields, cells_of, rows_of}
+use Rattle.memory.specs.Results.{first_then}
 use Rattle.value.specs.Columns.{Column}
 use Rattle.tables.specs.Reading.{AreKnown}
 
@@ -70,11 +71,11 @@ pub after-nil : {X : Type 0} (r : Result (List X) LoadError) → after [] r ≡ 
 after-nil (Ok ys) = refl
 after-nil (Err e) = refl
 
-both-after : {X : Type 0} (x : X) (xs : List X) (r : Result (List X) LoadError) → both (Ok x) (after xs r) ≡ after (x ∷ xs) r
-both-after x xs (Ok ys) = refl
-both-after x xs (Err e) = refl
+first_then-after : {X : Type 0} (x : X) (xs : List X) (r : Result (List X) LoadError) → first_then (Ok x) (after xs r) ≡ after (x ∷ xs) r
+first_then-after x xs (Ok ys) = refl
+first_then-after x xs (Err e) = refl
 
-pub both_ok : {X : Type 0} (a : Result X LoadError) (b : Result (List X) LoadError) (xs : List X) → both a b ≡ Ok xs → (x : X) × (ys : List X) × (a ≡ Ok x) × (b ≡ Ok ys) × (xs ≡ x ∷ ys)
+pub both_ok : {X : Type 0} (a : Result X LoadError) (b : Result (List X) LoadError) (xs : List X) → first_then a b ≡ Ok xs → (x : X) × (ys : List X) × (a ≡ Ok x) × (b ≡ Ok ys) × (xs ≡ x ∷ ys)
 both_ok (Ok x) (Ok ys) xs h = (x, ys, refl, refl, cc)
 both_ok (Ok x) (Err e) xs h = cc h
 both_ok (Err e) b xs h = cc h
@@ -84,8 +85,8 @@ if_ok true r e x h = (refl, h)
 if_ok false r e x h = cc h
 
 first_row_then : (b : Bool) (cells : Result Row LoadError) (whole : Result (List Row) LoadError) (e : LoadError) (x : Row) (xs rows : List Row) (r : Result (List Row) LoadError)
-    → b ≡ true → cells ≡ Ok x → whole ≡ after xs r → rows ≡ x ∷ xs → (if b then both cells whole else Err e) ≡ after rows r
-first_row_then b cells whole e x xs rows r test is next all = rw (test, is, next, all) (both-after x xs r)
+    → b ≡ true → cells ≡ Ok x → whole ≡ after xs r → rows ≡ x ∷ xs → (if b then first_then cells whole else Err e) ≡ after rows r
+first_row_then b cells whole e x xs rows r test is next all = rw (test, is, next, all) (first_then-after x xs r)
 
 pub rows_of-nil : (cols : List Column) (room row : ℕ) → rows_of cols room row [] ≡ Ok []
 unfolding rows_of
@@ -108,7 +109,7 @@ rows_of-append cols (suc room) row left from (s ∷ ss) rows rest e f h =
     first_row_then (length s == length cols) (cells_of cols row 0 s) (rows_of cols room (row + 1) (ss ++ rest)) (error.Reader row) q.0 q.1 rows (rows_of cols left from rest) p.0 q.2 next q.4
 
 row_first : (cols : List Column) (room row left : ℕ) (r : Fields) (rest : List Fields) → room ≡ suc left → length r ≡ length cols
-    → rows_of cols room row (r ∷ rest) ≡ both (cells_of cols row 0 r) (rows_of cols left (row + 1) rest)
+    → rows_of cols room row (r ∷ rest) ≡ first_then (cells_of cols row 0 r) (rows_of cols left (row + 1) rest)
 unfolding rows_of
 row_first cols room row left r rest e n = rw (e, eq-eqb (length r) (length cols) n) refl
 

@@ -3,9 +3,9 @@ use Rattle.std.proofs.Common.{ℕ, ◌≡◌, ◌<◌, List, [], length, map, ge
 use Rattle.std.proofs.lemmas.List.{get_or-map, length-map}
 use Rattle.std.proofs.lemmas.List.Elements.{All-map, All-weaker}
 use Rattle.value.specs.declared.types.Value.{Value}
-use Rattle.value.specs.Datum.{Datum, Row, datum, null, row_of}
+use Rattle.value.specs.Datum.{Datum, Row, cell, datum, null, row_at, row_of}
 use Rattle.value.specs.declared.column.Column as declared
-use Rattle.tables.specs.Loading.{TableRows, cell_at, rows_data}
+use Rattle.tables.specs.Loading.{TableRows, rows_data}
 use Rattle.value.specs.Columns.{Column, column_of}
 
 pub wide_data : {A : Type 0} (columns : List (declared.Column A)) (rows : List (List (Value A))) → All (λ r. length r ≡ length columns) rows
@@ -17,11 +17,11 @@ wide_data {A} columns rows wide =
 
 -- the value of a cell
 pub cell_is : {A : Type 0} (cols : List Column) (items : List (List (Value A))) (t : TableRows) (row column : ℕ) (at r : List (Value A)) (v : Value A) (d : Datum) → record { columns = cols; rows = rows_data items } ≡ t → row < length items
-    → at ≡ get_or items row at → r ≡ at → column < length r → v ≡ get_or r column v → d ≡ datum v → d ≡ cell_at t row column
+    → at ≡ get_or items row at → r ≡ at → column < length r → v ≡ get_or r column v → d ≡ datum v → d ≡ cell (row_at t.rows row) column
 cell_is cols items t row column at r v d is in_rows row_is slice in_row value_is same =
     let at_row : get_or (rows_data items) row [] ≡ row_of r = get_or-map (λ x. row_of x) items row at [] in_rows ∙ ap (λ x. row_of x) (sym row_is ∙ sym slice) in
     let at_cell : get_or (row_of r) column null ≡ datum v = get_or-map datum r column v null in_row ∙ ap datum (sym value_is) in
-    same ∙ sym (ap (λ (xs : List Datum). get_or xs column null) at_row ∙ at_cell) ∙ ap (λ (x : TableRows). cell_at x row column) is
+    same ∙ sym (ap (λ (xs : List Datum). get_or xs column null) at_row ∙ at_cell) ∙ ap (λ (x : TableRows). cell (row_at x.rows row) column) is
 
 -- a row and a column of the table
 pub row_within : {A : Type 0} (cols : List Column) (items : List (List (Value A))) (t : TableRows) (row : ℕ) → record { columns = cols; rows = rows_data items } ≡ t → row < length t.rows → row < length items

@@ -1,5 +1,5 @@
 -- The rows that the records of a text give, or the first load error.
-use Rattle.std.specs.Prelude.{ℕ, zero, suc, ◌+◌, ◌<◌, ◌≤◌, ◌==◌, ◌&&◌, ◌≡◌, ◌≢◌, Bool, true, false, List, [], ◌∷◌, ◌++◌, length, map, take, get_or, Option, is_none, Result, Ok, Err, IfErr, All, if◌then◌else◌, ⊤}
+use Rattle.std.specs.Prelude.{ℕ, zero, suc, ◌+◌, ◌<◌, ◌≤◌, ◌==◌, ◌&&◌, ◌≡◌, ◌≢◌, Bool, true, false, List, [], ◌∷◌, ◌++◌, length, map, take, Option, is_none, Result, Ok, Err, IfErr, All, if◌then◌else◌, ⊤}
 use Rattle.std.specs.Str.{bytes_eq, is_utf8}
 use Rattle.value.specs.declared.types.FaultKind.{FaultKind}
 use Rattle.value.specs.declared.types.Value.{Value}
@@ -7,6 +7,7 @@ use Rattle.value.specs.Datum.{Datum, null, Row, row_of}
 use Rattle.value.specs.Columns.{Column}
 use Rattle.value.specs.Texts.{IsNoNullMark, null_mark, value_at}
 use Rattle.csv_records.specs.declared.RecordError.{RecordError}
+use Rattle.memory.specs.Results.{first_then}
 use Rattle.memory.specs.declared.failure.Failure.{Failure}
 use Rattle.memory.specs.declared.failure.Failure.TheVariants.{Error, OutOfMemory}
 use Rattle.tables.specs.declared.LoadError.{LoadError}
@@ -20,12 +21,6 @@ pub record TableRows : Type 0 where
 -- the fields of a record, each as its bytes
 abbrev pub Fields : Type 0
 Fields = List (List ℕ)
-
--- one more item before others, or else the first error
-abbrev pub both : {X : Type 0} → Result X LoadError → Result (List X) LoadError → Result (List X) LoadError
-both (Err e) r = Err e
-both (Ok x) (Err e) = Err e
-both (Ok x) (Ok xs) = Ok (x ∷ xs)
 
 -- a text that is not a value of the type is reported with its row and column
 abbrev pub placed : ℕ → ℕ → Result Datum FaultKind → Result Datum LoadError
@@ -42,14 +37,14 @@ cell_of c row column f =
 unfoldable pub cells_of : List Column → ℕ → ℕ → Fields → Result Row LoadError
 cells_of [] row column fs = Ok []
 cells_of (c ∷ cs) row column [] = Err (error.Reader row)
-cells_of (c ∷ cs) row column (f ∷ fs) = both (cell_of c row column f) (cells_of cs row (column + 1) fs)
+cells_of (c ∷ cs) row column (f ∷ fs) = first_then (cell_of c row column f) (cells_of cs row (column + 1) fs)
 
 -- the rows of records, from a row on, where there is room for so many
 unfoldable pub rows_of : List Column → ℕ → ℕ → List Fields → Result (List Row) LoadError
 rows_of cols room row [] = Ok []
 rows_of cols zero row (r ∷ rs) = if length r == length cols then Err error.TooMany else Err (error.Reader row)
 rows_of cols (suc room) row (r ∷ rs) =
-    if length r == length cols then both (cells_of cols row 0 r) (rows_of cols room (row + 1) rs) else Err (error.Reader row)
+    if length r == length cols then first_then (cells_of cols row 0 r) (rows_of cols room (row + 1) rs) else Err (error.Reader row)
 
 -- the fields are the names of the columns, in order
 unfoldable pub names : List Column → Fields → Bool
@@ -103,7 +98,3 @@ StopsAfterGood cols room recs result =
 
 abbrev pub rows_data : {A : Type 0} → List (List (Value A)) → List Row
 rows_data rs = map (λ r. row_of r) rs
-
--- the value of a cell
-abbrev pub cell_at : TableRows → ℕ → ℕ → Datum
-cell_at t row column = get_or (get_or t.rows row []) column null

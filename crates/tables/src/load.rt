@@ -1,13 +1,13 @@
 //! Rows from records.
 
-ghost use Rattle.std.specs.Prelude.{◌≡◌, ◌≢◌, ◌+◌, ◌-◌, ◌<◌, ◌≤◌, ◌^◌, ℕ, [], length, map, true, None, Some, All, IfOk, IfErr, IfSome, IsErrOf, OnErr, OnOk};
+ghost use Rattle.std.specs.Prelude.{◌≡◌, ◌≢◌, ◌+◌, ◌-◌, ◌<◌, ◌≤◌, ◌^◌, ℕ, [], length, true, None, Some, All, IfOk, IfErr, IfSome, IsErrOf, OnErr, OnOk};
 ghost use Rattle.csv.specs.Records.{fields_of};
 ghost use Rattle.memory.specs.Gives.{Gives, IsFailure};
 ghost use Rattle.memory.specs.declared.failure.Failure.TheVariants.{Error};
 ghost use Rattle.csv_records.specs.Left.{TakesNext, counted};
 ghost use Rattle.value.specs.Datum.{datum, row_of};
 ghost use Rattle.tables.specs.Loading.{cell_of, cells_of, names, reported};
-ghost use Rattle.value.specs.Columns.{column_of};
+ghost use Rattle.value.specs.Columns.{column_of, columns_of};
 ghost use Rattle.tables.specs.Reading.{AddsRow, HeaderIs, LoadFollows, Refuses, RowsFollow, filled};
 ghost use Rattle.tables.specs.declared.LoadError.TheVariants.{Reader};
 
@@ -57,7 +57,7 @@ fn add_cells<A: Heap>(
     requires none { values.old.items ≡ [] }
     requires wide { length (fields_of cells.now) ≡ length columns.now }
     ensures wide { OnOk result (length values.new.items ≡ length columns.now) }
-    ensures cells { Gives (λ _. row_of values.new.items) result (cells_of (map column_of columns.now) row 0 (fields_of cells.now)) }
+    ensures cells { Gives (λ _. row_of values.new.items) result (cells_of (columns_of columns.now) row 0 (fields_of cells.now)) }
     ensures no_reader { IfErr result (λ e. (r : ℕ) → e ≢ Error (Reader r)) }
 {
     for (i, column) in columns.iter().enumerate() {
@@ -78,8 +78,8 @@ fn add_row<A: Heap>(
     rows: &mut Vec<Items<Value<A>, A>, A>,
 ) -> Result<(), Failure<LoadError>>
     requires { length (fields_of cells.now) ≡ length columns.now }
-    ensures row { OnOk result (AddsRow (map column_of columns.now) row (fields_of cells.now) rows.old.items rows.new.items) }
-    ensures refused { IfErr result (λ e. IsFailure e (cells_of (map column_of columns.now) row 0 (fields_of cells.now))) }
+    ensures row { OnOk result (AddsRow (columns_of columns.now) row (fields_of cells.now) rows.old.items rows.new.items) }
+    ensures refused { IfErr result (λ e. IsFailure e (cells_of (columns_of columns.now) row 0 (fields_of cells.now))) }
     ensures no_reader { IfErr result (λ e. (r : ℕ) → e ≢ Error (Reader r)) }
 {
     let mut values = Vec::with_capacity(alloc, columns.len())?;
@@ -133,7 +133,7 @@ fn add_rows<A: Heap, R: Read>(
     ensures wide { OnOk result (All (λ r. length r ≡ length columns.now) rows.new.items) }
     ensures few { OnOk result (length rows.new.items ≤ room) }
     ensures failed { IfSome records.new.failure (λ why. IsErrOf result (reported why records.new.given)) }
-    ensures rows { RowsFollow (map column_of columns.now) room records.old.records records.new (filled rows.new result) }
+    ensures rows { RowsFollow (columns_of columns.now) room records.old.records records.new (filled rows.new result) }
 {
     for done in 0..room {
         let row = done + 1;
@@ -162,7 +162,7 @@ fn read_rows<A: Heap, R: Read>(
     ensures wide { IfOk result (λ rows. All (λ r. length r ≡ length columns.now) rows.items) }
     ensures few { IfOk result (λ rows. length rows.items ≤ room) }
     ensures failed { IfSome records.new.failure (λ why. IsErrOf result (reported why records.new.given)) }
-    ensures rows { RowsFollow (map column_of columns.now) room records.old.records records.new result }
+    ensures rows { RowsFollow (columns_of columns.now) room records.old.records records.new result }
 {
     let mut rows = Vec::new(alloc);
     let mut cells = ByteRecord::new(alloc.global());
@@ -172,7 +172,7 @@ fn read_rows<A: Heap, R: Read>(
 
 // True where the fields are the names of the columns.
 fn has_names<A: Heap>(columns: &[Column<A>], cells: &ByteRecord) -> bool
-    ensures names { result ≡ names (map column_of columns.now) (fields_of cells.now) }
+    ensures names { result ≡ names (columns_of columns.now) (fields_of cells.now) }
     ensures len { result ≡ true → length (fields_of cells.now) ≡ length columns.now }
 {
     if cells.len() != columns.len() {
@@ -202,7 +202,7 @@ fn read_header<A: Heap, R: Read>(
     ensures given { OnOk result (records.new.given ≡ 1) }
     ensures fresh { OnOk result (records.new.failure ≡ None) }
     ensures failed { IfSome records.new.failure (λ why. IsErrOf result (reported why records.new.given)) }
-    ensures header { HeaderIs (map column_of columns.now) records.old records.new result }
+    ensures header { HeaderIs (columns_of columns.now) records.old records.new result }
 {
     let mut cells = ByteRecord::new(alloc.global());
     if next_record(records, &mut cells, 0)? && has_names(columns, &cells) {
@@ -226,7 +226,7 @@ pub(crate) fn read_table<A: Heap, R: Read>(
     ensures wide { IfOk result (λ rows. All (λ r. length r ≡ length columns.now) rows.items) }
     ensures few { IfOk result (λ rows. length rows.items ≤ room) }
     ensures failed { IfSome records.new.failure (λ why. IsErrOf result (reported why records.new.given)) }
-    ensures rows { LoadFollows (map column_of columns.now) room records.old.records records.new result }
+    ensures rows { LoadFollows (columns_of columns.now) room records.old.records records.new result }
 {
     read_header(alloc, columns, records)?;
     read_rows(alloc, columns, records, room)

@@ -1,11 +1,11 @@
 //! A table and its rows.
 
-ghost use Rattle.std.specs.Prelude.{◌≡◌, ◌-◌, ◌<◌, ◌≤◌, None, List, [], length, map, All, IfOk, IfSome, IsErrOf, OnErr, OnOk};
+ghost use Rattle.std.specs.Prelude.{◌≡◌, ◌-◌, ◌<◌, ◌≤◌, None, List, [], length, All, IfOk, IfSome, IsErrOf, OnErr, OnOk};
 ghost use Rattle.memory.specs.Gives.{Gives};
 ghost use Rattle.csv_records.specs.Left.{records_of};
-ghost use Rattle.value.specs.Columns.{column_of};
-ghost use Rattle.value.specs.Datum.{datum_of};
-ghost use Rattle.tables.specs.Loading.{Fields, NoTextIsNull, StopsAfterGood, UnlessUnread, appended, cell_at, load_of, reported};
+ghost use Rattle.value.specs.Columns.{columns_of};
+ghost use Rattle.value.specs.Datum.{cell, datum_of, row_at};
+ghost use Rattle.tables.specs.Loading.{Fields, NoTextIsNull, StopsAfterGood, UnlessUnread, appended, load_of, reported};
 ghost use Rattle.tables.specs.declared.TheConstants.{MAX_ROWS};
 
 use crate::load::read_table;
@@ -39,7 +39,7 @@ impl<A: Heap> Model for Table<A> {
 impl<A: Heap> Table<A> {
     /// A table with no rows.
     pub fn new(alloc: A, columns: Items<Column<A>, A>) -> Table<A>
-        ensures columns { result.columns ≡ map column_of columns }
+        ensures columns { result.columns ≡ columns_of columns }
         ensures rows { result.rows ≡ [] }
     {
         Table {
@@ -57,11 +57,11 @@ impl<A: Heap> Table<A> {
         reader: R,
         columns: Items<Column<A>, A>,
     ) -> Result<Table<A>, Failure<LoadError>>
-        ensures columns { IfOk result (λ t. t.columns ≡ map column_of columns) }
-        ensures exact { IfSome (R.remaining reader) (λ bytes. UnlessUnread result (Gives (λ t. t.rows) result (load_of (map column_of columns) MAX_ROWS (records_of bytes)))) }
+        ensures columns { IfOk result (λ t. t.columns ≡ columns_of columns) }
+        ensures exact { IfSome (R.remaining reader) (λ bytes. UnlessUnread result (Gives (λ t. t.rows) result (load_of (columns_of columns) MAX_ROWS (records_of bytes)))) }
         // The same of bytes that are not known: some records were read.
-        ensures some_records { UnlessUnread result ((recs : List Fields) × Gives (λ t. t.rows) result (load_of (map column_of columns) MAX_ROWS recs)) }
-        ensures stops { IfSome (R.remaining reader) (λ bytes. StopsAfterGood (map column_of columns) MAX_ROWS (records_of bytes) result) }
+        ensures some_records { UnlessUnread result ((recs : List Fields) × Gives (λ t. t.rows) result (load_of (columns_of columns) MAX_ROWS recs)) }
+        ensures stops { IfSome (R.remaining reader) (λ bytes. StopsAfterGood (columns_of columns) MAX_ROWS (records_of bytes) result) }
     {
         let mut records = Records::new(alloc.global(), reader);
         Table::load_records(alloc, &mut records, columns)
@@ -91,12 +91,12 @@ impl<A: Heap> Table<A> {
         requires expected { records.old.expected ≡ None }
         requires given { records.old.given ≡ 0 }
         requires fresh { records.old.failure ≡ None }
-        ensures columns { IfOk result (λ t. t.columns ≡ map column_of columns) }
-        ensures exact { records.new.failure ≡ None → IfSome records.old.records (λ recs. Gives (λ t. t.rows) result (load_of (map column_of columns) MAX_ROWS recs)) }
+        ensures columns { IfOk result (λ t. t.columns ≡ columns_of columns) }
+        ensures exact { records.new.failure ≡ None → IfSome records.old.records (λ recs. Gives (λ t. t.rows) result (load_of (columns_of columns) MAX_ROWS recs)) }
         // The same of records that are not known: some records were read, as many as were given.
-        ensures some_records { records.new.failure ≡ None → (recs : List Fields) × Gives (λ t. t.rows) result (load_of (map column_of columns) MAX_ROWS recs) × OnOk result (length recs ≡ records.new.given) }
+        ensures some_records { records.new.failure ≡ None → (recs : List Fields) × Gives (λ t. t.rows) result (load_of (columns_of columns) MAX_ROWS recs) × OnOk result (length recs ≡ records.new.given) }
         ensures failed { IfSome records.new.failure (λ why. IsErrOf result (reported why records.new.given)) }
-        ensures stops { IfSome records.old.records (λ recs. StopsAfterGood (map column_of columns) MAX_ROWS recs result) }
+        ensures stops { IfSome records.old.records (λ recs. StopsAfterGood (columns_of columns) MAX_ROWS recs result) }
     {
         let mut table = Table::new(alloc, columns);
         table.append_records(records)?;
@@ -127,7 +127,7 @@ impl<A: Heap> Table<A> {
 
     /// The columns, in order.
     pub fn columns(&self) -> &[Column<A>]
-        ensures { map column_of result.now ≡ self.now.columns }
+        ensures { columns_of result.now ≡ self.now.columns }
     {
         self.columns.as_slice()
     }
@@ -145,7 +145,7 @@ impl<A: Heap> Table<A> {
     pub fn cell(&self, row: u64, column: u64) -> Val<'_, A>
         requires row { row < length self.now.rows }
         requires column { column < length self.now.columns }
-        ensures { datum_of result ≡ cell_at self.now row column }
+        ensures { datum_of result ≡ cell (row_at self.now.rows row) column }
     {
         self.rows[row as usize].as_slice()[column as usize].as_val()
     }

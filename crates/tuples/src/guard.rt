@@ -6,8 +6,8 @@ ghost use Rattle.tuples.specs.View.{guard_of};
 
 use crate::rows::TableRow;
 use eval::is_true_on;
+use expr::MovableExpr;
 use memory::Heap;
-use predicates::MovableExpr;
 
 /// The rows of a table that a role sees.
 #[derive(Drop)]

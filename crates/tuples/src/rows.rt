@@ -1,8 +1,7 @@
 //! The rows of a table.
 
 ghost use Rattle.std.specs.Prelude.{◌≡◌, ◌<◌, length};
-ghost use Rattle.value.specs.Datum.{datum_of};
-ghost use Rattle.tuples.specs.Rows.{cell, row_at};
+ghost use Rattle.value.specs.Datum.{datum_of, cell, row_at};
 
 use eval::Row;
 use expr::ColumnId;
@@ -20,11 +19,10 @@ pub struct TableRow<'t, A: Heap> {
 impl<'t, A: Heap> Model for TableRow<'t, A> {
     ghost use Rattle.std.specs.Prelude.{◌<◌, length};
     ghost use Rattle.value.specs.Datum as value;
-    ghost use Rattle.tuples.specs.Rows.{row_at};
 
     ghost Value = { value.Row };
 
-    ghost view = { λ t. row_at t.rows.now.rows t.number };
+    ghost view = { λ t. value.row_at t.rows.now.rows t.number };
 
     ghost invariant = { λ t. t.number < length t.rows.now.rows };
 }

@@ -9,7 +9,8 @@ use Rattle.row_ast.specs.Ast as ast
 use Rattle.expr.specs.declared.bound.ColumnId.{ColumnId}
 use Rattle.scope.specs.declared.error.BindError.{BindError}
 use Rattle.scope.specs.declared.lookup.Scope.{Scope}
-use Rattle.scope.specs.Entry.{and_then, Entry}
+use Rattle.scope.specs.Entry.{Entry}
+use Rattle.memory.specs.Results.{and_then}
 use Rattle.scope.specs.Lookup.{find_column}
 use Rattle.typing.specs.Offsets.{both}
 

@@ -1,9 +1,9 @@
 //! The checks of a whole query, and of the condition of a policy.
 
 ghost use Rattle.std.specs.Prelude.{◌≡◌, None, map, option_map};
-ghost use Rattle.value.specs.Columns.{column_of};
+ghost use Rattle.value.specs.Columns.{columns_of};
 ghost use Rattle.row_ast.specs.View.{condition_of, expr_of, query_of, select_item_of, select_list_of};
-ghost use Rattle.scope.specs.View.{entry_of};
+ghost use Rattle.scope.specs.View.{entries_of};
 ghost use Rattle.typing.specs.Clauses as spec;
 
 use crate::grouped::{is_among, misplaced};
@@ -23,7 +23,7 @@ fn misplaced_items<A: Heap>(
     of_groups: bool,
     items: &[SelectItem<A>],
 ) -> Option<u32>
-    ensures { result ≡ spec.misplaced_items (map (λ e. entry_of e) entries.now) group_by.now of_groups None (map (λ i. select_item_of i) items.now) }
+    ensures { result ≡ spec.misplaced_items (entries_of entries.now) group_by.now of_groups None (map (λ i. select_item_of i) items.now) }
 {
     let scope = everywhere(entries);
     let mut known = None;
@@ -37,7 +37,7 @@ fn misplaced_items<A: Heap>(
 }
 
 fn are_grouped<A: Heap>(group_by: &[ColumnId], entry: usize, columns: &[Column<A>]) -> bool
-    ensures { result ≡ spec.are_grouped group_by.now entry 0 (map (λ c. column_of c) columns.now) }
+    ensures { result ≡ spec.are_grouped group_by.now entry 0 (columns_of columns.now) }
 {
     for (column, _) in columns.iter().enumerate() {
         if !is_among(ColumnId { entry, column }, group_by) {
@@ -48,7 +48,7 @@ fn are_grouped<A: Heap>(group_by: &[ColumnId], entry: usize, columns: &[Column<A
 }
 
 fn every_grouped<A: Heap>(group_by: &[ColumnId], entries: &[Entry<'_, A>]) -> bool
-    ensures { result ≡ spec.every_grouped group_by.now 0 (map (λ e. entry_of e) entries.now) }
+    ensures { result ≡ spec.every_grouped group_by.now 0 (entries_of entries.now) }
 {
     for (number, entry) in entries.iter().enumerate() {
         if !are_grouped(group_by, number, entry.table.columns()) {
@@ -73,7 +73,7 @@ fn misplaced_select<A: Heap>(
     of_groups: bool,
     select: &SelectList<A>,
 ) -> Option<u32>
-    ensures { result ≡ spec.misplaced_select (map (λ e. entry_of e) entries.now) group_by.now of_groups (select_list_of select.now) }
+    ensures { result ≡ spec.misplaced_select (entries_of entries.now) group_by.now of_groups (select_list_of select.now) }
 {
     match select {
         SelectList::All { offset } => {
@@ -91,7 +91,7 @@ fn misplaced_condition<A: Heap>(
     of_groups: bool,
     condition: Option<&Condition<A>>,
 ) -> Option<u32>
-    ensures { result ≡ spec.misplaced_condition (map (λ e. entry_of e) entries.now) group_by.now of_groups (option_map (λ c. condition_of c.now) condition.entry) }
+    ensures { result ≡ spec.misplaced_condition (entries_of entries.now) group_by.now of_groups (option_map (λ c. condition_of c.now) condition.entry) }
 {
     match condition {
         None => None,
@@ -106,7 +106,7 @@ fn misplaced_condition<A: Heap>(
 }
 
 fn misplaced_ons<A: Heap>(entries: &[Entry<'_, A>], group_by: &[ColumnId]) -> Option<u32>
-    ensures { result ≡ spec.misplaced_ons (map (λ e. entry_of e) entries.now) group_by.now None (map (λ e. entry_of e) entries.now) }
+    ensures { result ≡ spec.misplaced_ons (entries_of entries.now) group_by.now None (entries_of entries.now) }
 {
     let mut known = None;
     for entry in entries {
@@ -120,7 +120,7 @@ fn misplaced_ons<A: Heap>(entries: &[Entry<'_, A>], group_by: &[ColumnId]) -> Op
 
 /// True where a query has GROUP BY, HAVING, or an aggregate in an item.
 pub fn is_grouped<A: Heap>(entries: &[Entry<'_, A>], query: &Query<A>) -> bool
-    ensures { result ≡ spec.is_grouped (map (λ e. entry_of e) entries.now) (query_of query.now) }
+    ensures { result ≡ spec.is_grouped (entries_of entries.now) (query_of query.now) }
 {
     if !query.group_by.as_slice().is_empty() {
         return true;
@@ -136,7 +136,7 @@ fn misplaced_in<A: Heap>(
     group_by: &[ColumnId],
     query: &Query<A>,
 ) -> Option<u32>
-    ensures { result ≡ spec.misplaced_in (map (λ e. entry_of e) entries.now) group_by.now (query_of query.now) }
+    ensures { result ≡ spec.misplaced_in (entries_of entries.now) group_by.now (query_of query.now) }
 {
     let grouped = is_grouped(entries, query);
     let select = misplaced_select(entries, group_by, grouped, &query.select);
@@ -158,7 +158,7 @@ fn mistyped(typed: Typed) -> Option<u32>
 }
 
 fn mistyped_items<A: Heap>(entries: &[Entry<'_, A>], items: &[SelectItem<A>]) -> Option<u32>
-    ensures { result ≡ spec.mistyped_items (map (λ e. entry_of e) entries.now) None (map (λ i. select_item_of i) items.now) }
+    ensures { result ≡ spec.mistyped_items (entries_of entries.now) None (map (λ i. select_item_of i) items.now) }
 {
     let scope = everywhere(entries);
     let mut known = None;
@@ -169,7 +169,7 @@ fn mistyped_items<A: Heap>(entries: &[Entry<'_, A>], items: &[SelectItem<A>]) ->
 }
 
 fn mistyped_select<A: Heap>(entries: &[Entry<'_, A>], select: &SelectList<A>) -> Option<u32>
-    ensures { result ≡ spec.mistyped_select (map (λ e. entry_of e) entries.now) (select_list_of select.now) }
+    ensures { result ≡ spec.mistyped_select (entries_of entries.now) (select_list_of select.now) }
 {
     match select {
         SelectList::All { .. } => None,
@@ -182,7 +182,7 @@ fn mistyped_condition<A: Heap>(
     scope: Scope,
     condition: Option<&Condition<A>>,
 ) -> Option<u32>
-    ensures { result ≡ spec.mistyped_condition (map (λ e. entry_of e) entries.now) scope (option_map (λ c. condition_of c.now) condition.entry) }
+    ensures { result ≡ spec.mistyped_condition (entries_of entries.now) scope (option_map (λ c. condition_of c.now) condition.entry) }
 {
     match condition {
         None => None,
@@ -196,7 +196,7 @@ fn mistyped_condition<A: Heap>(
 }
 
 fn mistyped_ons<A: Heap>(entries: &[Entry<'_, A>]) -> Option<u32>
-    ensures { result ≡ spec.mistyped_ons (map (λ e. entry_of e) entries.now) 0 None (map (λ e. entry_of e) entries.now) }
+    ensures { result ≡ spec.mistyped_ons (entries_of entries.now) 0 None (entries_of entries.now) }
 {
     let mut known = None;
     for (number, entry) in entries.iter().enumerate() {
@@ -207,7 +207,7 @@ fn mistyped_ons<A: Heap>(entries: &[Entry<'_, A>]) -> Option<u32>
 }
 
 fn mistyped_in<A: Heap>(entries: &[Entry<'_, A>], query: &Query<A>) -> Option<u32>
-    ensures { result ≡ spec.mistyped_in (map (λ e. entry_of e) entries.now) (query_of query.now) }
+    ensures { result ≡ spec.mistyped_in (entries_of entries.now) (query_of query.now) }
 {
     let scope = everywhere(entries);
     let select = mistyped_select(entries, &query.select);
@@ -244,7 +244,7 @@ pub fn clause_error<A: Heap>(
     group_by: &[ColumnId],
     query: &Query<A>,
 ) -> Option<BindError>
-    ensures { result ≡ spec.clause_error (map (λ e. entry_of e) entries.now) group_by.now (query_of query.now) }
+    ensures { result ≡ spec.clause_error (entries_of entries.now) group_by.now (query_of query.now) }
 {
     let misplaced = misplaced_in(entries, group_by, query);
     first_fault(misplaced, mistyped_in(entries, query))
@@ -257,7 +257,7 @@ pub fn condition_error<A: Heap>(
     offset: u32,
     predicate: &Expr<A>,
 ) -> Option<BindError>
-    ensures { result ≡ spec.condition_error (map (λ e. entry_of e) entries.now) offset (expr_of predicate.now) }
+    ensures { result ≡ spec.condition_error (entries_of entries.now) offset (expr_of predicate.now) }
 {
     let scope = everywhere(entries);
     let aggregate = misplaced(entries, scope, &[], false, predicate);

@@ -1,10 +1,10 @@
 //! Aggregates, and columns beside them, where they may not be.
 
-ghost use Rattle.std.specs.Prelude.{◌≡◌, None, map};
+ghost use Rattle.std.specs.Prelude.{◌≡◌, None};
 ghost use Rattle.std.specs.List.{list_any};
 ghost use Rattle.row_ast.specs.View.{expr_of, exprs, arms as arms_of};
 ghost use Rattle.expr.specs.Bound.{is_column};
-ghost use Rattle.scope.specs.View.{entry_of};
+ghost use Rattle.scope.specs.View.{entries_of};
 ghost use Rattle.typing.specs.Grouping as spec;
 
 use crate::offsets::least_of;
@@ -66,7 +66,7 @@ pub fn misplaced<A: Heap>(
     of_groups: bool,
     expression: &Expr<A>,
 ) -> Option<u32>
-    ensures { result ≡ spec.misplaced (map (λ e. entry_of e) entries.now) scope group_by.now of_groups (expr_of expression.now) }
+    ensures { result ≡ spec.misplaced (entries_of entries.now) scope group_by.now of_groups (expr_of expression.now) }
 {
     match expression {
         Expr::Column(column) => {
@@ -136,7 +136,7 @@ fn misplaced_members<A: Heap>(
     of_groups: bool,
     members: &[Expr<A>],
 ) -> Option<u32>
-    ensures { result ≡ spec.misplaced_members (map (λ e. entry_of e) entries.now) scope group_by.now of_groups None (exprs members.now) }
+    ensures { result ≡ spec.misplaced_members (entries_of entries.now) scope group_by.now of_groups None (exprs members.now) }
 {
     let mut known = None;
     for member in members {
@@ -157,7 +157,7 @@ fn misplaced_arms<A: Heap>(
     of_groups: bool,
     arms: &[Arm<A>],
 ) -> Option<u32>
-    ensures { result ≡ spec.misplaced_arms (map (λ e. entry_of e) entries.now) scope group_by.now of_groups None (arms_of arms.now) }
+    ensures { result ≡ spec.misplaced_arms (entries_of entries.now) scope group_by.now of_groups None (arms_of arms.now) }
 {
     let mut known = None;
     for arm in arms {

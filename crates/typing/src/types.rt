@@ -3,7 +3,7 @@
 ghost use Rattle.std.specs.Prelude.{◌≡◌, Ok, Some, None, true, map, option_map, slice_get};
 ghost use Rattle.value.specs.Datum.{datum};
 ghost use Rattle.row_ast.specs.View.{expr_of, exprs, arms as arms_of};
-ghost use Rattle.scope.specs.View.{entry_of};
+ghost use Rattle.scope.specs.View.{entry_of, entries_of};
 ghost use Rattle.typing.specs.Typing as spec;
 
 use crate::offsets::both;
@@ -119,7 +119,7 @@ fn type_at<A: Heap>(entry: &Entry<'_, A>, column: usize) -> TypeOf
 }
 
 fn column_type<A: Heap>(entries: &[Entry<'_, A>], id: ColumnId) -> TypeOf
-    ensures { result ≡ spec.column_type (map (λ e. entry_of e) entries.now) id }
+    ensures { result ≡ spec.column_type (entries_of entries.now) id }
 {
     match entries.get(id.entry) {
         None => None,
@@ -128,7 +128,7 @@ fn column_type<A: Heap>(entries: &[Entry<'_, A>], id: ColumnId) -> TypeOf
 }
 
 fn found_type<A: Heap>(entries: &[Entry<'_, A>], found: Result<ColumnId, BindError>) -> TypeOf
-    ensures { result ≡ spec.found_type (map (λ e. entry_of e) entries.now) found }
+    ensures { result ≡ spec.found_type (entries_of entries.now) found }
 {
     match found {
         Ok(id) => column_type(entries, id),
@@ -280,7 +280,7 @@ fn case_type(offset: u32, known: Arms, otherwise: Typed) -> Typed
 /// The type of an expression, or the least offset of an operation that is wrong although its operands are well typed.
 #[cycle(typed)]
 pub fn typed<A: Heap>(entries: &[Entry<'_, A>], scope: Scope, expression: &Expr<A>) -> Typed
-    ensures { result ≡ spec.typed (map (λ e. entry_of e) entries.now) scope (expr_of expression.now) }
+    ensures { result ≡ spec.typed (entries_of entries.now) scope (expr_of expression.now) }
 {
     match expression {
         Expr::Column(column) => Ok(found_type(entries, find_column(entries, scope, column))),
@@ -368,7 +368,7 @@ fn typed_members<A: Heap>(
     scope: Scope,
     members: &[Expr<A>],
 ) -> Result<bool, u32>
-    ensures { result ≡ spec.typed_members (map (λ e. entry_of e) entries.now) scope (Ok true) (exprs members.now) }
+    ensures { result ≡ spec.typed_members (entries_of entries.now) scope (Ok true) (exprs members.now) }
 {
     let mut known = Ok(true);
     for member in members {
@@ -380,7 +380,7 @@ fn typed_members<A: Heap>(
 // The same of each WHEN, and the one type of the results.
 #[cycle(typed)]
 fn typed_arms<A: Heap>(entries: &[Entry<'_, A>], scope: Scope, arms: &[Arm<A>]) -> Arms
-    ensures { result ≡ spec.typed_arms (map (λ e. entry_of e) entries.now) scope (Ok (true, Some None)) (arms_of arms.now) }
+    ensures { result ≡ spec.typed_arms (entries_of entries.now) scope (Ok (true, Some None)) (arms_of arms.now) }
 {
     let mut known = Ok((true, Some(None)));
     for arm in arms {
@@ -397,7 +397,7 @@ pub fn typed_condition<A: Heap>(
     offset: u32,
     expression: &Expr<A>,
 ) -> Typed
-    ensures { result ≡ spec.typed_condition (map (λ e. entry_of e) entries.now) scope offset (expr_of expression.now) }
+    ensures { result ≡ spec.typed_condition (entries_of entries.now) scope offset (expr_of expression.now) }
 {
     let of = typed(entries, scope, expression)?;
     type_if(offset, fits(ColType::Boolean, of), of)

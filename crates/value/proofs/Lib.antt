@@ -1,3 +1,4 @@
+pub mod Cells
 pub mod DatumOrder
 pub mod OneSpelling
 pub mod ReadBack

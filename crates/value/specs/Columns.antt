@@ -1,5 +1,5 @@
 -- The columns of tables.
-use Rattle.std.specs.Prelude.{ℕ, Bool, true, false, List}
+use Rattle.std.specs.Prelude.{ℕ, Bool, true, false, List, map}
 use Rattle.value.specs.Datum.{Datum, null, int, text, bool}
 use Rattle.value.specs.declared.column.Column as declared
 use Rattle.value.specs.declared.types.ColType.{ColType}
@@ -13,6 +13,9 @@ pub record Column : Type 0 where
 
 abbrev pub column_of : {A : Type 0} → declared.Column A → Column
 column_of c = record { name = c.name; data_type = c.data_type; not_null = c.not_null }
+
+abbrev pub columns_of : {A : Type 0} → List (declared.Column A) → List Column
+columns_of columns = map (λ c. column_of c) columns
 
 -- the value is of the type, or null
 abbrev pub fits_type : ColType → Datum → Bool

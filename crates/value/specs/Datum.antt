@@ -1,5 +1,5 @@
 -- Values as spec data.
-use Rattle.std.specs.Prelude.{ℕ, ℤ, Bool, List, map, Result, Ok, Err}
+use Rattle.std.specs.Prelude.{ℕ, ℤ, Bool, List, [], map, slice_index_or, Result, Ok, Err}
 use Rattle.std.specs.Cow.{cow_str_bytes}
 use Rattle.value.specs.declared.types.Value.{Value}
 use Rattle.value.specs.declared.types.Value.TheVariants as owned
@@ -15,6 +15,14 @@ pub data Datum : Type 0 where
 
 abbrev pub Row : Type 0
 Row = List Datum
+
+-- the row of a number, counted from 0, or an empty one; of a table it is asked only below the number of its rows
+abbrev pub row_at : List Row → ℕ → Row
+row_at rows number = slice_index_or rows number []
+
+-- the value at an index, or null; a row of a table has a value for each column, so that no null stands for one that is missing
+abbrev pub cell : Row → ℕ → Datum
+cell row index = slice_index_or row index null
 
 -- the view of a Rust value as spec data
 abbrev pub datum : {A : Type 0} → Value A → Datum

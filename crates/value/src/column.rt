@@ -1,7 +1,7 @@
 //! The columns of tables.
 
-ghost use Rattle.std.specs.Prelude.{◌≡◌, IfOk, map};
-ghost use Rattle.value.specs.Columns.{column_of, fits_type};
+ghost use Rattle.std.specs.Prelude.{◌≡◌, IfOk};
+ghost use Rattle.value.specs.Columns.{column_of, columns_of, fits_type};
 ghost use Rattle.value.specs.Datum.{datum};
 
 use crate::types::{ColType, Value};
@@ -47,7 +47,7 @@ pub fn copy_columns<A: Heap>(
     alloc: A,
     columns: &[Column<A>],
 ) -> Result<Items<Column<A>, A>, AllocError>
-    ensures { IfOk result (λ copy. map (λ c. column_of c) copy ≡ map (λ c. column_of c) columns.now) }
+    ensures { IfOk result (λ copy. columns_of copy ≡ columns_of columns.now) }
 {
     let mut copy = Items::new(alloc);
     for column in columns {

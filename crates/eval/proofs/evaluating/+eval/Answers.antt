@@ -10,7 +10,8 @@ use Rattle.value.specs.contracts.order.Truth.{the_type}
 use Rattle.expr.specs.View.{bound_expr_of, bound_exprs, bound_arms, otherwise_of}
 use Rattle.eval.specs.Meaning.{meaning, conjunction, disjunction, otherwise}
 use Rattle.expr.specs.Weights.{weight, all_weight, arms_weight}
-use Rattle.expr.proofs.Operands.{negate_is, in_is, is_null_is, not_is, cast_is, arithmetic_is, comparison_is, between_is, lighter, left_lighter, right_lighter, middle_lighter, last_lighter}
+use Rattle.expr.proofs.Operands.{negate_is, in_is, is_null_is, not_is, cast_is, arithmetic_is, comparison_is, between_is}
+use Rattle.memory.proofs.Lighter.{lighter, left_lighter, right_lighter, middle_lighter, last_lighter}
 use Rattle.expr.proofs.Walks.{case_is, and_is, or_is, exprs_lighter, exprs_still, when_lighter, result_lighter, arms_still}
 use Rattle.eval.proofs.Conditions.{and_open, or_open, and_start, or_start, and_over, and_fails, and_ends, and_goes_on, or_over, or_fails, or_ends, or_goes_on, case_over, when_fails, case_gives, case_goes_on, by_arms, else_value, else_null, same}
 use Rattle.memory.proofs.Cases.{exits}

@@ -4,7 +4,8 @@ use Rattle.expr.specs.Aggregates.{aggregates, all_aggregates, arms_aggregates}
 use Rattle.expr.specs.Weights.{weight}
 use Rattle.expr.proofs.Walks.{Gathers, parts_step, parts_over, arm_parts_step, arm_parts_over, case_parts_none, case_parts_some, and_is, or_is, case_none, case_some, case_lighter, exprs_lighter, exprs_still, when_lighter, result_lighter, arms_still, two_parts, three_parts, one_more}
 use Rattle.expr.specs.View.{aggregate_call_of, bound_expr_of}
-use Rattle.expr.proofs.Operands.{arithmetic_is, between_is, cast_is, comparison_is, in_is, is_null_is, last_lighter, left_lighter, lighter, middle_lighter, negate_is, not_is, right_lighter}
+use Rattle.expr.proofs.Operands.{arithmetic_is, between_is, cast_is, comparison_is, in_is, is_null_is, negate_is, not_is}
+use Rattle.memory.proofs.Lighter.{last_lighter, left_lighter, lighter, middle_lighter, right_lighter}
 use Rattle.expr.proofs.aggregates.+aggregates.Goals as goal
 
 gathers : Gathers aggregates all_aggregates arms_aggregates

@@ -9,7 +9,8 @@ use Rattle.expr.specs.View.{bound_expr_of, bound_exprs, bound_arm_pair, bound_ar
 use Rattle.expr.specs.Weights.{weight, all_weight, arms_weight}
 use Rattle.expr.proofs.Walks.{and_is, or_is, case_none, case_some, case_lighter, exprs_still, arms_still, exprs_lighter, when_lighter, result_lighter}
 use Rattle.expr.proofs.Copied.{copied_first, copied_next, copied_over, made_of, copied_as, between_copied, in_copied}
-use Rattle.expr.proofs.Operands.{negate_is, in_is, is_null_is, not_is, cast_is, call_is, arithmetic_is, comparison_is, between_is, lighter, left_lighter, right_lighter, middle_lighter, last_lighter}
+use Rattle.expr.proofs.Operands.{negate_is, in_is, is_null_is, not_is, cast_is, call_is, arithmetic_is, comparison_is, between_is}
+use Rattle.memory.proofs.Lighter.{lighter, left_lighter, right_lighter, middle_lighter, last_lighter}
 use Rattle.expr.proofs.copies.+copy.Goals as goal
 
 pub copy_members-copy_expr-requires : goal.copy_members-copy_expr-requires

@@ -4,7 +4,8 @@ use Rattle.std.proofs.lemmas.Grind.{common_steps}
 use Rattle.expr.specs.Movable.{movable, all_movable, arms_movable}
 use Rattle.expr.specs.View.{bound_expr_of}
 use Rattle.expr.proofs.Walks.{and_is, or_is, case_is, case_none, case_some, case_lighter, exprs_step, exprs_lighter, exprs_still, exprs_over, when_lighter, result_lighter, arms_step, arms_still, arms_over, both_true}
-use Rattle.expr.proofs.Operands.{between_is, comparison_is, in_is, is_null_is, last_lighter, left_lighter, lighter, middle_lighter, not_is, right_lighter}
+use Rattle.expr.proofs.Operands.{between_is, comparison_is, in_is, is_null_is, not_is}
+use Rattle.memory.proofs.Lighter.{last_lighter, left_lighter, lighter, middle_lighter, right_lighter}
 use Rattle.expr.proofs.movable.+movable.Goals as goal
 
 -- ---- the members that are left, after one

@@ -5,7 +5,7 @@ use Rattle.value.specs.Datum.{Datum, datum, row_of}
 use Rattle.value.specs.declared.types.Value.{Value}
 use Rattle.value.specs.declared.faults.Fault.{Fault}
 use Rattle.expr.specs.View.{aggregate_calls_of}
-use Rattle.stages.specs.Stages.{first_then}
+use Rattle.memory.specs.Results.{first_then}
 use Rattle.stages.proofs.Walks.{next, done_then, done_nothing, put_next, fails_here}
 use Rattle.groups.specs.Members.{arguments}
 use Rattle.groups.proofs.members.arguments_on.Goals as goal

@@ -4,7 +4,8 @@ use Rattle.expr.specs.Bound.{BoundExpr}
 use Rattle.expr.specs.View.{bound_expr_of}
 use Rattle.scope.specs.declared.error.BindError.{BindError}
 use Rattle.scope.specs.declared.lookup.Scope.{Scope}
-use Rattle.scope.specs.Entry.{Entry, and_then}
+use Rattle.scope.specs.Entry.{Entry}
+use Rattle.memory.specs.Results.{and_then}
 use Rattle.scope.specs.Lookup.{on_scope}
 use Rattle.scope.specs.View.{entry_of}
 use Rattle.scope.proofs.Found.{failed}

@@ -5,7 +5,8 @@ use Rattle.row_ast.specs.View.{query_of, sort_key_of}
 use Rattle.scope.specs.declared.error.BindError.{BindError}
 use Rattle.expr.specs.declared.query.OutputKey.{OutputKey}
 use Rattle.expr.specs.BoundQuery.{BoundItem, BoundQuery}
-use Rattle.scope.specs.Entry.{Entry, and_then}
+use Rattle.scope.specs.Entry.{Entry}
+use Rattle.memory.specs.Results.{and_then}
 use Rattle.expr.specs.View.{bound_item_of, bound_query_of}
 use Rattle.scope.specs.View.{entry_of}
 use Rattle.scope.proofs.Found.{failed}

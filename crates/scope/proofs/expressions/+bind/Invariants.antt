@@ -1,7 +1,7 @@
 use Rattle.std.proofs.Common.{◌≡◌, ◌≤◌, [], drop, map}
 use Rattle.row_ast.specs.View.{expr_of, exprs, arms as arms_of}
 use Rattle.expr.specs.View.{bound_arm_pair, bound_expr_of}
-use Rattle.scope.specs.Weights.{weight, all_weight, arms_weight}
+use Rattle.row_ast.specs.Weights.{weight, all_weight, arms_weight}
 use Rattle.scope.specs.BoundExprs.{bound_members, bound_arms}
 use Rattle.scope.specs.View.{entry_of}
 use Rattle.scope.proofs.expressions.+bind.Given as goal

@@ -1,4 +1,4 @@
-use Rattle.std.proofs.Common.{Ok, Err, ap, ◌∙◌}
+use Rattle.std.proofs.Common.{Ok, Err}
 use Rattle.expr.specs.View.{bound_expr_of}
 use Rattle.scope.proofs.Binds.{extended_given}
 use Rattle.scope.proofs.nodes.with_member.Goals as goal

@@ -2,10 +2,11 @@ use borrow.Author.Count.{falls}
 use Rattle.std.proofs.Common.{◌∙◌, ◌<◌, length, ap, refl, map, subst, arith}
 use Rattle.std.proofs.Math.Nat.{le_refl}
 use Rattle.row_ast.specs.View.{expr_of, exprs, arms as arms_of}
-use Rattle.scope.specs.Weights.{weight, all_weight, arms_weight}
+use Rattle.row_ast.specs.Weights.{weight, all_weight, arms_weight}
 use Rattle.scope.specs.View.{entry_of}
 use Rattle.scope.proofs.Walks.{and_is, or_is, case_none, case_other, case_lighter, otherwise_lighter, exprs_still, arms_still, exprs_lighter, when_lighter, result_lighter}
-use Rattle.scope.proofs.Operands.{negate_is, in_is, is_null_is, not_is, cast_is, call_is, arithmetic_is, comparison_is, between_is, lighter, first_lighter, second_lighter, third_lighter, last_lighter}
+use Rattle.row_ast.proofs.Operands.{negate_is, in_is, is_null_is, not_is, cast_is, call_is, arithmetic_is, comparison_is, between_is}
+use Rattle.memory.proofs.Lighter.{lighter, left_lighter, right_lighter, middle_lighter, last_lighter}
 use Rattle.typing.specs.Grouping.{misplaced_call}
 use Rattle.typing.proofs.GroupedWalks.{misplaced_as, least_is, column_is, misplaced_step, misplaced_over, misplaced_arm_step, misplaced_arms_over}
 use Rattle.typing.proofs.grouped.+misplaced.Goals as goal
@@ -13,49 +14,49 @@ use Rattle.typing.proofs.grouped.+misplaced.Goals as goal
 -- ---- each call is on less
 
 pub misplaced-misplaced-requires : goal.misplaced-misplaced-requires
-misplaced-misplaced-requires g t c κs within = (subst (λ n. weight (expr_of c.deref.result.now) < n) c.decreases (lighter (expr_of c.args.expression.now) _ (ap weight (negate_is c.args.expression.now c.in-Negate.offset c.in-Negate.operand c.deref.result.now c.deref.ensures c.in-Negate.is))), within)
+misplaced-misplaced-requires g t c κs within = (lighter (weight (expr_of c.deref.result.now)) _ t c.decreases (ap weight (negate_is c.args.expression.now c.in-Negate.offset c.in-Negate.operand c.deref.result.now c.deref.ensures c.in-Negate.is)), within)
 
 pub misplaced-misplaced-left-requires : goal.misplaced-misplaced-left-requires
-misplaced-misplaced-left-requires g t c κs within = (subst (λ n. weight (expr_of c.deref-in-Arithmetic.result.now) < n) c.decreases (first_lighter (expr_of c.args.expression.now) _ _ (ap weight (arithmetic_is c.args.expression.now c.in-Arithmetic.offset c.in-Arithmetic.left c.in-Arithmetic.right c.deref-in-Arithmetic.result.now c.deref-in-Arithmetic.ensures _ refl c.in-Arithmetic.operator c.in-Arithmetic.is))), within)
+misplaced-misplaced-left-requires g t c κs within = (left_lighter (weight (expr_of c.deref-in-Arithmetic.result.now)) _ t c.decreases _ (ap weight (arithmetic_is c.args.expression.now c.in-Arithmetic.offset c.in-Arithmetic.left c.in-Arithmetic.right c.deref-in-Arithmetic.result.now c.deref-in-Arithmetic.ensures _ refl c.in-Arithmetic.operator c.in-Arithmetic.is)), within)
 
 pub misplaced-misplaced-requires-in-Arithmetic : goal.misplaced-misplaced-requires-in-Arithmetic
-misplaced-misplaced-requires-in-Arithmetic g t c κs within = (subst (λ n. weight (expr_of c.deref-in-Arithmetic-2.result.now) < n) c.decreases (second_lighter (expr_of c.args.expression.now) _ _ (ap weight (arithmetic_is c.args.expression.now c.in-Arithmetic.offset c.in-Arithmetic.left c.in-Arithmetic.right c.deref-in-Arithmetic.result.now c.deref-in-Arithmetic.ensures c.deref-in-Arithmetic-2.result.now c.deref-in-Arithmetic-2.ensures c.in-Arithmetic.operator c.in-Arithmetic.is))), within)
+misplaced-misplaced-requires-in-Arithmetic g t c κs within = (right_lighter (weight (expr_of c.deref-in-Arithmetic-2.result.now)) _ t c.decreases _ (ap weight (arithmetic_is c.args.expression.now c.in-Arithmetic.offset c.in-Arithmetic.left c.in-Arithmetic.right c.deref-in-Arithmetic.result.now c.deref-in-Arithmetic.ensures c.deref-in-Arithmetic-2.result.now c.deref-in-Arithmetic-2.ensures c.in-Arithmetic.operator c.in-Arithmetic.is)), within)
 
 pub misplaced-misplaced-left-requires-in-Comparison : goal.misplaced-misplaced-left-requires-in-Comparison
-misplaced-misplaced-left-requires-in-Comparison g t c κs within = (subst (λ n. weight (expr_of c.deref-in-Comparison.result.now) < n) c.decreases (first_lighter (expr_of c.args.expression.now) _ _ (ap weight (comparison_is c.args.expression.now c.in-Comparison.offset c.in-Comparison.left c.in-Comparison.right c.deref-in-Comparison.result.now c.deref-in-Comparison.ensures _ refl c.in-Comparison.operator c.in-Comparison.is))), within)
+misplaced-misplaced-left-requires-in-Comparison g t c κs within = (left_lighter (weight (expr_of c.deref-in-Comparison.result.now)) _ t c.decreases _ (ap weight (comparison_is c.args.expression.now c.in-Comparison.offset c.in-Comparison.left c.in-Comparison.right c.deref-in-Comparison.result.now c.deref-in-Comparison.ensures _ refl c.in-Comparison.operator c.in-Comparison.is)), within)
 
 pub misplaced-misplaced-requires-in-Comparison : goal.misplaced-misplaced-requires-in-Comparison
-misplaced-misplaced-requires-in-Comparison g t c κs within = (subst (λ n. weight (expr_of c.deref-in-Comparison-2.result.now) < n) c.decreases (second_lighter (expr_of c.args.expression.now) _ _ (ap weight (comparison_is c.args.expression.now c.in-Comparison.offset c.in-Comparison.left c.in-Comparison.right c.deref-in-Comparison.result.now c.deref-in-Comparison.ensures c.deref-in-Comparison-2.result.now c.deref-in-Comparison-2.ensures c.in-Comparison.operator c.in-Comparison.is))), within)
+misplaced-misplaced-requires-in-Comparison g t c κs within = (right_lighter (weight (expr_of c.deref-in-Comparison-2.result.now)) _ t c.decreases _ (ap weight (comparison_is c.args.expression.now c.in-Comparison.offset c.in-Comparison.left c.in-Comparison.right c.deref-in-Comparison.result.now c.deref-in-Comparison.ensures c.deref-in-Comparison-2.result.now c.deref-in-Comparison-2.ensures c.in-Comparison.operator c.in-Comparison.is)), within)
 
 pub misplaced-misplaced-operand-requires : goal.misplaced-misplaced-operand-requires
-misplaced-misplaced-operand-requires g t c κs within = (subst (λ n. weight (expr_of c.deref-in-Between.result.now) < n) c.decreases (first_lighter (expr_of c.args.expression.now) _ _ (ap weight (between_is c.args.expression.now c.in-Between.offset c.in-Between.operand c.in-Between.low c.deref-in-Between.result.now c.deref-in-Between.ensures _ refl c.in-Between.high _ refl c.in-Between.negated c.in-Between.is))), within)
+misplaced-misplaced-operand-requires g t c κs within = (left_lighter (weight (expr_of c.deref-in-Between.result.now)) _ t c.decreases _ (ap weight (between_is c.args.expression.now c.in-Between.offset c.in-Between.operand c.in-Between.low c.deref-in-Between.result.now c.deref-in-Between.ensures _ refl c.in-Between.high _ refl c.in-Between.negated c.in-Between.is)), within)
 
 pub misplaced-misplaced-low-requires : goal.misplaced-misplaced-low-requires
-misplaced-misplaced-low-requires g t c κs within = (subst (λ n. weight (expr_of c.deref-in-Between-2.result.now) < n) c.decreases (third_lighter (expr_of c.args.expression.now) _ _ _ (ap weight (between_is c.args.expression.now c.in-Between.offset c.in-Between.operand c.in-Between.low c.deref-in-Between.result.now c.deref-in-Between.ensures c.deref-in-Between-2.result.now c.deref-in-Between-2.ensures c.in-Between.high _ refl c.in-Between.negated c.in-Between.is))), within)
+misplaced-misplaced-low-requires g t c κs within = (middle_lighter (weight (expr_of c.deref-in-Between-2.result.now)) _ t c.decreases _ _ (ap weight (between_is c.args.expression.now c.in-Between.offset c.in-Between.operand c.in-Between.low c.deref-in-Between.result.now c.deref-in-Between.ensures c.deref-in-Between-2.result.now c.deref-in-Between-2.ensures c.in-Between.high _ refl c.in-Between.negated c.in-Between.is)), within)
 
 pub misplaced-misplaced-high-requires : goal.misplaced-misplaced-high-requires
-misplaced-misplaced-high-requires g t c κs within = (subst (λ n. weight (expr_of c.deref-in-Between-3.result.now) < n) c.decreases (last_lighter (expr_of c.args.expression.now) _ _ _ (ap weight (between_is c.args.expression.now c.in-Between.offset c.in-Between.operand c.in-Between.low c.deref-in-Between.result.now c.deref-in-Between.ensures c.deref-in-Between-2.result.now c.deref-in-Between-2.ensures c.in-Between.high c.deref-in-Between-3.result.now c.deref-in-Between-3.ensures c.in-Between.negated c.in-Between.is))), within)
+misplaced-misplaced-high-requires g t c κs within = (last_lighter (weight (expr_of c.deref-in-Between-3.result.now)) _ t c.decreases _ _ (ap weight (between_is c.args.expression.now c.in-Between.offset c.in-Between.operand c.in-Between.low c.deref-in-Between.result.now c.deref-in-Between.ensures c.deref-in-Between-2.result.now c.deref-in-Between-2.ensures c.in-Between.high c.deref-in-Between-3.result.now c.deref-in-Between-3.ensures c.in-Between.negated c.in-Between.is)), within)
 
 pub misplaced-misplaced-requires-in-In : goal.misplaced-misplaced-requires-in-In
-misplaced-misplaced-requires-in-In g t c κs within = (subst (λ n. weight (expr_of c.deref-in-In.result.now) < n) c.decreases (lighter (expr_of c.args.expression.now) _ (ap weight (in_is c.args.expression.now c.in-In.offset c.in-In.operand c.deref-in-In.result.now c.deref-in-In.ensures c.in-In.negated c.in-In.values c.in-In.is))), within)
+misplaced-misplaced-requires-in-In g t c κs within = (lighter (weight (expr_of c.deref-in-In.result.now)) _ t c.decreases (ap weight (in_is c.args.expression.now c.in-In.offset c.in-In.operand c.deref-in-In.result.now c.deref-in-In.ensures c.in-In.negated c.in-In.values c.in-In.is)), within)
 
 pub misplaced-misplaced-requires-in-IsNull : goal.misplaced-misplaced-requires-in-IsNull
-misplaced-misplaced-requires-in-IsNull g t c κs within = (subst (λ n. weight (expr_of c.deref-in-IsNull.result.now) < n) c.decreases (lighter (expr_of c.args.expression.now) _ (ap weight (is_null_is c.args.expression.now c.in-IsNull.offset c.in-IsNull.operand c.deref-in-IsNull.result.now c.deref-in-IsNull.ensures c.in-IsNull.negated c.in-IsNull.is))), within)
+misplaced-misplaced-requires-in-IsNull g t c κs within = (lighter (weight (expr_of c.deref-in-IsNull.result.now)) _ t c.decreases (ap weight (is_null_is c.args.expression.now c.in-IsNull.offset c.in-IsNull.operand c.deref-in-IsNull.result.now c.deref-in-IsNull.ensures c.in-IsNull.negated c.in-IsNull.is)), within)
 
 pub misplaced-misplaced-requires-in-Not : goal.misplaced-misplaced-requires-in-Not
-misplaced-misplaced-requires-in-Not g t c κs within = (subst (λ n. weight (expr_of c.deref-in-Not.result.now) < n) c.decreases (lighter (expr_of c.args.expression.now) _ (ap weight (not_is c.args.expression.now c.in-Not.offset c.in-Not.operand c.deref-in-Not.result.now c.deref-in-Not.ensures c.in-Not.is))), within)
+misplaced-misplaced-requires-in-Not g t c κs within = (lighter (weight (expr_of c.deref-in-Not.result.now)) _ t c.decreases (ap weight (not_is c.args.expression.now c.in-Not.offset c.in-Not.operand c.deref-in-Not.result.now c.deref-in-Not.ensures c.in-Not.is)), within)
 
 pub misplaced-misplaced-requires-in-Cast : goal.misplaced-misplaced-requires-in-Cast
-misplaced-misplaced-requires-in-Cast g t c κs within = (subst (λ n. weight (expr_of c.deref-in-Cast.result.now) < n) c.decreases (lighter (expr_of c.args.expression.now) _ (ap weight (cast_is c.args.expression.now c.in-Cast.offset c.in-Cast.operand c.deref-in-Cast.result.now c.deref-in-Cast.ensures c.in-Cast.to c.in-Cast.is))), within)
+misplaced-misplaced-requires-in-Cast g t c κs within = (lighter (weight (expr_of c.deref-in-Cast.result.now)) _ t c.decreases (ap weight (cast_is c.args.expression.now c.in-Cast.offset c.in-Cast.operand c.deref-in-Cast.result.now c.deref-in-Cast.ensures c.in-Cast.to c.in-Cast.is)), within)
 
 pub misplaced-misplaced-inner-requires : goal.misplaced-misplaced-inner-requires
-misplaced-misplaced-inner-requires g t c κs within = (subst (λ n. weight (expr_of c.deref-in-Call.result.now) < n) c.decreases (lighter (expr_of c.args.expression.now) _ (ap weight (call_is c.args.expression.now c.in-Call.offset c.in-Call.argument c.deref-in-Call.result.now c.deref-in-Call.ensures c.in-Call.aggregate c.in-Call.is))), within)
+misplaced-misplaced-inner-requires g t c κs within = (lighter (weight (expr_of c.deref-in-Call.result.now)) _ t c.decreases (ap weight (call_is c.args.expression.now c.in-Call.offset c.in-Call.argument c.deref-in-Call.result.now c.deref-in-Call.ensures c.in-Call.aggregate c.in-Call.is)), within)
 
 pub misplaced-misplaced_members-requires : goal.misplaced-misplaced_members-requires
-misplaced-misplaced_members-requires g t c κs within = (subst (λ n. all_weight (exprs c.deref-in-And.result.now) < n) c.decreases (lighter (expr_of c.args.expression.now) _ (ap weight (and_is c.args.expression.now c.in-And.offset c.in-And.members c.deref-in-And.result.now c.deref-in-And.ensures.value c.in-And.is))), within)
+misplaced-misplaced_members-requires g t c κs within = (lighter (all_weight (exprs c.deref-in-And.result.now)) _ t c.decreases (ap weight (and_is c.args.expression.now c.in-And.offset c.in-And.members c.deref-in-And.result.now c.deref-in-And.ensures.value c.in-And.is)), within)
 
 pub misplaced-misplaced_members-requires-in-Or : goal.misplaced-misplaced_members-requires-in-Or
-misplaced-misplaced_members-requires-in-Or g t c κs within = (subst (λ n. all_weight (exprs c.deref-in-Or.result.now) < n) c.decreases (lighter (expr_of c.args.expression.now) _ (ap weight (or_is c.args.expression.now c.in-Or.offset c.in-Or.members c.deref-in-Or.result.now c.deref-in-Or.ensures.value c.in-Or.is))), within)
+misplaced-misplaced_members-requires-in-Or g t c κs within = (lighter (all_weight (exprs c.deref-in-Or.result.now)) _ t c.decreases (ap weight (or_is c.args.expression.now c.in-Or.offset c.in-Or.members c.deref-in-Or.result.now c.deref-in-Or.ensures.value c.in-Or.is)), within)
 
 pub misplaced-misplaced_arms-arms-requires : goal.misplaced-misplaced_arms-arms-requires
 misplaced-misplaced_arms-arms-requires g t c κs within = (subst (λ n. arms_weight (arms_of c.deref-in-Case.result.now) < n) c.decreases (case_lighter c.args.expression.now c.in-Case.offset c.in-Case.arms c.deref-in-Case.result.now c.deref-in-Case.ensures.value c.in-Case.otherwise c.in-Case.is), within)

@@ -1,12 +1,13 @@
 use borrow.Author.Count.{falls}
-use Rattle.std.proofs.Common.{◌∙◌, ◌<◌, ◌+◌, length, refl, sym, ap, subst, Ok, None, Some, true, arith, map}
+use Rattle.std.proofs.Common.{◌∙◌, ◌<◌, length, refl, sym, ap, subst, Ok, None, Some, true, arith, map}
 use Rattle.value.specs.Datum.{datum}
 use Rattle.row_ast.specs.View.{expr_of, exprs, arms as arms_of}
 use Rattle.scope.specs.View.{entry_of}
 use Rattle.typing.specs.Typing.{negation_type, arithmetic_type, comparison_type, between_type, membership_type, null_check_type, not_type, cast_type, call_type, conditions_type, case_type, found_type, typed, typed_arms}
-use Rattle.scope.specs.Weights.{weight, all_weight, arms_weight}
+use Rattle.row_ast.specs.Weights.{weight, all_weight, arms_weight}
 use Rattle.scope.proofs.Walks.{and_is, or_is, case_none, case_some, case_lighter, exprs_lighter, exprs_still, when_lighter, result_lighter, arms_still}
-use Rattle.scope.proofs.Operands.{negate_is, in_is, is_null_is, not_is, cast_is, call_is, arithmetic_is, comparison_is, between_is, lighter, first_lighter, second_lighter, third_lighter, last_lighter}
+use Rattle.row_ast.proofs.Operands.{negate_is, in_is, is_null_is, not_is, cast_is, call_is, arithmetic_is, comparison_is, between_is}
+use Rattle.memory.proofs.Lighter.{lighter, left_lighter, right_lighter, middle_lighter, last_lighter}
 use Rattle.typing.proofs.Walks.{member_step, member_over, arm_step, arm_over}
 use Rattle.typing.proofs.types.+typed.Goals as goal
 
@@ -29,10 +30,10 @@ pub typed_arms-returns : goal.typed_arms-returns
 typed_arms-returns g t c = arm_over (map (λ e. entry_of e) c.args.entries.now) c.args.scope c.args.arms.now c.loop-arm.arm-index c.loop-arm.known _ c.loop-arm.invariant.rest (omega (arith, c.loop-arm-test.false))
 
 pub typed-typed_members-requires : goal.typed-typed_members-requires
-typed-typed_members-requires g t c κs within = (subst (λ n. all_weight (exprs c.deref-in-And.result.now) < n) c.decreases (lighter (expr_of c.args.expression.now) (all_weight (exprs c.deref-in-And.result.now)) (ap weight (and_is c.args.expression.now c.in-And.offset c.in-And.members c.deref-in-And.result.now c.deref-in-And.ensures.value c.in-And.is))), within)
+typed-typed_members-requires g t c κs within = (lighter (all_weight (exprs c.deref-in-And.result.now)) _ t c.decreases (ap weight (and_is c.args.expression.now c.in-And.offset c.in-And.members c.deref-in-And.result.now c.deref-in-And.ensures.value c.in-And.is)), within)
 
 pub typed-typed_members-requires-in-Or : goal.typed-typed_members-requires-in-Or
-typed-typed_members-requires-in-Or g t c κs within = (subst (λ n. all_weight (exprs c.deref-in-Or.result.now) < n) c.decreases (lighter (expr_of c.args.expression.now) (all_weight (exprs c.deref-in-Or.result.now)) (ap weight (or_is c.args.expression.now c.in-Or.offset c.in-Or.members c.deref-in-Or.result.now c.deref-in-Or.ensures.value c.in-Or.is))), within)
+typed-typed_members-requires-in-Or g t c κs within = (lighter (all_weight (exprs c.deref-in-Or.result.now)) _ t c.decreases (ap weight (or_is c.args.expression.now c.in-Or.offset c.in-Or.members c.deref-in-Or.result.now c.deref-in-Or.ensures.value c.in-Or.is)), within)
 
 pub typed-typed_arms-known-requires : goal.typed-typed_arms-known-requires
 typed-typed_arms-known-requires g t c κs within = (subst (λ n. arms_weight (arms_of c.deref-in-Case.result.now) < n) c.decreases (case_lighter c.args.expression.now c.in-Case.offset c.in-Case.arms c.deref-in-Case.result.now c.deref-in-Case.ensures.value c.in-Case.otherwise c.in-Case.is), within)
@@ -59,43 +60,43 @@ typed-returns-in-None g t c =
 -- ---- operands are lighter
 
 pub typed-typed-requires : goal.typed-typed-requires
-typed-typed-requires g t c κs within = (subst (λ n. weight (expr_of c.deref.result.now) < n) c.decreases (lighter (expr_of c.args.expression.now) (weight (expr_of c.deref.result.now)) (ap weight (negate_is c.args.expression.now c.in-Negate.offset c.in-Negate.operand c.deref.result.now c.deref.ensures c.in-Negate.is))), within)
+typed-typed-requires g t c κs within = (lighter (weight (expr_of c.deref.result.now)) _ t c.decreases (ap weight (negate_is c.args.expression.now c.in-Negate.offset c.in-Negate.operand c.deref.result.now c.deref.ensures c.in-Negate.is)), within)
 
 pub typed-typed-of-requires : goal.typed-typed-of-requires
-typed-typed-of-requires g t c κs within = (subst (λ n. weight (expr_of c.deref-in-In.result.now) < n) c.decreases (lighter (expr_of c.args.expression.now) (weight (expr_of c.deref-in-In.result.now)) (ap weight (in_is c.args.expression.now c.in-In.offset c.in-In.operand c.deref-in-In.result.now c.deref-in-In.ensures c.in-In.negated c.in-In.values c.in-In.is))), within)
+typed-typed-of-requires g t c κs within = (lighter (weight (expr_of c.deref-in-In.result.now)) _ t c.decreases (ap weight (in_is c.args.expression.now c.in-In.offset c.in-In.operand c.deref-in-In.result.now c.deref-in-In.ensures c.in-In.negated c.in-In.values c.in-In.is)), within)
 
 pub typed-typed-requires-in-IsNull : goal.typed-typed-requires-in-IsNull
-typed-typed-requires-in-IsNull g t c κs within = (subst (λ n. weight (expr_of c.deref-in-IsNull.result.now) < n) c.decreases (lighter (expr_of c.args.expression.now) (weight (expr_of c.deref-in-IsNull.result.now)) (ap weight (is_null_is c.args.expression.now c.in-IsNull.offset c.in-IsNull.operand c.deref-in-IsNull.result.now c.deref-in-IsNull.ensures c.in-IsNull.negated c.in-IsNull.is))), within)
+typed-typed-requires-in-IsNull g t c κs within = (lighter (weight (expr_of c.deref-in-IsNull.result.now)) _ t c.decreases (ap weight (is_null_is c.args.expression.now c.in-IsNull.offset c.in-IsNull.operand c.deref-in-IsNull.result.now c.deref-in-IsNull.ensures c.in-IsNull.negated c.in-IsNull.is)), within)
 
 pub typed-typed-requires-in-Not : goal.typed-typed-requires-in-Not
-typed-typed-requires-in-Not g t c κs within = (subst (λ n. weight (expr_of c.deref-in-Not.result.now) < n) c.decreases (lighter (expr_of c.args.expression.now) (weight (expr_of c.deref-in-Not.result.now)) (ap weight (not_is c.args.expression.now c.in-Not.offset c.in-Not.operand c.deref-in-Not.result.now c.deref-in-Not.ensures c.in-Not.is))), within)
+typed-typed-requires-in-Not g t c κs within = (lighter (weight (expr_of c.deref-in-Not.result.now)) _ t c.decreases (ap weight (not_is c.args.expression.now c.in-Not.offset c.in-Not.operand c.deref-in-Not.result.now c.deref-in-Not.ensures c.in-Not.is)), within)
 
 pub typed-typed-requires-in-Cast : goal.typed-typed-requires-in-Cast
-typed-typed-requires-in-Cast g t c κs within = (subst (λ n. weight (expr_of c.deref-in-Cast.result.now) < n) c.decreases (lighter (expr_of c.args.expression.now) (weight (expr_of c.deref-in-Cast.result.now)) (ap weight (cast_is c.args.expression.now c.in-Cast.offset c.in-Cast.operand c.deref-in-Cast.result.now c.deref-in-Cast.ensures c.in-Cast.to c.in-Cast.is))), within)
+typed-typed-requires-in-Cast g t c κs within = (lighter (weight (expr_of c.deref-in-Cast.result.now)) _ t c.decreases (ap weight (cast_is c.args.expression.now c.in-Cast.offset c.in-Cast.operand c.deref-in-Cast.result.now c.deref-in-Cast.ensures c.in-Cast.to c.in-Cast.is)), within)
 
 pub typed-typed-requires-in-Call : goal.typed-typed-requires-in-Call
-typed-typed-requires-in-Call g t c κs within = (subst (λ n. weight (expr_of c.deref-in-Call.result.now) < n) c.decreases (lighter (expr_of c.args.expression.now) (weight (expr_of c.deref-in-Call.result.now)) (ap weight (call_is c.args.expression.now c.in-Call.offset c.in-Call.argument c.deref-in-Call.result.now c.deref-in-Call.ensures c.in-Call.aggregate c.in-Call.is))), within)
+typed-typed-requires-in-Call g t c κs within = (lighter (weight (expr_of c.deref-in-Call.result.now)) _ t c.decreases (ap weight (call_is c.args.expression.now c.in-Call.offset c.in-Call.argument c.deref-in-Call.result.now c.deref-in-Call.ensures c.in-Call.aggregate c.in-Call.is)), within)
 
 pub typed-typed-a-requires : goal.typed-typed-a-requires
-typed-typed-a-requires g t c κs within = (subst (λ n. weight (expr_of c.deref-in-Arithmetic.result.now) < n) c.decreases (first_lighter (expr_of c.args.expression.now) (weight (expr_of c.deref-in-Arithmetic.result.now)) (weight (expr_of c.in-Arithmetic.right.value)) (ap weight (arithmetic_is c.args.expression.now c.in-Arithmetic.offset c.in-Arithmetic.left c.in-Arithmetic.right c.deref-in-Arithmetic.result.now c.deref-in-Arithmetic.ensures c.in-Arithmetic.right.value refl c.in-Arithmetic.operator c.in-Arithmetic.is))), within)
+typed-typed-a-requires g t c κs within = (left_lighter (weight (expr_of c.deref-in-Arithmetic.result.now)) _ t c.decreases _ (ap weight (arithmetic_is c.args.expression.now c.in-Arithmetic.offset c.in-Arithmetic.left c.in-Arithmetic.right c.deref-in-Arithmetic.result.now c.deref-in-Arithmetic.ensures c.in-Arithmetic.right.value refl c.in-Arithmetic.operator c.in-Arithmetic.is)), within)
 
 pub typed-typed-requires-in-Arithmetic : goal.typed-typed-requires-in-Arithmetic
-typed-typed-requires-in-Arithmetic g t c κs within = (subst (λ n. weight (expr_of c.deref-in-Arithmetic-2.result.now) < n) c.decreases (second_lighter (expr_of c.args.expression.now) (weight (expr_of c.deref-in-Arithmetic.result.now)) (weight (expr_of c.deref-in-Arithmetic-2.result.now)) (ap weight (arithmetic_is c.args.expression.now c.in-Arithmetic.offset c.in-Arithmetic.left c.in-Arithmetic.right c.deref-in-Arithmetic.result.now c.deref-in-Arithmetic.ensures c.deref-in-Arithmetic-2.result.now c.deref-in-Arithmetic-2.ensures c.in-Arithmetic.operator c.in-Arithmetic.is))), within)
+typed-typed-requires-in-Arithmetic g t c κs within = (right_lighter (weight (expr_of c.deref-in-Arithmetic-2.result.now)) _ t c.decreases _ (ap weight (arithmetic_is c.args.expression.now c.in-Arithmetic.offset c.in-Arithmetic.left c.in-Arithmetic.right c.deref-in-Arithmetic.result.now c.deref-in-Arithmetic.ensures c.deref-in-Arithmetic-2.result.now c.deref-in-Arithmetic-2.ensures c.in-Arithmetic.operator c.in-Arithmetic.is)), within)
 
 pub typed-typed-a-requires-in-Comparison : goal.typed-typed-a-requires-in-Comparison
-typed-typed-a-requires-in-Comparison g t c κs within = (subst (λ n. weight (expr_of c.deref-in-Comparison.result.now) < n) c.decreases (first_lighter (expr_of c.args.expression.now) (weight (expr_of c.deref-in-Comparison.result.now)) (weight (expr_of c.in-Comparison.right.value)) (ap weight (comparison_is c.args.expression.now c.in-Comparison.offset c.in-Comparison.left c.in-Comparison.right c.deref-in-Comparison.result.now c.deref-in-Comparison.ensures c.in-Comparison.right.value refl c.in-Comparison.operator c.in-Comparison.is))), within)
+typed-typed-a-requires-in-Comparison g t c κs within = (left_lighter (weight (expr_of c.deref-in-Comparison.result.now)) _ t c.decreases _ (ap weight (comparison_is c.args.expression.now c.in-Comparison.offset c.in-Comparison.left c.in-Comparison.right c.deref-in-Comparison.result.now c.deref-in-Comparison.ensures c.in-Comparison.right.value refl c.in-Comparison.operator c.in-Comparison.is)), within)
 
 pub typed-typed-requires-in-Comparison : goal.typed-typed-requires-in-Comparison
-typed-typed-requires-in-Comparison g t c κs within = (subst (λ n. weight (expr_of c.deref-in-Comparison-2.result.now) < n) c.decreases (second_lighter (expr_of c.args.expression.now) (weight (expr_of c.deref-in-Comparison.result.now)) (weight (expr_of c.deref-in-Comparison-2.result.now)) (ap weight (comparison_is c.args.expression.now c.in-Comparison.offset c.in-Comparison.left c.in-Comparison.right c.deref-in-Comparison.result.now c.deref-in-Comparison.ensures c.deref-in-Comparison-2.result.now c.deref-in-Comparison-2.ensures c.in-Comparison.operator c.in-Comparison.is))), within)
+typed-typed-requires-in-Comparison g t c κs within = (right_lighter (weight (expr_of c.deref-in-Comparison-2.result.now)) _ t c.decreases _ (ap weight (comparison_is c.args.expression.now c.in-Comparison.offset c.in-Comparison.left c.in-Comparison.right c.deref-in-Comparison.result.now c.deref-in-Comparison.ensures c.deref-in-Comparison-2.result.now c.deref-in-Comparison-2.ensures c.in-Comparison.operator c.in-Comparison.is)), within)
 
 pub typed-typed-operand-requires : goal.typed-typed-operand-requires
-typed-typed-operand-requires g t c κs within = (subst (λ n. weight (expr_of c.deref-in-Between.result.now) < n) c.decreases (first_lighter (expr_of c.args.expression.now) (weight (expr_of c.deref-in-Between.result.now)) (weight (expr_of c.in-Between.low.value) + weight (expr_of c.in-Between.high.value)) (ap weight (between_is c.args.expression.now c.in-Between.offset c.in-Between.operand c.in-Between.low c.deref-in-Between.result.now c.deref-in-Between.ensures c.in-Between.low.value refl c.in-Between.high c.in-Between.high.value refl c.in-Between.negated c.in-Between.is))), within)
+typed-typed-operand-requires g t c κs within = (left_lighter (weight (expr_of c.deref-in-Between.result.now)) _ t c.decreases _ (ap weight (between_is c.args.expression.now c.in-Between.offset c.in-Between.operand c.in-Between.low c.deref-in-Between.result.now c.deref-in-Between.ensures c.in-Between.low.value refl c.in-Between.high c.in-Between.high.value refl c.in-Between.negated c.in-Between.is)), within)
 
 pub typed-typed-low-requires : goal.typed-typed-low-requires
-typed-typed-low-requires g t c κs within = (subst (λ n. weight (expr_of c.deref-in-Between-2.result.now) < n) c.decreases (third_lighter (expr_of c.args.expression.now) (weight (expr_of c.deref-in-Between.result.now)) (weight (expr_of c.deref-in-Between-2.result.now)) (weight (expr_of c.in-Between.high.value)) (ap weight (between_is c.args.expression.now c.in-Between.offset c.in-Between.operand c.in-Between.low c.deref-in-Between.result.now c.deref-in-Between.ensures c.deref-in-Between-2.result.now c.deref-in-Between-2.ensures c.in-Between.high c.in-Between.high.value refl c.in-Between.negated c.in-Between.is))), within)
+typed-typed-low-requires g t c κs within = (middle_lighter (weight (expr_of c.deref-in-Between-2.result.now)) _ t c.decreases _ _ (ap weight (between_is c.args.expression.now c.in-Between.offset c.in-Between.operand c.in-Between.low c.deref-in-Between.result.now c.deref-in-Between.ensures c.deref-in-Between-2.result.now c.deref-in-Between-2.ensures c.in-Between.high c.in-Between.high.value refl c.in-Between.negated c.in-Between.is)), within)
 
 pub typed-typed-high-requires : goal.typed-typed-high-requires
-typed-typed-high-requires g t c κs within = (subst (λ n. weight (expr_of c.deref-in-Between-3.result.now) < n) c.decreases (last_lighter (expr_of c.args.expression.now) (weight (expr_of c.deref-in-Between.result.now)) (weight (expr_of c.deref-in-Between-2.result.now)) (weight (expr_of c.deref-in-Between-3.result.now)) (ap weight (between_is c.args.expression.now c.in-Between.offset c.in-Between.operand c.in-Between.low c.deref-in-Between.result.now c.deref-in-Between.ensures c.deref-in-Between-2.result.now c.deref-in-Between-2.ensures c.in-Between.high c.deref-in-Between-3.result.now c.deref-in-Between-3.ensures c.in-Between.negated c.in-Between.is))), within)
+typed-typed-high-requires g t c κs within = (last_lighter (weight (expr_of c.deref-in-Between-3.result.now)) _ t c.decreases _ _ (ap weight (between_is c.args.expression.now c.in-Between.offset c.in-Between.operand c.in-Between.low c.deref-in-Between.result.now c.deref-in-Between.ensures c.deref-in-Between-2.result.now c.deref-in-Between-2.ensures c.in-Between.high c.deref-in-Between-3.result.now c.deref-in-Between-3.ensures c.in-Between.negated c.in-Between.is)), within)
 
 -- ---- operations
 

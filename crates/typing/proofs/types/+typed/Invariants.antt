@@ -2,7 +2,7 @@ use Rattle.std.proofs.Common.{◌≡◌, ◌≤◌, true, Some, None, Ok, drop, 
 use Rattle.row_ast.specs.View.{expr_of, exprs, arms as arms_of}
 use Rattle.scope.specs.View.{entry_of}
 use Rattle.typing.specs.Typing.{typed_members, typed_arms}
-use Rattle.scope.specs.Weights.{weight, all_weight, arms_weight}
+use Rattle.row_ast.specs.Weights.{weight, all_weight, arms_weight}
 use Rattle.typing.proofs.types.+typed.Given as goal
 
 abbrev pub decreases-typed : goal.decreases-typed

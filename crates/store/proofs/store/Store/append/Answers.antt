@@ -1,26 +1,5 @@
-use Rattle.std.proofs.Common.{Result, Ok, Err, OnErr, ap, sym, refl, ◌∙◌}
-use Rattle.std.proofs.Math.Seq.{map-set_same}
-use Rattle.store.specs.View.{stored_of}
-use Rattle.store.proofs.Agreement.{columns_kept}
-use Rattle.store.proofs.Loads.{loaded_from, same_database}
+use Rattle.std.proofs.Common.{sym, ◌∙◌}
 use Rattle.store.proofs.store.Store.append.Goals as goal
 
-on_err : {T E : Type 0} (r : Result T E) (P Q : Type 0) → (P → Q) → OnErr r P → OnErr r Q
-on_err (Ok x) P Q f h = tt
-on_err (Err e) P Q f h = f h
-
-pub invariant_of-self : goal.invariant_of-self
-invariant_of-self g c = columns_kept (λ e. stored_of e) c.self.inside.tables.items c.unwrap-index.result c.index_mut.result.now _ c.index_mut.ensures.value refl c.append.ensures.columns ∙ c.self.invariant
-
-pub returns-clause-unchanged : goal.returns-clause-unchanged
-returns-clause-unchanged g c =
-    on_err c.append.result _ _ (λ kept.
-    let entry = ap (λ t. (c.index_mut.result.now.name, t)) kept ∙ ap (λ e. stored_of e) c.index_mut.ensures.value in
-    same_database _ _ _ _ refl (map-set_same (λ e. stored_of e) c.self.inside.tables.items c.unwrap-index.result _ c.index_mut.result.now entry) ∙ c.self.view_is)
-    c.append.ensures.unchanged
-
 pub returns-clause-loaded : goal.returns-clause-loaded
-returns-clause-loaded g c =
-    let at = rw (← c.self.view_is) at (sym c.table_index.ensures.index ∙ c.unwrap-index.ensures) in
-    rw (← c.self.view_is) (loaded_from (λ e. stored_of e) c.args.table.now c.index_mut.result.now c.self.inside.tables.items c.unwrap-index.result at c.index_mut.ensures.value _ refl c.append.ensures.columns
-    (g.R.Read.remaining c.args.reader) c.append.result c.append.ensures.exact c.append.ensures.some_records c.append.ensures.stops)
+returns-clause-loaded g c = c.append_at.ensures.loaded c.args.table.now (sym c.table_index.ensures.index ∙ c.unwrap-index.ensures)

@@ -1,11 +1,14 @@
 //! Expressions that never fault, with that fact.
 
-ghost use Rattle.std.specs.Prelude.{◌≡◌, true};
+ghost use Rattle.std.specs.Prelude.{◌≡◌, IfOk, true};
 ghost use Rattle.expr.specs.Movable.{if_movable, movable};
 ghost use Rattle.expr.specs.View.{bound_expr_of};
 
-use expr::{BoundExpr, is_movable};
+use crate::bound::BoundExpr;
+use crate::copies::copy_expr;
+use crate::movable::is_movable;
 use memory::Heap;
+use std::alloc::AllocError;
 use std::marker::Model;
 
 /// An expression that never faults. A contract sees the expression.
@@ -41,6 +44,30 @@ impl<A: Heap> MovableExpr<A> {
         } else {
             None
         }
+    }
+
+    /// The expression, which never faults.
+    pub fn of_movable(expression: Box<BoundExpr<A>, A>) -> MovableExpr<A>
+        requires { movable (bound_expr_of expression.value) ≡ true }
+        ensures { result ≡ bound_expr_of expression.value }
+    {
+        MovableExpr { expression }
+    }
+
+    /// A copy; it fails where memory runs out.
+    pub fn copy(&self, alloc: A) -> Result<MovableExpr<A>, AllocError>
+        ensures { IfOk result (λ copy. copy ≡ self.now) }
+    {
+        let expression = copy_expr(alloc, &self.expression)?;
+        Ok(MovableExpr { expression })
+    }
+
+    /// The expression, by value.
+    pub fn into_expression(self) -> Box<BoundExpr<A>, A>
+        ensures value { bound_expr_of result.value ≡ self }
+        ensures movable { movable (bound_expr_of result.value) ≡ true }
+    {
+        self.expression
     }
 
     /// The expression.

@@ -1,5 +1,5 @@
--- The views of nodes with operands, and that each operand is lighter.
-use Rattle.std.proofs.Common.{◌≡◌, ◌∙◌, ℕ, suc, ◌+◌, ◌<◌, Bool, Box, map, ap, sym, arith}
+-- The views of nodes with operands.
+use Rattle.std.proofs.Common.{◌≡◌, ◌∙◌, ℕ, Bool, Box, map, ap, sym}
 use Rattle.memory.specs.declared.text.Items.{Items}
 use Rattle.value.specs.Datum.{datum}
 use Rattle.value.specs.declared.types.ColType.{ColType}
@@ -10,7 +10,6 @@ use Rattle.value.specs.declared.operators.Comparison as operators'
 use Rattle.row_ast.specs.Ast as ast
 use Rattle.row_ast.specs.View.{expr_of}
 use Rattle.row_ast.specs.declared.expr.Expr.{Expr, Negate, Arithmetic, Comparison, Between, In, IsNull, Not, Cast, Call}
-use Rattle.scope.specs.Weights.{weight}
 
 -- ---- one operand
 
@@ -47,22 +46,3 @@ module _ {A : Type 0} (e : Expr A) (offset : ℕ) (a b : Box (Expr A) A) (x : Ex
     between_is negated is =
         ap expr_of is ∙ ap (λ w. ast.Between negated offset (expr_of w) (expr_of b.value) (expr_of c.value)) (sym q) ∙ ap (λ w. ast.Between negated offset (expr_of x) (expr_of w) (expr_of c.value)) (sym r)
         ∙ ap (λ w. ast.Between negated offset (expr_of x) (expr_of y) (expr_of w)) (sym s)
-
--- ---- an operand is lighter than the whole
-
-module _ (e : ast.Expr) where
-  pub lighter : (n : ℕ) → weight e ≡ suc n → n < weight e
-  lighter n w = omega arith
-
-  pub first_lighter : (m n : ℕ) → weight e ≡ suc (m + n) → m < weight e
-  first_lighter m n w = omega arith
-
-  pub second_lighter : (m n : ℕ) → weight e ≡ suc (m + n) → n < weight e
-  second_lighter m n w = omega arith
-
-  -- of three operands, the second and the third
-  pub third_lighter : (m n o : ℕ) → weight e ≡ suc (m + (n + o)) → n < weight e
-  third_lighter m n o w = omega arith
-
-  pub last_lighter : (m n o : ℕ) → weight e ≡ suc (m + (n + o)) → o < weight e
-  last_lighter m n o w = omega arith

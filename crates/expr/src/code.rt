@@ -1,0 +1,67 @@
+//! Codes of plans: the order of the entries, how the rows of each are read, and how they are joined.
+
+ghost use Rattle.std.specs.Prelude.{◌≡◌};
+ghost use Rattle.expr.specs.Codes as spec;
+
+use memory::{Heap, Items};
+
+/// How the rows of an entry are read (Selinger et al. 1979, section 4: access paths). Columns and conjuncts count from 1.
+#[derive(Clone, Copy, Debug, PartialEq, Eq)]
+pub enum Access {
+    /// All rows, one after another.
+    Full,
+    /// All rows, in the order of the index on a column.
+    Index { column: u64 },
+    /// By the index on a column, the rows that a conjunct of the planning list allows.
+    Range { column: u64, bound: u64 },
+}
+
+/// How the rows of an entry are joined to the combinations of those before. Conjuncts count from 1.
+#[derive(Clone, Copy, Debug, PartialEq, Eq)]
+pub enum Method {
+    /// Each row to each combination; the method of the first entry too.
+    Nested,
+    /// By a hash table, on the equality that a conjunct of the planning list is.
+    Hash { conjunct: u64 },
+    /// By merging what both sides have in order, on the equality that a conjunct of the planning list is.
+    Merge { conjunct: u64 },
+}
+
+/// One step of a code: an entry, counted from 1 as it stands in FROM.
+#[derive(Clone, Copy, Debug, PartialEq, Eq)]
+pub struct CodeStep {
+    /// The entry.
+    pub entry: u64,
+    /// How its rows are read.
+    pub access: Access,
+    /// How they are joined.
+    pub method: Method,
+}
+
+/// The code of a plan.
+#[derive(Drop)]
+pub enum Code<A: Heap> {
+    /// No row is read, since a conjunct is never true.
+    Empty,
+    /// A step for each entry, in the order in which they are joined.
+    Steps(Items<CodeStep, A>),
+}
+
+impl CodeStep {
+    /// The step as numbers: entry, kind of access, column, bound, method and conjunct, 0 where there is none.
+    pub fn numbers(self) -> [u64; 6]
+        ensures { result ≡ spec.step_numbers self }
+    {
+        let (access, column, bound) = match self.access {
+            Access::Full => (0, 0, 0),
+            Access::Index { column } => (1, column, 0),
+            Access::Range { column, bound } => (2, column, bound),
+        };
+        let (method, conjunct) = match self.method {
+            Method::Nested => (0, 0),
+            Method::Hash { conjunct } => (1, conjunct),
+            Method::Merge { conjunct } => (2, conjunct),
+        };
+        [self.entry, access, column, bound, method, conjunct]
+    }
+}
