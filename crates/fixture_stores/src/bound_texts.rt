@@ -9,8 +9,9 @@ fn show_id(id: &ColumnId, out: &mut Printer) -> Result<(), AllocError> {
     write!(out.text, "{}.{}", id.entry, id.column)
 }
 
+/// Writes an expression.
 #[cycle(show_bound)]
-fn show_bound(e: &BoundExpr<Global>, out: &mut Printer) -> Result<(), AllocError> {
+pub fn show_bound(e: &BoundExpr<Global>, out: &mut Printer) -> Result<(), AllocError> {
     match e {
         BoundExpr::Column(id) => show_id(id, out),
         BoundExpr::Literal(value) => show_value(value, out),

@@ -9,7 +9,7 @@ mod sales_store;
 mod scripts;
 mod stores;
 
-pub use bound_texts::show_bound_query;
+pub use bound_texts::{show_bound, show_bound_query};
 pub use queries::{QueryError, catalog, error_text, query};
 pub use rows::{Asked, Mismatch, answered};
 pub use sales_store::{SALES, SALES_DEALS, SALES_REGIONS, sales};

@@ -1,0 +1,81 @@
+-- The conditions that a query is planned with.
+use Rattle.std.specs.Prelude.{Bool, false, not, ◌==◌, nat_le, List, [], ◌∷◌, ◌++◌, length, map, Option, Some, None, if◌then◌else◌}
+use Rattle.std.specs.List.{flat_map}
+use Rattle.expr.specs.declared.bound.ColumnId.{ColumnId}
+use Rattle.expr.specs.Bound.{BoundExpr}
+use Rattle.expr.specs.BoundQuery.{BoundQuery}
+use Rattle.expr.specs.Conjuncts.{conjuncts_of, movable_conjuncts}
+use Rattle.predicates.specs.Equalities.{column_sides}
+use Rattle.predicates.specs.Folded.{folded}
+use Rattle.predicates.specs.Inward.{inward}
+use Rattle.predicates.specs.Offsets.{without_offsets}
+use Rattle.algebra.specs.Rules.{constant_of, most_members}
+use Rattle.algebra.specs.Runs.{stands_in}
+
+-- the movable conjuncts as they are written
+abbrev pub written_conditions : BoundQuery → List BoundExpr
+written_conditions q = map without_offsets (movable_conjuncts q)
+
+-- NOT carried inward, then the literals folded
+abbrev pub simplified : BoundExpr → BoundExpr
+simplified e = folded (inward e)
+
+-- the conjuncts of each condition in its simplified form
+abbrev pub simplified_conjuncts : List BoundExpr → List BoundExpr
+simplified_conjuncts es = flat_map conjuncts_of (map simplified es)
+
+abbrev pub of_two_entries : Option (ColumnId × ColumnId) → Bool
+of_two_entries (Some (a, b)) = not (a.entry == b.entry)
+of_two_entries None = false
+
+-- it equates columns of two different entries
+abbrev pub is_across : BoundExpr → Bool
+is_across e = of_two_entries (column_sides e)
+
+-- b = v, of a = b and a = v, where a and b are of two entries
+abbrev pub consequence : (p q : BoundExpr) → Option BoundExpr
+consequence p q = if is_across p then constant_of p q else None
+
+-- the condition is at the end, unless it stands in the list
+abbrev pub with_condition : List BoundExpr → BoundExpr → List BoundExpr
+with_condition known e = if stands_in e known then known else known ++ e ∷ []
+
+abbrev pub with_any : List BoundExpr → Option BoundExpr → List BoundExpr
+with_any known None = known
+with_any known (Some e) = with_condition known e
+
+-- the list, and the consequences of p and each q
+abbrev pub with_each : List BoundExpr → (p : BoundExpr) → (qs : List BoundExpr) → List BoundExpr
+with_each known p [] = known
+with_each known p (q ∷ qs) = with_each (with_any known (consequence p q)) p qs
+
+-- the list, and the consequences of each p and each q
+abbrev pub with_all : List BoundExpr → (ps qs : List BoundExpr) → List BoundExpr
+with_all known [] qs = known
+with_all known (p ∷ ps) qs = with_all (with_each known p qs) ps qs
+
+-- the conditions, and the consequences of each two of them
+abbrev pub with_consequences : List BoundExpr → List BoundExpr
+with_consequences es = with_all es es es
+
+-- the known conditions, and each other that is not equal to an earlier one
+abbrev pub with_others : List BoundExpr → List BoundExpr → List BoundExpr
+with_others known [] = known
+with_others known (e ∷ es) = with_others (with_condition known e) es
+
+abbrev pub without_repeats : List BoundExpr → List BoundExpr
+without_repeats es = with_others [] es
+
+abbrev pub is_too_long : List BoundExpr → Bool
+is_too_long es = not (nat_le (length es) most_members)
+
+-- the simplified conjuncts with their consequences, none twice; the written conditions where those are too many
+abbrev pub planned : (written simple : List BoundExpr) → List BoundExpr
+planned written simple =
+    if is_too_long simple then written
+    else if is_too_long (with_consequences simple) then written
+    else without_repeats (with_consequences simple)
+
+-- the conditions that a query is planned with
+abbrev pub planning_list : BoundQuery → List BoundExpr
+planning_list q = planned (written_conditions q) (simplified_conjuncts (written_conditions q))

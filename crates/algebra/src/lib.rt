@@ -1,0 +1,20 @@
+//! Rewrite rules of terms: steps that keep the bag of combinations which a term means. The conditions that a query is planned
+//! with.
+#![tactic(auto)]
+
+mod applying;
+mod empty_terms;
+mod equalities;
+mod guards;
+mod joins;
+mod laws;
+mod one_filter;
+mod planning;
+mod runs;
+mod step;
+mod two_filters;
+
+pub use applying::apply;
+pub use laws::law_steps_keep;
+pub use planning::planning_list;
+pub use step::{Reason, Rewrite, Step, rewrite_of};

@@ -1,0 +1,11 @@
+pub mod Keeping
+pub mod Truth
+pub mod NodeForms
+pub mod Made
+pub mod Joining
+pub mod Sames
+pub mod Equal
+pub mod Folds
+pub mod Connected
+pub mod Sides
+pub mod Parts

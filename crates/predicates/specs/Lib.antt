@@ -1,0 +1,11 @@
+pub mod Rebuilt
+pub mod Offsets
+pub mod Inward
+pub mod Folded
+pub mod Laws
+pub mod Operands
+pub mod OperandsView
+pub mod Same
+pub mod Closed
+pub mod Connectives
+pub mod Equalities

@@ -1,0 +1,6 @@
+pub mod Covered
+pub mod Descent
+pub mod NextEntry
+pub mod SlotLists
+pub mod Unions
+pub mod WrittenRows

@@ -1,0 +1,6 @@
+pub mod Laws
+pub mod Means
+pub mod Paths
+pub mod Terms
+pub mod View
+pub mod Written

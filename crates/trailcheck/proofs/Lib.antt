@@ -1,0 +1,4 @@
+pub mod Accepted
+pub mod Numbers
+pub mod Same
+pub mod Trail

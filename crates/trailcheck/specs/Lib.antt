@@ -1,0 +1,9 @@
+pub mod Admissible
+pub mod Entries
+pub mod Limits
+pub mod Replays
+pub mod SameTerm
+pub mod Settings
+pub mod Shapes
+pub mod Verdicts
+pub mod View

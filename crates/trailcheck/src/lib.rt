@@ -1,0 +1,23 @@
+//! The checker of trails: says if the steps of a trail lead from the written term of a query to the shape of a plan's code.
+#![tactic(auto)]
+
+mod access;
+mod admissible;
+mod entries;
+mod judging;
+mod laws;
+mod limits;
+mod methods;
+mod replaying;
+mod same_term;
+mod setting;
+mod shapes;
+mod verdict;
+
+pub use admissible::is_admissible;
+pub use judging::judge;
+pub use laws::{law_accepted_means_same, law_same_term_is_equal};
+pub use same_term::is_same_term;
+pub use setting::Setting;
+pub use shapes::shape;
+pub use verdict::{Reason, Refusal, Verdict};

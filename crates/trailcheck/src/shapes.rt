@@ -1,0 +1,192 @@
+//! The shape of a code: the term that its plan computes, under the conditions of the planning list.
+
+ghost use Rattle.std.specs.Prelude.{◌≡◌, IfOk, filter, if◌then◌else◌};
+ghost use Rattle.expr.specs.View.{code_of};
+ghost use Rattle.row_terms.specs.Terms as terms;
+ghost use Rattle.row_terms.specs.Written.{filters};
+ghost use Rattle.row_terms.specs.View.{term_of};
+ghost use Rattle.trailcheck.specs.Shapes as spec;
+ghost use Rattle.trailcheck.specs.View.{setting_of, wanted_by};
+
+use crate::entries::{joins, names_none, only_of};
+use crate::setting::Setting;
+use expr::{Code, CodeStep, MovableExpr};
+use memory::{Heap, Items, boxed};
+use row_terms::Term;
+use std::alloc::AllocError;
+use tuples::Guard;
+
+/// A test of conditions by the entries that they name.
+#[derive(Clone, Copy)]
+pub(crate) enum Wanted<'p> {
+    /// The entry, and no other.
+    Alone { entry: usize },
+    /// The entry and some of the placed ones, and no other.
+    Joining { placed: &'p [usize], entry: usize },
+    /// No entry.
+    NoEntry,
+}
+
+// True where the condition passes the test.
+fn is_wanted<A: Heap>(
+    alloc: A,
+    wanted: Wanted<'_>,
+    condition: &MovableExpr<A>,
+) -> Result<bool, AllocError>
+    ensures { IfOk result (λ b. b ≡ wanted_by wanted.entry condition.now) }
+{
+    match wanted {
+        Wanted::Alone { entry } => only_of(alloc, condition, entry),
+        Wanted::Joining { placed, entry } => joins(alloc, condition, placed, entry),
+        Wanted::NoEntry => names_none(alloc, condition),
+    }
+}
+
+// The term under the condition, where it is a wanted one.
+fn filtered_if<A: Heap>(
+    alloc: A,
+    wanted: Wanted<'_>,
+    condition: &MovableExpr<A>,
+    term: Term<A>,
+) -> Result<Term<A>, AllocError>
+    ensures { IfOk result (λ t. term_of t ≡ (if wanted_by wanted.entry condition.now then terms.Filtered condition.now (term_of term) else term_of term)) }
+{
+    if !is_wanted(alloc, wanted, condition)? {
+        return Ok(term);
+    }
+    let condition = condition.copy(alloc)?;
+    Ok(Term::Filtered {
+        condition,
+        input: boxed(alloc, term)?,
+    })
+}
+
+// The term under the wanted conditions, the first innermost.
+fn filtered_by<A: Heap>(
+    alloc: A,
+    wanted: Wanted<'_>,
+    conditions: &[MovableExpr<A>],
+    term: Term<A>,
+) -> Result<Term<A>, AllocError>
+    ensures { IfOk result (λ t. term_of t ≡ filters (filter (wanted_by wanted.entry) conditions.now) (term_of term)) }
+{
+    let mut term = term;
+    for condition in conditions {
+        term = filtered_if(alloc, wanted, condition, term)?;
+    }
+    Ok(term)
+}
+
+// The term under the guard of the entry, unless that shows all rows.
+fn under_guard<A: Heap>(
+    alloc: A,
+    setting: &Setting<A>,
+    entry: usize,
+    term: Term<A>,
+) -> Result<Term<A>, AllocError>
+    ensures { IfOk result (λ t. term_of t ≡ spec.under_guard (setting_of setting.now) entry (term_of term)) }
+{
+    match setting.frame.as_slice().get(entry) {
+        Some(Guard::All) => Ok(term),
+        _ => Ok(Term::Guarded {
+            entry,
+            input: boxed(alloc, term)?,
+        }),
+    }
+}
+
+// The rows of an entry on which the conditions over it alone are true, and which its guard shows.
+fn scan<A: Heap>(alloc: A, setting: &Setting<A>, entry: usize) -> Result<Term<A>, AllocError>
+    ensures { IfOk result (λ t. term_of t ≡ spec.scan (setting_of setting.now) entry) }
+{
+    let wanted = Wanted::Alone { entry };
+    let rows = filtered_by(
+        alloc,
+        wanted,
+        setting.conditions.as_slice(),
+        Term::Raw { entry },
+    )?;
+    under_guard(alloc, setting, entry, rows)
+}
+
+// Each combination of the left term with each of the right one.
+fn joined<A: Heap>(alloc: A, left: Term<A>, right: Term<A>) -> Result<Term<A>, AllocError>
+    ensures { IfOk result (λ t. term_of t ≡ terms.Joined (term_of left) (term_of right)) }
+{
+    Ok(Term::Joined {
+        left: boxed(alloc, left)?,
+        right: boxed(alloc, right)?,
+    })
+}
+
+// The combinations of the placed entries with each row of one more, on which the conditions that join it to them are true.
+fn with_entry<A: Heap>(
+    alloc: A,
+    setting: &Setting<A>,
+    placed: &[usize],
+    term: Term<A>,
+    entry: usize,
+) -> Result<Term<A>, AllocError>
+    ensures { IfOk result (λ t. term_of t ≡ spec.with_entry (setting_of setting.now) placed.now (term_of term) entry) }
+{
+    let next = scan(alloc, setting, entry)?;
+    let both = joined(alloc, term, next)?;
+    let wanted = Wanted::Joining { placed, entry };
+    filtered_by(alloc, wanted, setting.conditions.as_slice(), both)
+}
+
+/// The index of a step's entry, which the step counts from 1.
+pub(crate) fn entry_index(step: CodeStep) -> usize
+    ensures { result ≡ spec.entry_index step }
+{
+    step.entry.saturating_sub(1) as usize
+}
+
+// The entries of the steps, one after another, from the first on.
+fn joined_from<A: Heap>(
+    alloc: A,
+    setting: &Setting<A>,
+    first: usize,
+    steps: &[CodeStep],
+) -> Result<Term<A>, AllocError>
+    ensures { IfOk result (λ t. term_of t ≡ spec.joined_from (setting_of setting.now) first steps.now) }
+{
+    let mut placed = Items::new(alloc);
+    placed.push(first)?;
+    let mut term = scan(alloc, setting, first)?;
+    for step in steps {
+        let entry = entry_index(*step);
+        term = with_entry(alloc, setting, placed.as_slice(), term, entry)?;
+        placed.push(entry)?;
+    }
+    Ok(term)
+}
+
+// No combination of any entry.
+fn no_rows<A: Heap>(alloc: A, setting: &Setting<A>) -> Result<Term<A>, AllocError>
+    ensures { IfOk result (λ t. term_of t ≡ spec.no_rows (setting_of setting.now)) }
+{
+    let count = setting.frame.len();
+    let mut entries = Items::new(alloc);
+    for entry in 0..count {
+        entries.push(entry)?;
+    }
+    Ok(Term::Empty { entries })
+}
+
+/// The shape of a code: each entry under its conditions and its guard, joined in the order of the steps, the other
+/// conditions where all the entries that they name are there.
+pub fn shape<A: Heap>(alloc: A, setting: &Setting<A>, code: &Code<A>) -> Result<Term<A>, AllocError>
+    ensures { IfOk result (λ t. term_of t ≡ spec.shape (setting_of setting.now) (code_of code.now)) }
+{
+    match code {
+        Code::Empty => no_rows(alloc, setting),
+        Code::Steps(steps) => match steps.as_slice() {
+            [] => no_rows(alloc, setting),
+            [first, rest @ ..] => {
+                let term = joined_from(alloc, setting, entry_index(*first), rest)?;
+                filtered_by(alloc, Wanted::NoEntry, setting.conditions.as_slice(), term)
+            }
+        },
+    }
+}
