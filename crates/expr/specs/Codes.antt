@@ -1,5 +1,8 @@
 -- Codes of plans: which entry comes next, how its rows are read, and how they are joined to those before.
-use Rattle.std.specs.Prelude.{ℕ, List, [], ◌∷◌, ◌++◌}
+use Rattle.std.specs.Prelude.{ℕ, List, [], ◌∷◌, ◌++◌, flat_map}
+use Rattle.std.specs.declared.cmp.Ordering.{Ordering}
+use Rattle.std.specs.Ordering.{nat_cmp}
+use Rattle.std.specs.Cmp.Lexicographic.{slice_cmp}
 use Rattle.expr.specs.declared.code.Access.{Access}
 use Rattle.expr.specs.declared.code.Access.TheVariants.{Full, Index, Range}
 use Rattle.expr.specs.declared.code.Method.{Method}
@@ -27,3 +30,12 @@ method_numbers (Merge conjunct) = 2 ∷ conjunct ∷ []
 
 abbrev pub step_numbers : CodeStep → List ℕ
 step_numbers step = step.entry ∷ (access_numbers step.access ++ method_numbers step.method)
+
+-- ---- the order of codes
+
+abbrev pub code_numbers : Code → List ℕ
+code_numbers Empty = []
+code_numbers (Steps steps) = flat_map step_numbers steps
+
+abbrev pub code_cmp : Code → Code → Ordering
+code_cmp code other = slice_cmp nat_cmp (code_numbers code) (code_numbers other)

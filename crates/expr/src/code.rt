@@ -1,9 +1,13 @@
 //! Codes of plans: the order of the entries, how the rows of each are read, and how they are joined.
 
-ghost use Rattle.std.specs.Prelude.{◌≡◌};
+ghost use Rattle.std.specs.Prelude.{◌≡◌, flat_map};
+ghost use Rattle.std.specs.Ordering.{nat_cmp};
+ghost use Rattle.std.specs.Cmp.Lexicographic.{slice_cmp};
 ghost use Rattle.expr.specs.Codes as spec;
+ghost use Rattle.expr.specs.View.{code_of};
 
 use memory::{Heap, Items};
+use std::cmp::Ordering;
 
 /// How the rows of an entry are read (Selinger et al. 1979, section 4: access paths). Columns and conjuncts count from 1.
 #[derive(Clone, Copy, Debug, PartialEq, Eq)]
@@ -64,4 +68,38 @@ impl CodeStep {
         };
         [self.entry, access, column, bound, method, conjunct]
     }
+}
+
+// The order of steps by all their numbers, from left to right.
+fn cmp_steps(steps: &[CodeStep], others: &[CodeStep]) -> Ordering
+    ensures { result ≡ slice_cmp nat_cmp (flat_map spec.step_numbers steps.now) (flat_map spec.step_numbers others.now) }
+{
+    match (steps.split_first(), others.split_first()) {
+        (None, None) => Ordering::Equal,
+        (None, Some(_)) => Ordering::Less,
+        (Some(_), None) => Ordering::Greater,
+        (Some((step, steps)), Some((other, others))) => {
+            match step.numbers().cmp(&other.numbers()) {
+                Ordering::Equal => cmp_steps(steps, others),
+                order => order,
+            }
+        }
+    }
+}
+
+/// The order of codes by all the numbers of their steps, from left to right; Empty has none. Of plans of one cost the
+/// one whose code is least is taken.
+pub fn cmp_codes<A: Heap>(code: &Code<A>, other: &Code<A>) -> Ordering
+    ensures { result ≡ spec.code_cmp (code_of code.now) (code_of other.now) }
+{
+    let none: [CodeStep; 0] = [];
+    let steps = match code {
+        Code::Empty => &none,
+        Code::Steps(steps) => steps.as_slice(),
+    };
+    let others = match other {
+        Code::Empty => &none,
+        Code::Steps(steps) => steps.as_slice(),
+    };
+    cmp_steps(steps, others)
 }

@@ -15,7 +15,7 @@ mod query;
 
 pub use aggregates::{AggregateCall, push_aggregates};
 pub use bound::{BoundArm, BoundExpr, ColumnId, is_column};
-pub use code::{Access, Code, CodeStep, Method};
+pub use code::{Access, Code, CodeStep, Method, cmp_codes};
 pub use columns::push_columns;
 pub use conjuncts::{fragile_conjuncts, movable_conjuncts};
 pub use copies::copy_expr;

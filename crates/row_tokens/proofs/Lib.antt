@@ -4,6 +4,7 @@ pub mod Filled
 pub mod Fronts
 pub mod Gaps
 pub mod Lasts
+pub mod Lexing
 pub mod Longest
 pub mod NoNulls
 pub mod Nulls
@@ -12,5 +13,6 @@ pub mod Offsets
 pub mod Quotes
 pub mod Shapes
 pub mod Signs
+pub mod Starts
 pub mod Steps
 pub mod Wholes

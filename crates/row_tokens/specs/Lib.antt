@@ -3,3 +3,4 @@ pub mod Keywords
 pub mod Slices
 pub mod Tokens
 pub mod View
+pub mod WithoutOffsets

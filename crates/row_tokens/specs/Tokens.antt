@@ -1,5 +1,5 @@
 -- The tokens of a text, by recursion over its bytes.
-use Rattle.std.specs.Prelude.{ℕ, zero, suc, ◌+◌, ◌-◌, ◌^◌, ◌==◌, nat_lt, Bool, true, false, ◌&&◌, ◌||◌, if◌then◌else◌, List, [], ◌∷◌, ◌++◌, length, map, drop, take, slice_index, Option, Some, None, Result, Ok, Err, codes}
+use Rattle.std.specs.Prelude.{ℕ, zero, suc, ◌+◌, ◌-◌, ◌^◌, ◌==◌, nat_lt, Bool, true, false, ◌&&◌, ◌||◌, if◌then◌else◌, List, [], ◌∷◌, ◌++◌, length, map, flat_map, drop, take, slice_index, Option, Some, None, Result, Ok, Err, codes}
 use Rattle.std.specs.Char.{is_ascii_alphabetic, is_ascii_digit, to_ascii_lowercase}
 use Rattle.std.specs.List.{prefix_len, take_while}
 use Rattle.std.specs.Str.{bytes_eq, str_eq_ignore_ascii_case}
@@ -231,3 +231,13 @@ undoubled (b ∷ c ∷ bs) = if (b == 39) && (c == 39) then 39 ∷ undoubled bs 
 -- the value of a string literal
 abbrev pub quoted_value : List ℕ → List ℕ
 quoted_value bytes = undoubled (between_quotes bytes)
+
+-- ---- the bytes of a string literal
+
+-- a quote is doubled
+abbrev pub doubled_quote : ℕ → List ℕ
+doubled_quote b = if b == 39 then 39 ∷ 39 ∷ [] else b ∷ []
+
+-- the string literal of a value
+abbrev pub quoted : List ℕ → List ℕ
+quoted value = 39 ∷ (flat_map doubled_quote value ++ 39 ∷ [])

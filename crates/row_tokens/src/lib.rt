@@ -11,6 +11,6 @@ mod value;
 
 pub use error::TokenError;
 pub use laws::law_tokens_stand_in_text;
-pub use scanner::{scan, tokenize};
+pub use scanner::{scan, scan_without_offsets, tokenize};
 pub use token::{Token, TokenKind};
 pub use value::{folded, unquoted};

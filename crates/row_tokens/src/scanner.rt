@@ -5,6 +5,7 @@ ghost use Rattle.memory.specs.Gives.{Gives};
 ghost use Rattle.row_tokens.specs.Errors.{tokens_of};
 ghost use Rattle.row_tokens.specs.View.{words_of};
 ghost use Rattle.row_tokens.specs.Tokens.{is_bad, words};
+ghost use Rattle.row_tokens.specs.WithoutOffsets.{words_without_offsets};
 
 use crate::error::TokenError;
 use crate::lexeme::{first_lexeme, is_space};
@@ -42,6 +43,37 @@ pub fn scan<'a, A: Heap>(alloc: A, text: &'a str) -> Result<Vec<Token<'a>, A>, A
         }
         rest = after;
         offset += lexeme.size as u32;
+    }
+    Ok(tokens)
+}
+
+/// The tokens of a text of any length, in order and without their offsets; a bad token is the last. The one error is out of
+/// memory.
+pub fn scan_without_offsets<'a, A: Heap>(
+    alloc: A,
+    text: &'a str,
+) -> Result<Vec<Token<'a>, A>, AllocError>
+    ensures { IfOk result (λ v. words_of v.items ≡ words_without_offsets text.now) }
+{
+    let mut tokens = Vec::new(alloc);
+    let mut rest = text;
+    while let Some(byte) = rest.as_bytes().first() {
+        if is_space(*byte) {
+            rest = &rest[1..];
+            continue;
+        }
+        let lexeme = first_lexeme(rest);
+        let (text, after) = rest.split_at(lexeme.size);
+        tokens.push(Token {
+            kind: lexeme.kind,
+            text,
+            number: lexeme.number,
+            offset: 0,
+        })?;
+        if lexeme.size == 0 {
+            return Ok(tokens);
+        }
+        rest = after;
     }
     Ok(tokens)
 }

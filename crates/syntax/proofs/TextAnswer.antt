@@ -20,7 +20,8 @@ use Rattle.row_grammar.specs.declared.error.ReadError.{ReadError}
 use Rattle.row_grammar.specs.declared.error.ReadError.TheVariants.{Syntax, Limit}
 use Rattle.syntax.specs.declared.error.ParseError.{ParseError}
 use Rattle.syntax.specs.declared.error.ParseError.TheVariants as errors
-use Rattle.syntax.proofs.Decides.{kinds, nested_ext, decided, query_good, schema_good, statement_good}
+use Rattle.row_reader.proofs.Decides.{kinds, nested_ext, decided}
+use Rattle.syntax.proofs.Decides.{query_good, schema_good, statement_good}
 
 -- ---- a text that is not too long
 
