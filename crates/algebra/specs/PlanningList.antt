@@ -2,9 +2,9 @@
 use Rattle.std.specs.Prelude.{Bool, false, not, ◌==◌, nat_le, List, [], ◌∷◌, ◌++◌, length, map, Option, Some, None, if◌then◌else◌}
 use Rattle.std.specs.List.{flat_map}
 use Rattle.expr.specs.declared.bound.ColumnId.{ColumnId}
-use Rattle.expr.specs.Bound.{BoundExpr}
+use Rattle.expr.specs.Bound.{BoundExpr, And, one_expr}
 use Rattle.expr.specs.BoundQuery.{BoundQuery}
-use Rattle.expr.specs.Conjuncts.{conjuncts_of, movable_conjuncts}
+use Rattle.expr.specs.Conjuncts.{members, movable_conjuncts}
 use Rattle.predicates.specs.Equalities.{column_sides}
 use Rattle.predicates.specs.Folded.{folded}
 use Rattle.predicates.specs.Inward.{inward}
@@ -20,9 +20,14 @@ written_conditions q = map without_offsets (movable_conjuncts q)
 abbrev pub simplified : BoundExpr → BoundExpr
 simplified e = folded (inward e)
 
--- the conjuncts of each condition in its simplified form
-abbrev pub simplified_conjuncts : List BoundExpr → List BoundExpr
-simplified_conjuncts es = flat_map conjuncts_of (map simplified es)
+-- the members of an AND of two or more, which the grammar's ANDs are; all else is its own one part
+abbrev pub parts_of : BoundExpr → List BoundExpr
+parts_of (And offset (one_expr e (one_expr f es))) = e ∷ f ∷ members es
+parts_of e = e ∷ []
+
+-- the parts of each condition in its simplified form
+abbrev pub simplified_parts : List BoundExpr → List BoundExpr
+simplified_parts es = flat_map parts_of (map simplified es)
 
 abbrev pub of_two_entries : Option (ColumnId × ColumnId) → Bool
 of_two_entries (Some (a, b)) = not (a.entry == b.entry)
@@ -69,7 +74,7 @@ without_repeats es = with_others [] es
 abbrev pub is_too_long : List BoundExpr → Bool
 is_too_long es = not (nat_le (length es) most_members)
 
--- the simplified conjuncts with their consequences, none twice; the written conditions where those are too many
+-- the simplified parts with their consequences, none twice; the written conditions where those are too many
 abbrev pub planned : (written simple : List BoundExpr) → List BoundExpr
 planned written simple =
     if is_too_long simple then written
@@ -78,4 +83,4 @@ planned written simple =
 
 -- the conditions that a query is planned with
 abbrev pub planning_list : BoundQuery → List BoundExpr
-planning_list q = planned (written_conditions q) (simplified_conjuncts (written_conditions q))
+planning_list q = planned (written_conditions q) (simplified_parts (written_conditions q))

@@ -2,7 +2,6 @@
 
 ghost use Rattle.std.specs.Prelude.{◌≡◌, ◌++◌, IfOk, OnOk, map, true};
 ghost use Rattle.std.specs.List.{list_all};
-ghost use Rattle.expr.specs.Conjuncts.{conjuncts_of};
 ghost use Rattle.expr.specs.Movable.{all_movable, movable};
 ghost use Rattle.expr.specs.View.{bound_expr_of, bound_exprs, bound_query_of};
 ghost use Rattle.predicates.specs.Offsets.{without_offsets};
@@ -76,16 +75,18 @@ fn push_members<A: Heap>(
     Ok(())
 }
 
-// Adds the conjuncts of the condition.
-fn push_conjuncts<A: Heap>(
+// Adds the parts of the condition.
+fn push_parts<A: Heap>(
     alloc: A,
     known: &mut Conditions<A>,
     condition: MovableExpr<A>,
 ) -> Result<(), AllocError>
-    ensures { OnOk result (known.new ≡ known.old ++ conjuncts_of condition) }
+    ensures { OnOk result (known.new ≡ known.old ++ spec.parts_of condition) }
 {
     match Box::into_inner(condition.into_expression()) {
-        BoundExpr::And { members, .. } => push_members(alloc, known, members),
+        BoundExpr::And { members, .. } if members.len() > 1 => {
+            push_members(alloc, known, members)
+        }
         conjunct => {
             let conjunct = boxed(alloc, conjunct)?;
             known.push(MovableExpr::of_movable(conjunct))
@@ -93,16 +94,16 @@ fn push_conjuncts<A: Heap>(
     }
 }
 
-// The conjuncts of each condition in its simplified form.
-fn simplified_conjuncts<A: Heap>(
+// The parts of each condition in its simplified form.
+fn simplified_parts<A: Heap>(
     alloc: A,
     conditions: &[MovableExpr<A>],
 ) -> Result<Conditions<A>, AllocError>
-    ensures { IfOk result (λ l. l ≡ spec.simplified_conjuncts conditions.now) }
+    ensures { IfOk result (λ l. l ≡ spec.simplified_parts conditions.now) }
 {
     let mut known = Items::new(alloc);
     for condition in conditions {
-        push_conjuncts(alloc, &mut known, simplified(alloc, condition)?)?;
+        push_parts(alloc, &mut known, simplified(alloc, condition)?)?;
     }
     Ok(known)
 }
@@ -234,7 +235,7 @@ pub fn planning_list<A: Heap>(
     ensures { IfOk result (λ l. l ≡ spec.planning_list (bound_query_of query.now)) }
 {
     let written = written_conditions(alloc, query)?;
-    let simple = simplified_conjuncts(alloc, written.as_slice())?;
+    let simple = simplified_parts(alloc, written.as_slice())?;
     if is_too_long(simple.as_slice()) {
         return Ok(written);
     }

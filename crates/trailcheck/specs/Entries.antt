@@ -1,5 +1,5 @@
 -- The entries that conditions name.
-use Rattle.std.specs.Prelude.{ℕ, Bool, ◌==◌, ◌&&◌, ◌||◌, List, length}
+use Rattle.std.specs.Prelude.{ℕ, Bool, not, nat_lt, ◌==◌, ◌&&◌, ◌||◌, List, length}
 use Rattle.std.specs.List.{list_all, list_any}
 use Rattle.expr.specs.Bound.{BoundExpr}
 use Rattle.expr.specs.Columns.{columns}
@@ -31,3 +31,7 @@ joins e entries i = (names_entry e i && names_some e entries) && names_within e 
 -- it names no entry
 abbrev pub names_none : BoundExpr → Bool
 names_none e = length (columns e) == 0
+
+-- it names entries, and only the first so many
+abbrev pub is_over : ℕ → BoundExpr → Bool
+is_over count e = not (names_none e) && list_all (λ id. nat_lt id.entry count) (columns e)

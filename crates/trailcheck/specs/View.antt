@@ -1,11 +1,11 @@
 -- The views of the Rust types as spec data.
-use Rattle.std.specs.Prelude.{Bool, map}
+use Rattle.std.specs.Prelude.{Bool, not, map}
 use Rattle.expr.specs.Bound.{BoundExpr}
 use Rattle.tuples.specs.View.{guard_of}
 use Rattle.trailcheck.specs.declared.setting.Setting as declared
 use Rattle.trailcheck.specs.declared.shapes.Wanted.{Wanted}
-use Rattle.trailcheck.specs.declared.shapes.Wanted.TheVariants.{Alone, Joining, NoEntry}
-use Rattle.trailcheck.specs.Entries.{only_of, joins, names_none}
+use Rattle.trailcheck.specs.declared.shapes.Wanted.TheVariants.{Alone, Joining, OnTop}
+use Rattle.trailcheck.specs.Entries.{only_of, joins, is_over}
 use Rattle.trailcheck.specs.Settings.{Setting}
 
 abbrev pub setting_of : {A : Type 0} → declared.Setting A → Setting
@@ -15,4 +15,4 @@ setting_of s = record { frame = map guard_of s.frame; indexed = s.indexed; condi
 abbrev pub wanted_by : Wanted → BoundExpr → Bool
 wanted_by (Alone entry) = λ e. only_of e entry
 wanted_by (Joining placed entry) = λ e. joins e placed.now entry
-wanted_by NoEntry = λ e. names_none e
+wanted_by (OnTop count) = λ e. not (is_over count e)

@@ -90,10 +90,21 @@ pub(crate) fn joins<A: Heap>(
     Ok(are_joining(columns.as_slice(), entries, entry))
 }
 
-/// True where the condition names no entry.
-pub(crate) fn names_none<A: Heap>(alloc: A, condition: &MovableExpr<A>) -> Result<bool, AllocError>
-    ensures { IfOk result (λ b. b ≡ spec.names_none condition.now) }
+// True where each column is of one of the first so many entries.
+fn all_below(columns: &[ColumnId], count: usize) -> bool
+    ensures { result ≡ list_all (λ id. nat_lt id.entry count) columns.now }
+{
+    columns.iter().all(|id| id.entry < count)
+}
+
+/// True where the condition names entries, and only the first so many.
+pub(crate) fn is_over<A: Heap>(
+    alloc: A,
+    condition: &MovableExpr<A>,
+    count: usize,
+) -> Result<bool, AllocError>
+    ensures { IfOk result (λ b. b ≡ spec.is_over count condition.now) }
 {
     let columns = columns_of(alloc, condition)?;
-    Ok(columns.len() == 0)
+    Ok(columns.len() != 0 && all_below(columns.as_slice(), count))
 }

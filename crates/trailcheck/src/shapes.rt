@@ -8,7 +8,7 @@ ghost use Rattle.row_terms.specs.View.{term_of};
 ghost use Rattle.trailcheck.specs.Shapes as spec;
 ghost use Rattle.trailcheck.specs.View.{setting_of, wanted_by};
 
-use crate::entries::{joins, names_none, only_of};
+use crate::entries::{is_over, joins, only_of};
 use crate::setting::Setting;
 use expr::{Code, CodeStep, MovableExpr};
 use memory::{Heap, Items, boxed};
@@ -23,8 +23,8 @@ pub(crate) enum Wanted<'p> {
     Alone { entry: usize },
     /// The entry and some of the placed ones, and no other.
     Joining { placed: &'p [usize], entry: usize },
-    /// No entry.
-    NoEntry,
+    /// No entry, of so many that there are.
+    OnTop { count: usize },
 }
 
 // True where the condition passes the test.
@@ -38,7 +38,7 @@ fn is_wanted<A: Heap>(
     match wanted {
         Wanted::Alone { entry } => only_of(alloc, condition, entry),
         Wanted::Joining { placed, entry } => joins(alloc, condition, placed, entry),
-        Wanted::NoEntry => names_none(alloc, condition),
+        Wanted::OnTop { count } => Ok(!is_over(alloc, condition, count)?),
     }
 }
 
@@ -185,7 +185,10 @@ pub fn shape<A: Heap>(alloc: A, setting: &Setting<A>, code: &Code<A>) -> Result<
             [] => no_rows(alloc, setting),
             [first, rest @ ..] => {
                 let term = joined_from(alloc, setting, entry_index(*first), rest)?;
-                filtered_by(alloc, Wanted::NoEntry, setting.conditions.as_slice(), term)
+                let wanted = Wanted::OnTop {
+                    count: setting.frame.len(),
+                };
+                filtered_by(alloc, wanted, setting.conditions.as_slice(), term)
             }
         },
     }

@@ -2,7 +2,7 @@ use Rattle.std.proofs.Common.{ap, ◌∙◌, refl, sym}
 use Rattle.expr.specs.Movable.{movable}
 use Rattle.expr.proofs.Walks.{and_is}
 use Rattle.expr.proofs.Conjoined.{members_of}
-use Rattle.algebra.proofs.planning.push_conjuncts.Goals as goal
+use Rattle.algebra.proofs.planning.push_parts.Goals as goal
 
 pub push_members-requires : goal.push_members-requires
 push_members-requires g c =
