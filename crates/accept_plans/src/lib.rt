@@ -3,6 +3,8 @@
 #![tactic(auto)]
 
 #[cfg(test)]
+mod code_order;
+#[cfg(test)]
 mod codes;
 #[cfg(test)]
 mod planning;
@@ -16,5 +18,7 @@ mod rows;
 mod steps;
 #[cfg(test)]
 mod term_texts;
+#[cfg(test)]
+mod turned_back;
 #[cfg(test)]
 mod verdicts;

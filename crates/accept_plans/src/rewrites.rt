@@ -211,7 +211,8 @@ fn rewritten(
     Ok(term)
 }
 
-fn rewritten_text(
+/// The term after the steps of a text, or the number of the first that is refused with its reason, as a text.
+pub fn rewritten_text(
     rt: &(impl Abort + AllocGlobal),
     frame: &[Guard<Global>],
     term: Term<Global>,

@@ -1,7 +1,7 @@
 -- One token decides in the rules of whole texts.
 use Rattle.std.proofs.Common.{◌≡◌, true, false, refl}
 use Rattle.row_grammar.proofs.Check.{good}
-use Rattle.row_reader.specs.Language.{language, is}
+use Rattle.row_reader.specs.Language.{language, is, of}
 use Rattle.row_reader.specs.Expressions.{nested_first, name, names, dot_name, column, columns, type_name, word_literal, unsigned_literal, literal, value, value_list, parenthesized, cast, arm, arms, otherwise, case, counted_rows, count_tail, count, aggregate_tail, aggregate, constant, plain_column, multiplication, addition, comparison_sign, aggregate_name, primary, unary, factor, product, addend, sum, between, in_list, range, negated_range, range_tail, ranged_sum, compared_with, comparison, null_word, is_null, null_test, negation, and_operand, conjunction, or_operand, expression}
 use Rattle.row_reader.proofs.Decides.{kinds, nested_ext}
 use Rattle.row_queries.specs.From.{condition, table_alias, table_ref, on_condition, plain_join, join, join_list, from_item, from}
