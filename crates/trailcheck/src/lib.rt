@@ -19,5 +19,5 @@ pub use judging::judge;
 pub use laws::{law_accepted_means_same, law_same_term_is_equal};
 pub use same_term::is_same_term;
 pub use setting::Setting;
-pub use shapes::shape;
+pub use shapes::{Wanted, entry_index, is_wanted, shape};
 pub use verdict::{Reason, Refusal, Verdict};

@@ -18,7 +18,7 @@ use tuples::Guard;
 
 /// A test of conditions by the entries that they name.
 #[derive(Clone, Copy)]
-pub(crate) enum Wanted<'p> {
+pub enum Wanted<'p> {
     /// The entry, and no other.
     Alone { entry: usize },
     /// The entry and some of the placed ones, and no other.
@@ -27,8 +27,8 @@ pub(crate) enum Wanted<'p> {
     OnTop { count: usize },
 }
 
-// True where the condition passes the test.
-fn is_wanted<A: Heap>(
+/// True where the condition passes the test.
+pub fn is_wanted<A: Heap>(
     alloc: A,
     wanted: Wanted<'_>,
     condition: &MovableExpr<A>,
@@ -136,7 +136,7 @@ fn with_entry<A: Heap>(
 }
 
 /// The index of a step's entry, which the step counts from 1.
-pub(crate) fn entry_index(step: CodeStep) -> usize
+pub fn entry_index(step: CodeStep) -> usize
     ensures { result ≡ spec.entry_index step }
 {
     step.entry.saturating_sub(1) as usize

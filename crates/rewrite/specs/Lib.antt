@@ -1,4 +1,0 @@
-pub mod Laws
-pub mod Placing
-pub mod Simplifying
-pub mod Trails
