@@ -18,7 +18,6 @@ use Rattle.tuples.specs.World.{World, combination_at}
 use Rattle.row_terms.specs.Terms.{Term}
 use Rattle.row_terms.specs.Means.{passes, mean}
 use Rattle.predicates.specs.Equalities.{column_equals, column_sides, columns_equal, literal_side, unless_null}
-use Rattle.predicates.specs.Connectives.{both}
 use Rattle.predicates.specs.Inward.{inward}
 use Rattle.predicates.specs.Folded.{folded, folded_node}
 use Rattle.predicates.proofs.Equal.{column_exact}

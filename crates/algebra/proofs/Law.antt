@@ -9,7 +9,7 @@ use Rattle.row_terms.proofs.SlotLists.{IsPermutation-SameSums_slots}
 use Rattle.algebra.specs.declared.step.Rewrite.{Rewrite}
 use Rattle.algebra.specs.declared.step.Rewrite.TheVariants as rewrites
 use Rattle.algebra.specs.Steps.{Step, rewrite_of}
-use Rattle.algebra.specs.Rewrites.{rewritten, rewritten_if, at_node, applied}
+use Rattle.algebra.specs.Rewrites.{rewritten, rewritten_if, applied}
 use Rattle.algebra.specs.Keeping.{HasFrame, MeanSame, StepsKeep, is_movable_term}
 use Rattle.algebra.proofs.Keeps.{Keeps, at_node-keeps}
 use Rattle.algebra.proofs.Sound as sound

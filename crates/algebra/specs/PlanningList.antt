@@ -20,7 +20,7 @@ written_conditions q = map without_offsets (movable_conjuncts q)
 abbrev pub simplified : BoundExpr → BoundExpr
 simplified e = folded (inward e)
 
--- the members of an AND of two or more, which the grammar's ANDs are; all else is its own one part
+-- the members of an AND of two or more, as all ANDs of texts are; all else is its own one part
 abbrev pub parts_of : BoundExpr → List BoundExpr
 parts_of (And offset (one_expr e (one_expr f es))) = e ∷ f ∷ members es
 parts_of e = e ∷ []

@@ -13,7 +13,8 @@ use crate::two_filters::MOST_MEMBERS;
 use expr::{BoundExpr, BoundQuery, MovableExpr, movable_conjuncts};
 use memory::{Heap, Items, boxed};
 use predicates::{
-    column_sides, copy_without_offsets, folded, inward, is_same, law_offsets_keep_value,
+    column_sides, conjunct_count, copy_without_offsets, folded, inward, is_same,
+    law_offsets_keep_value,
 };
 use std::alloc::AllocError;
 
@@ -83,13 +84,14 @@ fn push_parts<A: Heap>(
 ) -> Result<(), AllocError>
     ensures { OnOk result (known.new ≡ known.old ++ spec.parts_of condition) }
 {
+    if conjunct_count(&condition) < 2 {
+        return known.push(condition);
+    }
     match Box::into_inner(condition.into_expression()) {
-        BoundExpr::And { members, .. } if members.len() > 1 => {
-            push_members(alloc, known, members)
-        }
-        conjunct => {
-            let conjunct = boxed(alloc, conjunct)?;
-            known.push(MovableExpr::of_movable(conjunct))
+        BoundExpr::And { members, .. } => push_members(alloc, known, members),
+        part => {
+            let part = boxed(alloc, part)?;
+            known.push(MovableExpr::of_movable(part))
         }
     }
 }

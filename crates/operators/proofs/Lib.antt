@@ -1,3 +1,4 @@
+pub mod Kept
 pub mod Nesting
 pub mod Pruning
 pub mod Walks

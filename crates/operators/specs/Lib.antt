@@ -1,2 +1,3 @@
 pub mod Pushdown
+pub mod Running
 pub mod View

@@ -1,6 +1,6 @@
 //! The entries that conditions name.
 
-ghost use Rattle.std.specs.Prelude.{◌≡◌, ◌==◌, ◌&&◌, ◌||◌, IfOk};
+ghost use Rattle.std.specs.Prelude.{◌≡◌, ◌==◌, ◌&&◌, ◌||◌, IfOk, nat_lt};
 ghost use Rattle.std.specs.List.{list_all, list_any};
 ghost use Rattle.expr.specs.Columns.{columns};
 ghost use Rattle.trailcheck.specs.Entries as spec;

@@ -162,6 +162,20 @@ fn joined_from<A: Heap>(
     Ok(term)
 }
 
+// The term under the conditions that are not over entries of the query.
+fn under_others<A: Heap>(
+    alloc: A,
+    setting: &Setting<A>,
+    term: Term<A>,
+) -> Result<Term<A>, AllocError>
+    ensures { IfOk result (λ t. term_of t ≡ spec.under_others (setting_of setting.now) (term_of term)) }
+{
+    let wanted = Wanted::OnTop {
+        count: setting.frame.len(),
+    };
+    filtered_by(alloc, wanted, setting.conditions.as_slice(), term)
+}
+
 // No combination of any entry.
 fn no_rows<A: Heap>(alloc: A, setting: &Setting<A>) -> Result<Term<A>, AllocError>
     ensures { IfOk result (λ t. term_of t ≡ spec.no_rows (setting_of setting.now)) }
@@ -185,10 +199,7 @@ pub fn shape<A: Heap>(alloc: A, setting: &Setting<A>, code: &Code<A>) -> Result<
             [] => no_rows(alloc, setting),
             [first, rest @ ..] => {
                 let term = joined_from(alloc, setting, entry_index(*first), rest)?;
-                let wanted = Wanted::OnTop {
-                    count: setting.frame.len(),
-                };
-                filtered_by(alloc, wanted, setting.conditions.as_slice(), term)
+                under_others(alloc, setting, term)
             }
         },
     }
