@@ -1,0 +1,5 @@
+mod Expected
+mod Lexed
+mod Derived
+pub mod ReadsBack
+pub mod Origin

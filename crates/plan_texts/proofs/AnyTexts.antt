@@ -1,0 +1,85 @@
+-- Each text of a plan is read as the plan.
+use Rattle.std.proofs.Common.{◌≡◌, ℕ, suc, ◌+◌, List, [], ◌∷◌, ◌++◌, length, codes, Some, Ok, refl, sym, ap, ◌∙◌, subst, arith}
+use Rattle.std.specs.Prelude.{map, flat_map, option_and_then}
+use Rattle.std.specs.Fmt.{decimal}
+use Rattle.std.proofs.lemmas.Bool.{eq-eqb}
+use Rattle.std.proofs.lemmas.List.{append_assoc, append-nil, length-append}
+use Rattle.row_ast.specs.Ast.{Expr}
+use Rattle.plan_texts.specs.Lines.{lines_of}
+use Rattle.plan_texts.specs.Plans.{PlanEntry, Plan}
+use Rattle.plan_texts.specs.PlanTexts.{code_lines, sort_lines, step_text}
+use Rattle.plan_texts.specs.Reading.{CostLine, FilterLine, cut, filter_at, content_at, Begun, Costed, Coded, Whole, with_line, or_stops, read_lines, plan_at, AreAll, IsTextOfLine, AreFilters, IsLine, IsSound, TextsAreRead}
+use Rattle.plan_texts.proofs.Quiet.{IsQuiet, quiet_line, both_quiet, decimal_quiet, cost_quiet, trail_quiet}
+use Rattle.plan_texts.proofs.LinesBack.{utf8_line, cost_back, filter_is}
+use Rattle.plan_texts.proofs.PlansBack.{joined, code_quiet, sort_quiet, steps_quiet, Goes, stays, both, one, begun, code_goes, trail_goes, steps_go}
+
+module _ (entries : List PlanEntry) where
+  lines_are : (ls : List (List ℕ)) → AreAll IsQuiet ls → AreAll IsLine ls
+  lines_are [] q = tt
+  lines_are (l ∷ ls) q = (record { one = λ rest. quiet_line l rest q.0; utf8 = q.0.utf8 }, lines_are ls q.1)
+
+  text_lines : (ls : List (List ℕ)) → AreAll IsLine ls → lines_of (flat_map (λ l. l ++ codes "\n") ls) ≡ (ls, [])
+  text_lines [] q = refl
+  text_lines (l ∷ ls) q =
+      ap lines_of (append_assoc l (10 ∷ []) (flat_map (λ m. m ++ codes "\n") ls)) ∙ q.0.one (flat_map (λ m. m ++ codes "\n") ls)
+      ∙ ap (λ (x : List (List ℕ) × List ℕ). let y : List (List ℕ) × List ℕ = (l ∷ x.0, x.1) in y) (text_lines ls q.1)
+
+  -- any line of a filter
+  one_filter : (n : ℕ) (done : List Expr) (number : ℕ) (l : List ℕ) (e : Expr) → number ≡ length done + 1 → IsTextOfLine entries (FilterLine number e) l → IsLine l → Goes entries (Costed n done) (l ∷ []) (Costed n (done ++ e ∷ []))
+  one_filter n done number l e at s line k more rest =
+      let said : content_at entries l ≡ Some (FilterLine number e) =
+      ap (content_at entries) s.1 ∙ ap (λ bs. filter_at (cut bs)) (append_assoc (decimal number) (32 ∷ []) s.0) ∙ filter_is entries number s.0 e s.2 s.3 in
+      let stands : with_line (Costed n done) (FilterLine number e) ≡ Some (Costed n (done ++ e ∷ [])) = rw (eq-eqb number (length done + 1) at) refl in (
+        suc k,
+        ap (λ o. or_stops k (option_and_then (with_line (Costed n done)) o) (λ d. read_lines entries (suc k) d more rest)) (utf8_line entries l (FilterLine number e) line.utf8 said)
+            ∙ ap (λ o. or_stops k o (λ d. read_lines entries (suc k) d more rest)) stands,
+      )
+
+  filters_go : (n : ℕ) (done : List Expr) (number : ℕ) (ls : List (List ℕ)) (es : List Expr) → number ≡ length done + 1 → AreFilters entries number ls es → AreAll IsLine ls
+      → Goes entries (Costed n done) ls (Costed n (done ++ es))
+  filters_go n done number [] [] at are lines = subst (λ xs. Goes entries (Costed n done) [] (Costed n xs)) (sym (append-nil done)) (stays entries (Costed n done))
+  filters_go n done number (l ∷ ls) (e ∷ es) at are lines =
+      both entries (Costed n done) (Costed n (done ++ e ∷ [])) (Costed n (done ++ e ∷ es)) (l ∷ []) ls (one_filter n done number l e at are.0 lines.0)
+      (subst (λ xs. Goes entries (Costed n (done ++ e ∷ [])) ls (Costed n xs)) (append_assoc done (e ∷ []) es)
+      (filters_go n (done ++ e ∷ []) (suc number) ls es (let size = length-append done (e ∷ []) in omega (arith, size, at)) are.1 lines.1))
+  filters_go n done number [] (e ∷ es) at are lines = absurd are
+  filters_go n done number (l ∷ ls) [] at are lines = absurd are
+
+  module _ (p : Plan) (is : IsSound entries p) (filters : List (List ℕ)) (are : AreFilters entries 1 filters p.filters) (lines : AreAll IsLine filters) where
+    abbrev end : List (List ℕ)
+    end = sort_lines entries p.sort ++ (codes "trail" ∷ map step_text p.trail)
+
+    abbrev whole : List (List ℕ)
+    whole = (codes "cost " ++ decimal p.cost) ∷ (filters ++ (code_lines entries p.code ++ end))
+
+    cost_line : IsQuiet (codes "cost " ++ decimal p.cost)
+    cost_line = both_quiet (codes "cost ") (decimal p.cost) cost_quiet (decimal_quiet p.cost (omega (arith, is.cost)))
+
+    whole_lines : AreAll IsLine whole
+    whole_lines = (
+      (lines_are ((codes "cost " ++ decimal p.cost) ∷ []) (cost_line, tt)).0,
+      joined entries IsLine filters (code_lines entries p.code ++ end) lines
+          (joined entries IsLine (code_lines entries p.code) end (lines_are (code_lines entries p.code) (code_quiet entries p.code is.code))
+          (joined entries IsLine (sort_lines entries p.sort) (codes "trail" ∷ map step_text p.trail) (lines_are (sort_lines entries p.sort) (sort_quiet entries p.sort is.sort))
+          (lines_are (codes "trail" ∷ map step_text p.trail) (trail_quiet, steps_quiet entries p.trail is.trail)))),
+    )
+
+    goes : Goes entries Begun whole (Whole p)
+    goes =
+        let n = p.cost in
+        let es = p.filters in
+        both entries Begun (Costed n []) (Whole p) ((codes "cost " ++ decimal n) ∷ []) (filters ++ (code_lines entries p.code ++ end))
+        (one entries Begun (Costed n []) (codes "cost " ++ decimal n) (CostLine n) cost_line (cost_back entries n is.cost) refl)
+        (both entries (Costed n []) (Costed n es) (Whole p) filters (code_lines entries p.code ++ end) (filters_go n [] 1 filters es refl are lines)
+        (both entries (Costed n es) (Coded n es p.code) (Whole p) (code_lines entries p.code) end (code_goes entries n es p.code is.code)
+        (subst (λ ls. Goes entries (Coded n es p.code) ls (Whole p)) (append_assoc (sort_lines entries p.sort) (codes "trail" ∷ []) (map step_text p.trail))
+        (both entries (Coded n es p.code) (Whole (begun entries n es p.code p.sort [])) (Whole p) (sort_lines entries p.sort ++ codes "trail" ∷ []) (map step_text p.trail)
+        (trail_goes entries n es p.code p.sort is.sort) (steps_go entries n es p.code p.sort [] p.trail is.trail)))))
+
+    is_read : plan_at entries (flat_map (λ l. l ++ codes "\n") whole) ≡ Ok p
+    is_read =
+        let go = goes 1 [] [] in
+        ap (λ (x : List (List ℕ) × List ℕ). read_lines entries 1 Begun x.0 x.1) (text_lines whole whole_lines) ∙ ap (λ ms. read_lines entries 1 Begun ms []) (sym (append-nil whole)) ∙ go.1
+
+pub texts_are_read : TextsAreRead
+texts_are_read entries p text sound is lines = ap (plan_at entries) is.2 ∙ is_read entries p sound is.0 is.1 lines

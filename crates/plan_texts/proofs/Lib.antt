@@ -1,0 +1,12 @@
+mod Pieces
+mod Cuts
+mod Splits
+mod Entries
+mod Additions
+mod Progress
+mod Quiet
+mod LinesBack
+mod LineTexts
+mod PlansBack
+mod ReadTexts
+mod AnyTexts

@@ -1,0 +1,5 @@
+pub mod Plans
+pub mod Lines
+pub mod PlanTexts
+pub mod Reading
+pub mod View

@@ -1,0 +1,18 @@
+//! The texts of plans: their lines, the reading of them, and the laws of both.
+#![tactic(auto)]
+
+mod code;
+mod draft;
+mod laws;
+mod line;
+mod lines;
+mod names;
+mod numbers;
+mod parts;
+mod plan;
+mod reading;
+mod steps;
+
+pub use laws::{law_plans_read_back, law_read_is_text, law_texts_are_read};
+pub use plan::{Plan, PlanEntry, SortColumn};
+pub use reading::read_plan;
