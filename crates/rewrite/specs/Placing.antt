@@ -3,12 +3,13 @@ use Rattle.std.specs.Prelude.{ℕ, zero, suc, Bool, true, false, ◌==◌, ◌||
 use Rattle.std.specs.List.{range_with_len}
 use Rattle.tuples.specs.Guards.{Guard}
 use Rattle.expr.specs.Bound.{BoundExpr}
+use Rattle.expr.specs.declared.code.CodeStep.{CodeStep}
 use Rattle.expr.specs.Codes as codes
 use Rattle.expr.specs.Codes.{Code}
 use Rattle.predicates.specs.Equalities.{is_never_true}
 use Rattle.row_terms.specs.declared.path.Branch.TheVariants.{First, Second}
 use Rattle.row_terms.specs.Terms.{Term, Raw, Guarded, Filtered, Joined, Empty}
-use Rattle.row_terms.specs.Written.{guarded_entry, joins, filters}
+use Rattle.row_terms.specs.Written.{guarded_entry}
 use Rattle.algebra.specs.Rules.{is_open}
 use Rattle.algebra.specs.Runs.{reads_only}
 use Rattle.algebra.specs.Steps.{Step}
@@ -130,7 +131,7 @@ module _ (at : Setting) where
   from_entries = reverse (range_with_len 0 (length at.frame))
 
   -- the entries of the steps of a code, the last first
-  abbrev pub code_entries : List codes.CodeStep → List ℕ
+  abbrev pub code_entries : List CodeStep → List ℕ
   code_entries ss = reverse (map entry_index ss)
 
   -- the entry's rows, under its guard unless that shows all
