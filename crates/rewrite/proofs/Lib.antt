@@ -1,1 +1,4 @@
 pub mod Leads
+pub mod SimplifiedKnown
+pub mod SimplifiedParts
+pub mod SimplifiedTerm

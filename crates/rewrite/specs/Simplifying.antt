@@ -1,9 +1,8 @@
 -- The steps from the written term of a query to the conditions of its planning list over the joins in the order of FROM.
-use Rattle.std.specs.Prelude.{ℕ, zero, suc, ◌+◌, ◌-◌, List, [], ◌∷◌, ◌++◌, length, map, Option, Some, None, if◌then◌else◌}
-use Rattle.std.specs.List.{flat_map}
+use Rattle.std.specs.Prelude.{ℕ, zero, suc, ◌-◌, List, [], ◌∷◌, ◌++◌, length, map, Option, Some, None, if◌then◌else◌}
 use Rattle.expr.specs.Bound.{BoundExpr}
 use Rattle.expr.specs.BoundQuery.{BoundQuery}
-use Rattle.algebra.specs.PlanningList.{written_conditions, simplified, simplified_parts, parts_of, consequence, with_condition, with_any, with_each, with_all, with_consequences, is_too_long}
+use Rattle.algebra.specs.PlanningList.{written_conditions, simplified, simplified_parts, parts_of, consequence, with_condition, with_any, with_each, with_consequences, is_too_long}
 use Rattle.algebra.specs.Runs.{stands_in}
 use Rattle.algebra.specs.Steps.{Step}
 use Rattle.rewrite.specs.Trails.{at_root, at_root_with, below_filters}
@@ -16,13 +15,16 @@ simplifying_each (e ∷ es) = below_filters (length es) (at_root 13 ∷ at_root 
 
 -- ---- an AND as its members: each step takes the first of those that are left
 
+-- the same step so many times
 abbrev pub repeated : ℕ → Step → List Step
 repeated zero s = []
 repeated (suc n) s = s ∷ repeated n s
 
+-- the steps that part one condition
 abbrev pub parting : BoundExpr → List Step
 parting e = repeated (length (parts_of e) - 1) (at_root 1)
 
+-- and each of several
 abbrev pub parting_each : List BoundExpr → List Step
 parting_each [] = []
 parting_each (e ∷ es) = below_filters (length es) (parting e) ++ parting_each es
@@ -54,15 +56,18 @@ abbrev pub dropping : (known : List BoundExpr) → List BoundExpr → List Step
 dropping known [] = []
 dropping known (e ∷ es) = (if stands_in e known then below_filters (length es) (at_root 10 ∷ []) else []) ++ dropping (with_condition known e) es
 
--- ---- all of it, from the written conditions; none where the planning list is as written
+-- ---- all of it
 
+-- from the written conditions to their parts, to all of these and their consequences, and to those of all that repeat none
+abbrev pub simplifying_steps : (written parts all : List BoundExpr) → List Step
+simplifying_steps written parts all = simplifying_each written ++ parting_each (map simplified written) ++ adding_all parts 0 parts parts ++ dropping [] all
+
+-- none where the planning list is as written
 abbrev pub simplifying_from : (written : List BoundExpr) → List Step
 simplifying_from written =
     if is_too_long (simplified_parts written) then []
     else if is_too_long (with_consequences (simplified_parts written)) then []
-    else
-        simplifying_each written ++ parting_each (map simplified written) ++ adding_all (simplified_parts written) 0 (simplified_parts written) (simplified_parts written)
-        ++ dropping [] (with_consequences (simplified_parts written))
+    else simplifying_steps written (simplified_parts written) (with_consequences (simplified_parts written))
 
 abbrev pub simplifying : BoundQuery → List Step
 simplifying q = simplifying_from (written_conditions q)
