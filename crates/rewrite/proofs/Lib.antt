@@ -2,3 +2,4 @@ pub mod Leads
 pub mod SimplifiedKnown
 pub mod SimplifiedParts
 pub mod SimplifiedTerm
+pub mod SimplifyingSteps
