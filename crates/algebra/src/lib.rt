@@ -16,5 +16,8 @@ mod two_filters;
 
 pub use applying::apply;
 pub use laws::law_steps_keep;
-pub use planning::planning_list;
+pub use planning::{
+    consequence, copies, is_too_long, planning_list, push_any, push_condition, simplified,
+    simplified_parts, stands_in, with_consequences, without_repeats, written_conditions,
+};
 pub use step::{Reason, Rewrite, Step, rewrite_of};

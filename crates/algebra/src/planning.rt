@@ -44,16 +44,22 @@ fn all_as_written<A: Heap>(
     Ok(all)
 }
 
-// The movable conjuncts as they are written.
-fn written_conditions<A: Heap>(alloc: A, query: &BoundQuery<A>) -> Result<Conditions<A>, AllocError>
+/// The movable conjuncts as they are written.
+pub fn written_conditions<A: Heap>(
+    alloc: A,
+    query: &BoundQuery<A>,
+) -> Result<Conditions<A>, AllocError>
     ensures { IfOk result (λ l. l ≡ spec.written_conditions (bound_query_of query.now)) }
 {
     let conjuncts = movable_conjuncts(alloc, query)?;
     all_as_written(alloc, &conjuncts)
 }
 
-// The condition with NOT carried inward, and then its literals folded.
-fn simplified<A: Heap>(alloc: A, condition: &MovableExpr<A>) -> Result<MovableExpr<A>, AllocError>
+/// The condition with NOT carried inward, and then its literals folded.
+pub fn simplified<A: Heap>(
+    alloc: A,
+    condition: &MovableExpr<A>,
+) -> Result<MovableExpr<A>, AllocError>
     ensures { IfOk result (λ e. e ≡ spec.simplified condition.now) }
 {
     let form = inward(alloc, condition)?;
@@ -96,8 +102,8 @@ fn push_parts<A: Heap>(
     }
 }
 
-// The parts of each condition in its simplified form.
-fn simplified_parts<A: Heap>(
+/// The parts of each condition in its simplified form.
+pub fn simplified_parts<A: Heap>(
     alloc: A,
     conditions: &[MovableExpr<A>],
 ) -> Result<Conditions<A>, AllocError>
@@ -120,8 +126,8 @@ fn is_across<A: Heap>(condition: &MovableExpr<A>) -> bool
     }
 }
 
-// The equality with a literal that follows from `p` and `q` for the column of the other entry.
-fn consequence<A: Heap>(
+/// The equality with a literal that follows from `p` and `q` for the column of the other entry.
+pub fn consequence<A: Heap>(
     alloc: A,
     p: &MovableExpr<A>,
     q: &MovableExpr<A>,
@@ -134,15 +140,15 @@ fn consequence<A: Heap>(
     constant_of(alloc, p, q)
 }
 
-// True where the condition is one of the list.
-fn stands_in<A: Heap>(condition: &MovableExpr<A>, conditions: &[MovableExpr<A>]) -> bool
+/// True where the condition is one of the list.
+pub fn stands_in<A: Heap>(condition: &MovableExpr<A>, conditions: &[MovableExpr<A>]) -> bool
     ensures { result ≡ stands_in condition.now conditions.now }
 {
     conditions.iter().any(|other| is_same(condition.expression(), other.expression()))
 }
 
-// Adds the condition unless it is one of the list.
-fn push_condition<A: Heap>(
+/// Adds the condition unless it is one of the list.
+pub fn push_condition<A: Heap>(
     known: &mut Conditions<A>,
     condition: MovableExpr<A>,
 ) -> Result<(), AllocError>
@@ -155,7 +161,8 @@ fn push_condition<A: Heap>(
     }
 }
 
-fn push_any<A: Heap>(
+/// Adds a condition, if there is one, unless it is one of the list.
+pub fn push_any<A: Heap>(
     known: &mut Conditions<A>,
     condition: Option<MovableExpr<A>>,
 ) -> Result<(), AllocError>
@@ -182,7 +189,8 @@ fn push_consequences<A: Heap>(
     Ok(())
 }
 
-fn copies<A: Heap>(alloc: A, conditions: &[MovableExpr<A>]) -> Result<Conditions<A>, AllocError>
+/// Copies of the conditions.
+pub fn copies<A: Heap>(alloc: A, conditions: &[MovableExpr<A>]) -> Result<Conditions<A>, AllocError>
     ensures { IfOk result (λ l. l ≡ conditions.now) }
 {
     let mut all = Items::new(alloc);
@@ -192,8 +200,8 @@ fn copies<A: Heap>(alloc: A, conditions: &[MovableExpr<A>]) -> Result<Conditions
     Ok(all)
 }
 
-// The conditions, and the consequences of each two of them.
-fn with_consequences<A: Heap>(
+/// The conditions, and the consequences of each two of them.
+pub fn with_consequences<A: Heap>(
     alloc: A,
     conditions: &[MovableExpr<A>],
 ) -> Result<Conditions<A>, AllocError>
@@ -206,8 +214,8 @@ fn with_consequences<A: Heap>(
     Ok(known)
 }
 
-// The conditions that are not equal to an earlier one.
-fn without_repeats<A: Heap>(
+/// The conditions that are not equal to an earlier one.
+pub fn without_repeats<A: Heap>(
     alloc: A,
     conditions: &[MovableExpr<A>],
 ) -> Result<Conditions<A>, AllocError>
@@ -220,8 +228,8 @@ fn without_repeats<A: Heap>(
     Ok(known)
 }
 
-// True where there are more than a planning list may have.
-fn is_too_long<A: Heap>(conditions: &[MovableExpr<A>]) -> bool
+/// True where there are more than a planning list may have.
+pub fn is_too_long<A: Heap>(conditions: &[MovableExpr<A>]) -> bool
     ensures { result ≡ spec.is_too_long conditions.now }
 {
     conditions.len() > MOST_MEMBERS

@@ -1,0 +1,303 @@
+//! The steps from the written term of a query to the conditions of its planning list over the joins in the order of FROM.
+
+ghost use Rattle.std.specs.Prelude.{◌≡◌, ◌++◌, ◌-◌, [], ◌∷◌, IfOk, OnOk, length, map, option_copied, replicate, if◌then◌else◌};
+ghost use Rattle.expr.specs.View.{bound_query_of};
+ghost use Rattle.algebra.specs.PlanningList as planning;
+ghost use Rattle.algebra.specs.View.{step_of};
+ghost use Rattle.rewrite.specs.Simplifying as spec;
+ghost use Rattle.rewrite.specs.Trails.{at_root, at_root_with, below_filters};
+
+use algebra::Step;
+use expr::{BoundQuery, MovableExpr};
+use memory::{Heap, Items};
+use predicates::conjunct_count;
+use row_terms::Branch;
+use std::alloc::AllocError;
+
+/// Conditions that never fault.
+type Conditions<A> = Items<MovableExpr<A>, A>;
+
+/// Steps, the first one first.
+type Trail<A> = Items<Step<A>, A>;
+
+const SPLIT_FILTER: u64 = 1;
+
+const DROP_FILTER: u64 = 10;
+
+const ADD_CONSTANT: u64 = 12;
+
+const CARRY_NOT: u64 = 13;
+
+const FOLD_LITERALS: u64 = 14;
+
+/// The steps that simplify the conditions of a query, and the conditions to which they lead.
+#[derive(Drop)]
+pub struct Simplified<A: Heap> {
+    /// The steps, from the written term.
+    pub trail: Items<Step<A>, A>,
+    /// The planning list.
+    pub conditions: Items<MovableExpr<A>, A>,
+}
+
+// ---- steps
+
+// The path to the term below so many filters.
+fn filters_path<A: Heap>(alloc: A, depth: usize) -> Result<Items<Branch, A>, AllocError>
+    ensures { IfOk result (λ p. p ≡ replicate depth Branch.First) }
+{
+    let mut path = Items::new(alloc);
+    for _ in 0..depth {
+        path.push(Branch::First)?;
+    }
+    Ok(path)
+}
+
+// Adds a step without arguments below so many filters.
+fn push_step<A: Heap>(
+    alloc: A,
+    trail: &mut Trail<A>,
+    depth: usize,
+    rule: u64,
+) -> Result<(), AllocError>
+    ensures { OnOk result (map step_of trail.new ≡ map step_of trail.old ++ below_filters depth (at_root rule ∷ [])) }
+{
+    let path = filters_path(alloc, depth)?;
+    let arguments = Items::new(alloc);
+    trail.push(Step {
+        rule,
+        is_reverse: false,
+        path,
+        arguments,
+    })
+}
+
+// Adds the same step several times.
+fn push_repeated<A: Heap>(
+    alloc: A,
+    trail: &mut Trail<A>,
+    depth: usize,
+    count: usize,
+    rule: u64,
+) -> Result<(), AllocError>
+    ensures { OnOk result (map step_of trail.new ≡ map step_of trail.old ++ below_filters depth (spec.repeated count (at_root rule))) }
+{
+    for _ in 0..count {
+        push_step(alloc, trail, depth, rule)?;
+    }
+    Ok(())
+}
+
+// ---- each condition alone
+
+// Adds the steps that carry NOT inward and fold the literals of each condition.
+fn push_simplifying<A: Heap>(
+    alloc: A,
+    trail: &mut Trail<A>,
+    conditions: &[MovableExpr<A>],
+) -> Result<(), AllocError>
+    ensures { OnOk result (map step_of trail.new ≡ map step_of trail.old ++ spec.simplifying_each conditions.now) }
+{
+    let mut depth = conditions.len();
+    for _ in conditions {
+        depth -= 1;
+        push_step(alloc, trail, depth, CARRY_NOT)?;
+        push_step(alloc, trail, depth, FOLD_LITERALS)?;
+    }
+    Ok(())
+}
+
+// The number of the steps that part the condition.
+fn split_count<A: Heap>(condition: &MovableExpr<A>) -> usize
+    ensures { result ≡ length (planning.parts_of condition.now) - 1 }
+{
+    conjunct_count(condition).saturating_sub(1)
+}
+
+// Adds the steps that part each condition, in its simplified form.
+fn push_parting<A: Heap>(
+    alloc: A,
+    trail: &mut Trail<A>,
+    conditions: &[MovableExpr<A>],
+) -> Result<(), AllocError>
+    ensures { OnOk result (map step_of trail.new ≡ map step_of trail.old ++ spec.parting_each (map planning.simplified conditions.now)) }
+{
+    let mut depth = conditions.len();
+    for condition in conditions {
+        depth -= 1;
+        let form = algebra::simplified(alloc, condition)?;
+        push_repeated(alloc, trail, depth, split_count(&form), SPLIT_FILTER)?;
+    }
+    Ok(())
+}
+
+// ---- consequences
+
+// The number of a filter in the run from the top, of that index from below.
+fn from_top<A: Heap>(known: &[MovableExpr<A>], index: usize) -> u64
+    ensures { result ≡ spec.from_top known.now index }
+{
+    known.len().saturating_sub(1).saturating_sub(index) as u64
+}
+
+// Adds the step that adds a condition which follows from those of two indices.
+fn push_constant<A: Heap>(
+    alloc: A,
+    trail: &mut Trail<A>,
+    known: &[MovableExpr<A>],
+    i: usize,
+    j: usize,
+) -> Result<(), AllocError>
+    ensures { OnOk result (map step_of trail.new ≡ map step_of trail.old ++ at_root_with 12 (spec.from_top known.now i ∷ spec.from_top known.now j ∷ []) ∷ []) }
+{
+    let mut arguments = Items::new(alloc);
+    arguments.push(from_top(known, i))?;
+    arguments.push(from_top(known, j))?;
+    let path = Items::new(alloc);
+    trail.push(Step {
+        rule: ADD_CONSTANT,
+        is_reverse: false,
+        path,
+        arguments,
+    })
+}
+
+// The same, unless the condition is known.
+fn push_adding<A: Heap>(
+    alloc: A,
+    trail: &mut Trail<A>,
+    known: &[MovableExpr<A>],
+    condition: Option<&MovableExpr<A>>,
+    i: usize,
+    j: usize,
+) -> Result<(), AllocError>
+    ensures { OnOk result (map step_of trail.new ≡ map step_of trail.old ++ spec.adding known.now (option_copied condition.entry) i j) }
+{
+    match condition {
+        Some(condition) if !algebra::stands_in(condition, known) => {
+            push_constant(alloc, trail, known, i, j)
+        }
+        _ => Ok(()),
+    }
+}
+
+// Adds the steps that add the consequences of `p`, of that index, and each of the others, and adds these to the known conditions.
+fn push_adding_each<A: Heap>(
+    alloc: A,
+    trail: &mut Trail<A>,
+    known: &mut Conditions<A>,
+    i: usize,
+    p: &MovableExpr<A>,
+    others: &[MovableExpr<A>],
+) -> Result<(), AllocError>
+    ensures trail { OnOk result (map step_of trail.new ≡ map step_of trail.old ++ spec.adding_each known.old i p.now 0 others.now) }
+    ensures known { OnOk result (known.new ≡ planning.with_each known.old p.now others.now) }
+{
+    for (j, q) in others.iter().enumerate() {
+        let condition = algebra::consequence(alloc, p, q)?;
+        push_adding(alloc, trail, known.as_slice(), condition.as_ref(), i, j)?;
+        algebra::push_any(known, condition)?;
+    }
+    Ok(())
+}
+
+// Adds the steps that add the consequences of each two of the conditions.
+fn push_adding_all<A: Heap>(
+    alloc: A,
+    trail: &mut Trail<A>,
+    conditions: &[MovableExpr<A>],
+) -> Result<(), AllocError>
+    ensures { OnOk result (map step_of trail.new ≡ map step_of trail.old ++ spec.adding_all conditions.now 0 conditions.now conditions.now) }
+{
+    let mut known = algebra::copies(alloc, conditions)?;
+    for (i, p) in conditions.iter().enumerate() {
+        push_adding_each(alloc, trail, &mut known, i, p, conditions)?;
+    }
+    Ok(())
+}
+
+// ---- repetitions
+
+// Adds the step that drops a condition, where it repeats one below it.
+fn push_drop_if<A: Heap>(
+    alloc: A,
+    trail: &mut Trail<A>,
+    depth: usize,
+    is_repeated: bool,
+) -> Result<(), AllocError>
+    ensures { OnOk result (map step_of trail.new ≡ map step_of trail.old ++ (if is_repeated then below_filters depth (at_root 10 ∷ []) else [])) }
+{
+    if !is_repeated {
+        return Ok(());
+    }
+    push_step(alloc, trail, depth, DROP_FILTER)
+}
+
+// Adds the steps that drop each condition which repeats one below it.
+fn push_dropping<A: Heap>(
+    alloc: A,
+    trail: &mut Trail<A>,
+    conditions: &[MovableExpr<A>],
+) -> Result<(), AllocError>
+    ensures { OnOk result (map step_of trail.new ≡ map step_of trail.old ++ spec.dropping [] conditions.now) }
+{
+    let mut known = Items::new(alloc);
+    let mut depth = conditions.len();
+    for condition in conditions {
+        depth -= 1;
+        let is_repeated = algebra::stands_in(condition, known.as_slice());
+        push_drop_if(alloc, trail, depth, is_repeated)?;
+        algebra::push_condition(&mut known, condition.copy(alloc)?)?;
+    }
+    Ok(())
+}
+
+// ---- all of it
+
+// The steps from the written conditions to those that are left of all.
+fn simplifying_steps<A: Heap>(
+    alloc: A,
+    written: &[MovableExpr<A>],
+    parts: &[MovableExpr<A>],
+    all: &[MovableExpr<A>],
+) -> Result<Trail<A>, AllocError>
+    ensures { IfOk result (λ t. map step_of t ≡ spec.simplifying_steps written.now parts.now all.now) }
+{
+    let mut trail = Items::new(alloc);
+    push_simplifying(alloc, &mut trail, written)?;
+    push_parting(alloc, &mut trail, written)?;
+    push_adding_all(alloc, &mut trail, parts)?;
+    push_dropping(alloc, &mut trail, all)?;
+    Ok(trail)
+}
+
+// The written conditions, to which no step leads.
+fn as_written<A: Heap>(alloc: A, written: Conditions<A>) -> Simplified<A>
+    ensures trail { map step_of result.trail ≡ [] }
+    ensures conditions { result.conditions ≡ written }
+{
+    Simplified {
+        trail: Items::new(alloc),
+        conditions: written,
+    }
+}
+
+/// The steps that lead from the written term of a query to the conditions of its planning list over the joins in the order of
+/// FROM, and those conditions.
+pub fn simplify<A: Heap>(alloc: A, query: &BoundQuery<A>) -> Result<Simplified<A>, AllocError>
+    ensures trail { IfOk result (λ s. map step_of s.trail ≡ spec.simplifying (bound_query_of query.now)) }
+    ensures conditions { IfOk result (λ s. s.conditions ≡ planning.planning_list (bound_query_of query.now)) }
+{
+    let written = algebra::written_conditions(alloc, query)?;
+    let parts = algebra::simplified_parts(alloc, written.as_slice())?;
+    if algebra::is_too_long(parts.as_slice()) {
+        return Ok(as_written(alloc, written));
+    }
+    let all = algebra::with_consequences(alloc, parts.as_slice())?;
+    if algebra::is_too_long(all.as_slice()) {
+        return Ok(as_written(alloc, written));
+    }
+    Ok(Simplified {
+        trail: simplifying_steps(alloc, written.as_slice(), parts.as_slice(), all.as_slice())?,
+        conditions: algebra::without_repeats(alloc, all.as_slice())?,
+    })
+}
