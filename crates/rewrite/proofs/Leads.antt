@@ -1,0 +1,49 @@
+-- Steps after steps, and steps further down a term.
+use Rattle.std.proofs.Common.{◌≡◌, refl, ap, ◌∙◌, List, [], ◌∷◌, ◌++◌, length, Ok, Err}
+use Rattle.memory.specs.Results.{and_then}
+use Rattle.expr.specs.Bound.{BoundExpr}
+use Rattle.tuples.specs.Guards.{Guard}
+use Rattle.row_terms.specs.declared.path.Branch.{Branch}
+use Rattle.row_terms.specs.declared.path.Branch.TheVariants.{First, Second}
+use Rattle.row_terms.specs.Terms.{Term, Guarded, Filtered, Joined}
+use Rattle.row_terms.specs.Written.{filters}
+use Rattle.algebra.specs.Rewrites.{applied, inside}
+use Rattle.algebra.specs.Rules.{Outcome}
+use Rattle.algebra.specs.Steps.{Step}
+use Rattle.rewrite.specs.Trails.{led, down, all_down, below_filters}
+
+module _ (frame : List Guard) where
+  -- steps after steps
+  pub led_then : (ss ts : List Step) (x y : Term) → led frame ss x ≡ Ok y → led frame (ss ++ ts) x ≡ led frame ts y
+  led_then [] ts x y e = ap (λ o. and_then o (led frame ts)) e
+  led_then (s ∷ ss) ts x y e = go (applied frame s x) e
+    where
+      go : (o : Outcome) → and_then o (led frame ss) ≡ Ok y → and_then o (led frame (ss ++ ts)) ≡ led frame ts y
+      go (Ok z) h = led_then ss ts z y h
+      go (Err reason) h = cc
+
+  -- a step below a branch changes what the branch leads to
+  module _ (b : Branch) (f : Term → Term) (lifts : (s : Step) (x : Term) → applied frame (down b s) (f x) ≡ inside f (applied frame s x)) where
+    led_inside : (ss : List Step) (x y : Term) → led frame ss x ≡ Ok y → led frame (all_down b ss) (f x) ≡ Ok (f y)
+    led_inside [] x y e = ap (inside f) e
+    led_inside (s ∷ ss) x y e = ap (λ o. and_then o (led frame (all_down b ss))) (lifts s x) ∙ go (applied frame s x) e
+      where
+        go : (o : Outcome) → and_then o (led frame ss) ≡ Ok y → and_then (inside f o) (led frame (all_down b ss)) ≡ Ok (f y)
+        go (Ok z) h = led_inside ss z y h
+        go (Err reason) h = cc
+
+  pub led_filter : (e : BoundExpr) (ss : List Step) (x y : Term) → led frame ss x ≡ Ok y → led frame (all_down First ss) (Filtered e x) ≡ Ok (Filtered e y)
+  led_filter e = led_inside First (Filtered e) (λ s x. refl)
+
+  pub led_guard : (i : ℕ) (ss : List Step) (x y : Term) → led frame ss x ≡ Ok y → led frame (all_down First ss) (Guarded i x) ≡ Ok (Guarded i y)
+  led_guard i = led_inside First (Guarded i) (λ s x. refl)
+
+  pub led_left : (z : Term) (ss : List Step) (x y : Term) → led frame ss x ≡ Ok y → led frame (all_down First ss) (Joined x z) ≡ Ok (Joined y z)
+  led_left z = led_inside First (λ x. Joined x z) (λ s x. refl)
+
+  pub led_right : (z : Term) (ss : List Step) (x y : Term) → led frame ss x ≡ Ok y → led frame (all_down Second ss) (Joined z x) ≡ Ok (Joined z y)
+  led_right z = led_inside Second (Joined z) (λ s x. refl)
+
+  pub led_filters : (es : List BoundExpr) (ss : List Step) (x y : Term) → led frame ss x ≡ Ok y → led frame (below_filters (length es) ss) (filters es x) ≡ Ok (filters es y)
+  led_filters [] ss x y h = h
+  led_filters (e ∷ es) ss x y h = led_filters es (all_down First ss) (Filtered e x) (Filtered e y) (led_filter e ss x y h)

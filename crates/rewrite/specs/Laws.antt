@@ -1,0 +1,36 @@
+-- Where the trails of a planner lead.
+use Rattle.std.specs.Prelude.{◌≡◌, ◌≤◌, ℕ, true, List, ◌++◌, length, Ok}
+use Rattle.expr.specs.BoundQuery.{BoundQuery}
+use Rattle.expr.specs.Codes.{Code}
+use Rattle.expr.specs.Conjuncts.{movable_conjuncts}
+use Rattle.tuples.specs.Guards.{Guard}
+use Rattle.row_terms.specs.Written.{written, joins, filters}
+use Rattle.algebra.specs.PlanningList.{planning_list}
+use Rattle.trailcheck.specs.Admissible.{is_admissible}
+use Rattle.trailcheck.specs.Settings.{Setting}
+use Rattle.trailcheck.specs.Shapes.{shape}
+use Rattle.trailcheck.specs.Verdicts.{verdict}
+use Rattle.trailcheck.specs.declared.verdict.Verdict.TheVariants.{Accepted}
+use Rattle.rewrite.specs.Trails.{led}
+use Rattle.rewrite.specs.Simplifying.{simplifying}
+use Rattle.rewrite.specs.Placing.{placing}
+
+-- the first steps lead from the written term to the planning list over the joins in the order of FROM
+abbrev pub SimplifiesEach : Type 0
+SimplifiesEach = (frame : List Guard) (count : ℕ) (q : BoundQuery) → led frame (simplifying q) (written count q) ≡ Ok (filters (planning_list q) (joins count))
+
+-- and those that place them lead from there to the shape, of every admissible code
+abbrev pub PlacesEach : Type 0
+PlacesEach = (at : Setting) (code : Code) → is_admissible at code ≡ true → led at.frame (placing at code) (filters at.conditions (joins (length at.frame))) ≡ Ok (shape at code)
+
+abbrev pub most_entries : ℕ
+most_entries = 8
+
+abbrev pub most_conjuncts : ℕ
+most_conjuncts = 64
+
+-- the checker accepts both together, of a query within the limits
+abbrev pub PlansAreAccepted : Type 0
+PlansAreAccepted =
+    (at : Setting) (q : BoundQuery) (code : Code) → at.conditions ≡ planning_list q → length at.frame ≤ most_entries → length (movable_conjuncts q) ≤ most_conjuncts → is_admissible at code ≡ true
+    → verdict at (written (length at.frame) q) (simplifying q ++ placing at code) code ≡ Accepted

@@ -1,0 +1,4 @@
+pub mod Laws
+pub mod Placing
+pub mod Simplifying
+pub mod Trails
