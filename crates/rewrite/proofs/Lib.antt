@@ -1,1 +1,11 @@
+pub mod Distinct
+pub mod Emptied
 pub mod Leads
+pub mod Lengths
+pub mod Limited
+pub mod Opened
+pub mod Ordering
+pub mod Places
+pub mod Settled
+pub mod Sinking
+pub mod Tests

@@ -3,12 +3,13 @@ use Rattle.std.specs.Prelude.{ℕ, zero, suc, Bool, true, false, ◌==◌, ◌||
 use Rattle.std.specs.List.{range_with_len}
 use Rattle.tuples.specs.Guards.{Guard}
 use Rattle.expr.specs.Bound.{BoundExpr}
+use Rattle.expr.specs.declared.code.CodeStep.{CodeStep}
 use Rattle.expr.specs.Codes as codes
 use Rattle.expr.specs.Codes.{Code}
 use Rattle.predicates.specs.Equalities.{is_never_true}
 use Rattle.row_terms.specs.declared.path.Branch.TheVariants.{First, Second}
 use Rattle.row_terms.specs.Terms.{Term, Raw, Guarded, Filtered, Joined, Empty}
-use Rattle.row_terms.specs.Written.{guarded_entry, joins, filters}
+use Rattle.row_terms.specs.Written.{guarded_entry}
 use Rattle.algebra.specs.Rules.{is_open}
 use Rattle.algebra.specs.Runs.{reads_only}
 use Rattle.algebra.specs.Steps.{Step}
@@ -19,21 +20,16 @@ use Rattle.rewrite.specs.Trails.{at_root, all_down, below_filters}
 
 -- ---- the order of the entries; lists of entries have the last one first
 
--- the joins of the entries, each with those behind it in the list
+-- the joins of the entries, each with those after it in the list
 abbrev pub joined_back : List ℕ → Term
 joined_back [] = Empty []
 joined_back (i ∷ []) = guarded_entry i
 joined_back (i ∷ (j ∷ more)) = Joined (joined_back (j ∷ more)) (guarded_entry i)
 
--- an entry and the first of a list change places
-abbrev pub after_first : ℕ → List ℕ → List ℕ
-after_first i [] = i ∷ []
-after_first i (c ∷ rest) = c ∷ i ∷ rest
-
--- the list with the entry in front
-abbrev pub to_front : ℕ → List ℕ → List ℕ
-to_front c [] = []
-to_front c (i ∷ is) = if i == c then i ∷ is else after_first i (to_front c is)
+-- the list without the first such entry
+abbrev pub without : ℕ → List ℕ → List ℕ
+without c [] = []
+without c (i ∷ is) = if i == c then is else i ∷ without c is
 
 -- the step that lets an entry and the first of those below it change places
 abbrev pub exchanging : (below : List ℕ) → List Step
@@ -41,18 +37,15 @@ exchanging [] = []
 exchanging (j ∷ []) = at_root 6 ∷ []
 exchanging (j ∷ (k ∷ more)) = at_root 7 ∷ []
 
+-- the steps by which the entry becomes the last that is joined
 abbrev pub raising : ℕ → List ℕ → List Step
 raising c [] = []
 raising c (i ∷ is) = if i == c then [] else all_down First (raising c is) ++ exchanging is
 
-abbrev pub behind : List ℕ → List ℕ
-behind [] = []
-behind (i ∷ is) = is
-
 -- from the entries of the second list to those of the first
 abbrev pub ordering : (wanted : List ℕ) → List ℕ → List Step
 ordering [] is = []
-ordering (c ∷ cs) is = raising c is ++ all_down First (ordering cs (behind (to_front c is)))
+ordering (c ∷ cs) is = raising c is ++ all_down First (ordering cs (without c is))
 
 -- ---- guards that show all rows
 
@@ -130,7 +123,7 @@ module _ (at : Setting) where
   from_entries = reverse (range_with_len 0 (length at.frame))
 
   -- the entries of the steps of a code, the last first
-  abbrev pub code_entries : List codes.CodeStep → List ℕ
+  abbrev pub code_entries : List CodeStep → List ℕ
   code_entries ss = reverse (map entry_index ss)
 
   -- the entry's rows, under its guard unless that shows all

@@ -1,0 +1,6 @@
+//! The trail of a plan: the steps from the written term of a query to the shape of the plan's code.
+#![tactic(auto)]
+
+mod laws;
+
+pub use laws::law_places_each;
