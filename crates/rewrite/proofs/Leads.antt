@@ -1,5 +1,5 @@
 -- Steps after steps, and steps further down a term.
-use Rattle.std.proofs.Common.{◌≡◌, ℕ, refl, ap, ◌∙◌, List, [], ◌∷◌, ◌++◌, length, Ok, Err}
+use Rattle.std.proofs.Common.{◌≡◌, refl, ap, ◌∙◌, ℕ, Bool, true, false, List, [], ◌∷◌, ◌++◌, length, Ok, Err, if◌then◌else◌}
 use Rattle.memory.specs.Results.{and_then}
 use Rattle.expr.specs.Bound.{BoundExpr}
 use Rattle.tuples.specs.Guards.{Guard}
@@ -16,20 +16,25 @@ module _ (frame : List Guard) where
   -- steps after steps
   pub led_then : (ss ts : List Step) (x y : Term) → led frame ss x ≡ Ok y → led frame (ss ++ ts) x ≡ led frame ts y
   led_then [] ts x y e = ap (λ o. and_then o (led frame ts)) e
-  led_then (s ∷ ss) ts x y e = go (applied frame s x) e (led_then ss ts)
+  led_then (s ∷ ss) ts x y e = go (applied frame s x) e (λ z h. led_then ss ts z y h)
     where
-      go : (o : Outcome) → and_then o (led frame ss) ≡ Ok y → ((z w : Term) → led frame ss z ≡ Ok w → led frame (ss ++ ts) z ≡ led frame ts w) → and_then o (led frame (ss ++ ts)) ≡ led frame ts y
-      go (Ok z) h rest = rest z y h
+      go : (o : Outcome) → and_then o (led frame ss) ≡ Ok y → ((z : Term) → led frame ss z ≡ Ok y → led frame (ss ++ ts) z ≡ led frame ts y) → and_then o (led frame (ss ++ ts)) ≡ led frame ts y
+      go (Ok z) h rest = rest z h
       go (Err reason) h rest = absurd (cc)
+
+  -- steps that are there where a test holds
+  pub led_if : (b : Bool) (ss : List Step) (x y : Term) → led frame ss x ≡ Ok y → led frame (if b then ss else []) x ≡ Ok (if b then y else x)
+  led_if true ss x y h = h
+  led_if false ss x y h = refl
 
   -- a step below a branch changes what the branch leads to
   module _ (b : Branch) (f : Term → Term) (lifts : (s : Step) (x : Term) → applied frame (down b s) (f x) ≡ inside f (applied frame s x)) where
     led_inside : (ss : List Step) (x y : Term) → led frame ss x ≡ Ok y → led frame (all_down b ss) (f x) ≡ Ok (f y)
     led_inside [] x y e = ap (inside f) e
-    led_inside (s ∷ ss) x y e = ap (λ o. and_then o (led frame (all_down b ss))) (lifts s x) ∙ go (applied frame s x) e (led_inside ss)
+    led_inside (s ∷ ss) x y e = ap (λ o. and_then o (led frame (all_down b ss))) (lifts s x) ∙ go (applied frame s x) e (λ z h. led_inside ss z y h)
       where
-        go : (o : Outcome) → and_then o (led frame ss) ≡ Ok y → ((z w : Term) → led frame ss z ≡ Ok w → led frame (all_down b ss) (f z) ≡ Ok (f w)) → and_then (inside f o) (led frame (all_down b ss)) ≡ Ok (f y)
-        go (Ok z) h rest = rest z y h
+        go : (o : Outcome) → and_then o (led frame ss) ≡ Ok y → ((z : Term) → led frame ss z ≡ Ok y → led frame (all_down b ss) (f z) ≡ Ok (f y)) → and_then (inside f o) (led frame (all_down b ss)) ≡ Ok (f y)
+        go (Ok z) h rest = rest z h
         go (Err reason) h rest = absurd (cc)
 
   pub led_filter : (e : BoundExpr) (ss : List Step) (x y : Term) → led frame ss x ≡ Ok y → led frame (all_down First ss) (Filtered e x) ≡ Ok (Filtered e y)

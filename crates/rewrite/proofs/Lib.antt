@@ -1,6 +1,16 @@
+pub mod Distinct
+pub mod Emptied
 pub mod Leads
+pub mod Lengths
+pub mod Limited
+pub mod Opened
+pub mod Ordering
+pub mod Places
+pub mod Settled
 pub mod SimplifiedKnown
 pub mod SimplifiedLength
 pub mod SimplifiedParts
 pub mod SimplifiedTerm
 pub mod SimplifyingSteps
+pub mod Sinking
+pub mod Tests

@@ -20,21 +20,16 @@ use Rattle.rewrite.specs.Trails.{at_root, all_down, below_filters}
 
 -- ---- the order of the entries; lists of entries have the last one first
 
--- the joins of the entries, each with those behind it in the list
+-- the joins of the entries, each with those after it in the list
 abbrev pub joined_back : List ℕ → Term
 joined_back [] = Empty []
 joined_back (i ∷ []) = guarded_entry i
 joined_back (i ∷ (j ∷ more)) = Joined (joined_back (j ∷ more)) (guarded_entry i)
 
--- an entry and the first of a list change places
-abbrev pub after_first : ℕ → List ℕ → List ℕ
-after_first i [] = i ∷ []
-after_first i (c ∷ rest) = c ∷ i ∷ rest
-
--- the list with the entry in front
-abbrev pub to_front : ℕ → List ℕ → List ℕ
-to_front c [] = []
-to_front c (i ∷ is) = if i == c then i ∷ is else after_first i (to_front c is)
+-- the list without the first such entry
+abbrev pub without : ℕ → List ℕ → List ℕ
+without c [] = []
+without c (i ∷ is) = if i == c then is else i ∷ without c is
 
 -- the step that lets an entry and the first of those below it change places
 abbrev pub exchanging : (below : List ℕ) → List Step
@@ -42,18 +37,15 @@ exchanging [] = []
 exchanging (j ∷ []) = at_root 6 ∷ []
 exchanging (j ∷ (k ∷ more)) = at_root 7 ∷ []
 
+-- the steps by which the entry becomes the last that is joined
 abbrev pub raising : ℕ → List ℕ → List Step
 raising c [] = []
 raising c (i ∷ is) = if i == c then [] else all_down First (raising c is) ++ exchanging is
 
-abbrev pub behind : List ℕ → List ℕ
-behind [] = []
-behind (i ∷ is) = is
-
 -- from the entries of the second list to those of the first
 abbrev pub ordering : (wanted : List ℕ) → List ℕ → List Step
 ordering [] is = []
-ordering (c ∷ cs) is = raising c is ++ all_down First (ordering cs (behind (to_front c is)))
+ordering (c ∷ cs) is = raising c is ++ all_down First (ordering cs (without c is))
 
 -- ---- guards that show all rows
 

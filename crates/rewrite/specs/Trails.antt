@@ -32,3 +32,8 @@ all_down b steps = map (down b) steps
 abbrev pub below_filters : ℕ → List Step → List Step
 below_filters zero steps = steps
 below_filters (suc n) steps = below_filters n (all_down First steps)
+
+-- steps at the same nodes of the term below a path
+abbrev pub below_path : List Branch → List Step → List Step
+below_path [] steps = steps
+below_path (b ∷ path) steps = all_down b (below_path path steps)

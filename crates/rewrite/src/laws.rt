@@ -1,8 +1,13 @@
-//! Laws of the steps of a planner.
+//! Laws of the trails of a planner.
 
-ghost use Rattle.rewrite.specs.Laws.{SimplifiesEach};
+ghost use Rattle.rewrite.specs.Laws.{PlacesEach, SimplifiesEach};
 
 /// The steps of simplifying lead from the written term of each query to its planning list over the joins in the order of FROM.
 pub fn law_simplifies_each()
     ensures { SimplifiesEach }
+{}
+
+/// The steps that place the conditions of the planning list lead to the shape of every admissible code.
+pub fn law_places_each()
+    ensures { PlacesEach }
 {}

@@ -1,8 +1,8 @@
-//! The steps of a planner: those that simplify the conditions of a query.
+//! The trail of a plan: the steps from the written term of a query to the shape of the plan's code.
 #![tactic(auto)]
 
 mod laws;
 mod simplifying;
 
-pub use laws::law_simplifies_each;
+pub use laws::{law_places_each, law_simplifies_each};
 pub use simplifying::{Simplified, simplify};
