@@ -20,4 +20,5 @@ pub use planning::{
     consequence, copies, is_too_long, planning_list, push_any, push_condition, simplified,
     simplified_parts, stands_in, with_consequences, without_repeats, written_conditions,
 };
+pub use runs::reads_only;
 pub use step::{Reason, Rewrite, Step, rewrite_of};
