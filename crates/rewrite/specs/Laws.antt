@@ -5,6 +5,7 @@ use Rattle.expr.specs.Codes.{Code}
 use Rattle.expr.specs.Conjuncts.{movable_conjuncts}
 use Rattle.tuples.specs.Guards.{Guard}
 use Rattle.row_terms.specs.Written.{written, joins, filters}
+use Rattle.algebra.specs.Keeping.{MeanSame}
 use Rattle.algebra.specs.PlanningList.{planning_list}
 use Rattle.trailcheck.specs.Admissible.{is_admissible}
 use Rattle.trailcheck.specs.Settings.{Setting}
@@ -22,6 +23,10 @@ SimplifiesEach = (frame : List Guard) (count : ℕ) (q : BoundQuery) → led fra
 -- and those that place them lead from there to the shape, of every admissible code
 abbrev pub PlacesEach : Type 0
 PlacesEach = (at : Setting) (code : Code) → is_admissible at code ≡ true → led at.frame (placing at code) (filters at.conditions (joins (length at.frame))) ≡ Ok (shape at code)
+
+-- so the shape of an admissible code means the bag of the written term, in every content
+abbrev pub ShapesMeanSame : Type 0
+ShapesMeanSame = (at : Setting) (q : BoundQuery) (code : Code) → at.conditions ≡ planning_list q → is_admissible at code ≡ true → MeanSame at.frame (written (length at.frame) q) (shape at code)
 
 abbrev pub most_entries : ℕ
 most_entries = 8

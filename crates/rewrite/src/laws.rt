@@ -1,6 +1,8 @@
 //! Laws of the trails of a planner.
 
-ghost use Rattle.rewrite.specs.Laws.{PlacesEach, SimplifiesEach};
+ghost use Rattle.rewrite.specs.Laws.{PlacesEach, ShapesMeanSame, SimplifiesEach};
+
+use predicates::law_offsets_keep_value;
 
 /// The steps of simplifying lead from the written term of each query to its planning list over the joins in the order of FROM.
 pub fn law_simplifies_each()
@@ -11,3 +13,11 @@ pub fn law_simplifies_each()
 pub fn law_places_each()
     ensures { PlacesEach }
 {}
+
+/// The shape of an admissible code means the same bag of combinations as the written term of the query, in every content of
+/// the tables.
+pub fn law_shapes_mean_same()
+    ensures { ShapesMeanSame }
+{
+    law_offsets_keep_value();
+}

@@ -4,5 +4,5 @@
 mod laws;
 mod simplifying;
 
-pub use laws::{law_places_each, law_simplifies_each};
+pub use laws::{law_places_each, law_shapes_mean_same, law_simplifies_each};
 pub use simplifying::{Simplified, simplify};

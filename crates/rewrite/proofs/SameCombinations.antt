@@ -1,0 +1,78 @@
+-- The combinations of the shape of a plan are those of the written term.
+use Rattle.std.proofs.Common.{◌≡◌, ◌∙◌, refl, sym, ap, subst, ℕ, zero, suc, ◌<◌, Bool, true, false, ◌&&◌, List, [], ◌∷◌, ◌++◌, map, length, Result, Ok, Err}
+use Rattle.std.specs.List.Sorted.{IsPermutation}
+use Rattle.std.proofs.lemmas.List.{length-map}
+use Rattle.std.proofs.lemmas.List.Sorted.{IsPermutation-refl, IsPermutation-sym, IsPermutation-trans, IsPermutation-map}
+use Rattle.memory.specs.Results.{and_then}
+use Rattle.expr.specs.Bound.{BoundExpr}
+use Rattle.expr.specs.BoundQuery.{BoundQuery}
+use Rattle.expr.specs.Codes.{Code}
+use Rattle.expr.specs.Conjuncts.{conjuncts, movable_conjuncts}
+use Rattle.expr.specs.Movable.{movable}
+use Rattle.eval.proofs.Movables.{and_left, and_right}
+use Rattle.bags.proofs.Members.{Each, each-passes}
+use Rattle.predicates.specs.Laws.{OffsetsKeepValue}
+use Rattle.predicates.specs.Offsets.{without_offsets}
+use Rattle.predicates.proofs.Keeping.{both}
+use Rattle.tuples.specs.Guards.{Guard}
+use Rattle.tuples.specs.World.{World}
+use Rattle.row_terms.specs.Terms.{Term, Filtered, Joined}
+use Rattle.row_terms.specs.Means.{mean}
+use Rattle.row_terms.specs.Written.{joins, filters, written}
+use Rattle.algebra.specs.Keeping.{MeanSame, is_movable_term}
+use Rattle.algebra.specs.PlanningList.{planning_list}
+use Rattle.algebra.specs.Rewrites.{applied}
+use Rattle.algebra.specs.Rules.{Outcome}
+use Rattle.algebra.specs.Steps.{Step}
+use Rattle.algebra.proofs.Law.{steps_keep}
+use Rattle.trailcheck.specs.Admissible.{is_admissible}
+use Rattle.trailcheck.specs.Settings.{Setting}
+use Rattle.trailcheck.specs.Shapes.{shape}
+use Rattle.rewrite.specs.Trails.{led}
+use Rattle.rewrite.specs.Laws.{ShapesMeanSame}
+use Rattle.rewrite.specs.Placing.{placing}
+use Rattle.rewrite.specs.Simplifying.{simplifying}
+use Rattle.rewrite.proofs.Leads.{led_then}
+use Rattle.rewrite.proofs.Places.{places_each}
+use Rattle.rewrite.proofs.SimplifiedTerm.{simplifies_each}
+
+-- ---- no condition of the written term can fault
+
+joins_movable : (n : ℕ) → is_movable_term (joins n) ≡ true
+joins_movable zero = refl
+joins_movable (suc zero) = refl
+joins_movable (suc (suc n)) = both (is_movable_term (joins (suc n))) true (joins_movable (suc n)) refl
+
+filters_movable : (kept : OffsetsKeepValue) (es : List BoundExpr) → Each (λ e. movable e ≡ true) es → (x : Term) → is_movable_term x ≡ true → is_movable_term (filters (map without_offsets es) x) ≡ true
+filters_movable kept [] h x m = m
+filters_movable kept (e ∷ es) h x m = filters_movable kept es h.1 (Filtered (without_offsets e) x) (both (movable (without_offsets e)) (is_movable_term x) (kept.stays_movable e h.0) m)
+
+written_movable : OffsetsKeepValue → (n : ℕ) (q : BoundQuery) → is_movable_term (written n q) ≡ true
+written_movable kept n q = filters_movable kept (movable_conjuncts q) (each-passes movable (conjuncts q)) (joins n) (joins_movable n)
+
+-- ---- steps keep the bag
+
+is_made : (x y : Term) → ◌≡◌ {A = Outcome} (Ok x) (Ok y) → x ≡ y
+is_made x y h = cc
+
+led_keeps : (frame : List Guard) (ss : List Step) (x y : Term) → is_movable_term x ≡ true → led frame ss x ≡ Ok y → MeanSame frame x y
+led_keeps frame [] x y m h = λ w has. subst (λ z. IsPermutation (mean w x) (mean w z)) (is_made x y h) (IsPermutation-refl (mean w x))
+led_keeps frame (s ∷ ss) x y m h = at (applied frame s x) refl h (λ z n k. led_keeps frame ss z y n k)
+  where
+    at : (o : Outcome) → applied frame s x ≡ o → and_then o (led frame ss) ≡ Ok y → ((z : Term) → is_movable_term z ≡ true → led frame ss z ≡ Ok y → MeanSame frame z y) → MeanSame frame x y
+    at (Ok z) e k rest =
+        let kept = steps_keep frame s x z m e in
+        λ w has. IsPermutation-trans (mean w x) (mean w z) (mean w y) (kept.1 w has) (rest z kept.0 k w has)
+    at (Err reason) e k rest = absurd (cc)
+
+-- ---- from the written term to the shape
+
+module _ (at : Setting) (q : BoundQuery) (code : Code) (listed : at.conditions ≡ planning_list q) (fits : is_admissible at code ≡ true) where
+  placed : led at.frame (placing at code) (filters (planning_list q) (joins (length at.frame))) ≡ Ok (shape at code)
+  placed = ap (λ es. led at.frame (placing at code) (filters es (joins (length at.frame)))) (sym listed) ∙ places_each at code fits
+
+  whole : led at.frame (simplifying q ++ placing at code) (written (length at.frame) q) ≡ Ok (shape at code)
+  whole = led_then at.frame (simplifying q) (placing at code) (written (length at.frame) q) (filters (planning_list q) (joins (length at.frame))) (simplifies_each at.frame (length at.frame) q) ∙ placed
+
+pub shapes_mean_same : OffsetsKeepValue → ShapesMeanSame
+shapes_mean_same kept at q code listed fits = led_keeps at.frame (simplifying q ++ placing at code) (written (length at.frame) q) (shape at code) (written_movable kept (length at.frame) q) (whole at q code listed fits)
