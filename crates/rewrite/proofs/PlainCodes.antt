@@ -1,18 +1,16 @@
 -- The least plain code: a plan may have it, and no other plain one comes before it.
-use Rattle.std.proofs.Common.{◌≡◌, ◌∙◌, refl, sym, ap, ℕ, zero, suc, ◌+◌, ◌-◌, ◌<◌, ◌≤◌, ◌⊎◌, inl, inr, Bool, true, false, ◌&&◌, ◌||◌, not, cond, ◌==◌, nat_lt, nat_le, List, [], ◌∷◌, ◌++◌, length, Option, Some, None, Ordering, arith, append-nil, append_assoc, zero-add, length-append}
+use Rattle.std.proofs.Common.{◌≡◌, ◌∙◌, refl, sym, ap, ℕ, zero, suc, ◌+◌, ◌-◌, ◌<◌, ◌≤◌, ◌⊎◌, inl, inr, Bool, true, false, ◌&&◌, ◌||◌, not, cond, ◌==◌, nat_le, List, [], ◌∷◌, ◌++◌, length, Option, Some, None, Ordering, arith, append-nil, append_assoc, zero-add, length-append}
 use Rattle.std.specs.declared.cmp.Ordering.TheVariants.{Less, Equal, Greater}
-use Rattle.std.specs.List.{find, list_all, list_any, range_with_len}
-use Rattle.std.specs.Ordering.{nat_cmp}
-use Rattle.std.proofs.lemmas.Bool.{both_ways, cases_order, eqb-true, eq-eqb, leb-true, le-leb, lt-ltb, le-ltb, ltb-true, ne_eqb, not-true, not_from_false, not_from_true, or_left, or_right, or_from, or_cases}
-use Rattle.std.specs.List.{flat_map}
-use Rattle.std.specs.Ordering.{ordering_then}
+use Rattle.std.specs.List.{find, flat_map, list_all, list_any, range_with_len}
+use Rattle.std.specs.Ordering.{nat_cmp, ordering_then}
+use Rattle.std.proofs.lemmas.Bool.{both_ways, cases_order, eqb-true, eq-eqb, leb-true, le-leb, le-ltb, ne_eqb, not-true, not_from_false, or_left, or_right, or_from, or_cases}
 use Rattle.std.specs.Cmp.Lexicographic.{slice_cmp}
 use Rattle.expr.specs.declared.code.Access.{Access}
 use Rattle.expr.specs.declared.code.Access.TheVariants.{Full, Index, Range}
 use Rattle.expr.specs.declared.code.Method.{Method}
 use Rattle.expr.specs.declared.code.Method.TheVariants.{Nested, Hash, Merge}
 use Rattle.expr.specs.declared.code.CodeStep.{CodeStep}
-use Rattle.expr.specs.Codes.{Code, Empty, Steps, step_numbers, code_cmp}
+use Rattle.expr.specs.Codes.{Empty, Steps, step_numbers, code_cmp}
 use Rattle.eval.proofs.Movables.{and_left, and_right}
 use Rattle.predicates.proofs.Keeping.{both}
 use Rattle.trailcheck.specs.Admissible.{is_refuted, is_joined, is_waiting, some_waiting, is_connected, is_next, is_allowed_access, is_allowed_method, is_allowed_step, are_allowed_steps, is_admissible}
@@ -20,14 +18,14 @@ use Rattle.trailcheck.specs.Entries.{is_among}
 use Rattle.trailcheck.specs.Settings.{Setting}
 use Rattle.trailcheck.specs.Shapes.{entry_index}
 use Rattle.rewrite.specs.Placing.{without}
-use Rattle.rewrite.specs.Plain.{reads_all, is_nested, is_plain_step, is_plain, plain_step, steps_from, may_follow, next_entry, plain_steps, plain_code, PlainIsAdmissible, IsPlainCode, PlainIsLeast}
+use Rattle.rewrite.specs.Plain.{reads_all, is_nested, is_plain_step, is_plain, plain_step, steps_from, may_follow, next_entry, plain_steps, PlainIsAdmissible, IsPlainCode, PlainIsLeast}
 use Rattle.rewrite.proofs.Distinct.{Distinct, length-without, without_have}
 
 -- ---- the first number that passes a test
 
 module _ {X : Type 0} where
   -- where some passes, one is found
-  pub found : (p : X → Bool) (xs : List X) → list_any p xs ≡ true → (x : X) × (find p xs ≡ Some x)
+  found : (p : X → Bool) (xs : List X) → list_any p xs ≡ true → (x : X) × (find p xs ≡ Some x)
   found p [] h = absurd (cc)
   found p (x ∷ xs) h = go (p x) refl h (found p xs)
     where
@@ -36,7 +34,7 @@ module _ {X : Type 0} where
       go false e k rest = rest k
 
   -- where some passes, it passes each test that follows
-  pub any_follows : (p r : X → Bool) → ((x : X) → p x ≡ true → r x ≡ true) → (xs : List X) → list_any p xs ≡ true → list_any r xs ≡ true
+  any_follows : (p r : X → Bool) → ((x : X) → p x ≡ true → r x ≡ true) → (xs : List X) → list_any p xs ≡ true → list_any r xs ≡ true
   any_follows p r f [] h = h
   any_follows p r f (x ∷ xs) h = go (or_cases (p x) (list_any p xs) h) (any_follows p r f xs)
     where
@@ -45,7 +43,7 @@ module _ {X : Type 0} where
       go (inr there) rest = or_right (r x) (list_any r xs) (rest there)
 
   -- all pass, or some does not
-  pub all_or_some : (p : X → Bool) (xs : List X) → (list_all p xs ≡ true) ⊎ (list_any (λ x. not (p x)) xs ≡ true)
+  all_or_some : (p : X → Bool) (xs : List X) → (list_all p xs ≡ true) ⊎ (list_any (λ x. not (p x)) xs ≡ true)
   all_or_some p [] = inl refl
   all_or_some p (x ∷ xs) = go (p x) (all_or_some p xs)
     where
@@ -60,7 +58,7 @@ pub record IsFirst (p : ℕ → Bool) (a n i : ℕ) : Type 0 where
   pub passes : p i ≡ true
   pub least : (k : ℕ) → a ≤ k → k < a + n → p k ≡ true → i ≤ k
 
-pub first_found : (p : ℕ → Bool) (a n i : ℕ) → find p (range_with_len a n) ≡ Some i → IsFirst p a n i
+first_found : (p : ℕ → Bool) (a n i : ℕ) → find p (range_with_len a n) ≡ Some i → IsFirst p a n i
 first_found p a zero i h = absurd (cc)
 first_found p a (suc n) i h = go (p a) refl h (first_found p (a + 1) n i)
   where
@@ -82,8 +80,6 @@ first_found p a (suc n) i h = go (p a) refl h (first_found p (a + 1) n i)
         at_least m from below passes least (inr (inl less)) = least m (omega arith) (omega arith) passes
         at_least m from below passes least (inr (inr more)) = absurd (omega arith)
 
--- ---- the search for it
-
 -- the next number does not pass the test
 module _ (p : ℕ → Bool) (count k : ℕ) (whole : Option ℕ) (so_far : find p (range_with_len k (count - k)) ≡ whole) (more : k < count) where
   here : find p (range_with_len k (count - k)) ≡ cond (p k) (Some k) (find p (range_with_len (k + 1) (count - (k + 1))))
@@ -91,9 +87,6 @@ module _ (p : ℕ → Bool) (count k : ℕ) (whole : Option ℕ) (so_far : find 
 
   pub not_yet : p k ≡ false → find p (range_with_len (k + 1) (count - (k + 1))) ≡ whole
   not_yet fails = sym (here ∙ ap (λ b. cond b (Some k) (find p (range_with_len (k + 1) (count - (k + 1))))) fails) ∙ so_far
-
-  pub now_found : p k ≡ true → Some k ≡ whole
-  now_found passes = sym (here ∙ ap (λ b. cond b (Some k) (find p (range_with_len (k + 1) (count - (k + 1))))) passes) ∙ so_far
 
 -- ---- entries that have no place
 
@@ -261,8 +254,8 @@ module _ (at : Setting) where
       go (next_entry at placed) refl (λ i. steps_are_least n (placed ++ i ∷ []) ss (omega arith)) (as_plain s (and_left (is_plain_step s) (list_all is_plain_step ss) p)) h
     where
       go : (next : Option ℕ) → next_entry at placed ≡ next
-        → ((i : ℕ) → are_allowed_steps at (placed ++ i ∷ []) ss ≡ true → list_all is_plain_step ss ≡ true → slice_cmp nat_cmp (numbers ss) (numbers (plain_steps at n (placed ++ i ∷ []))) ≡ Less → ⊥)
-        → s ≡ the_step s.entry Full Nested → slice_cmp nat_cmp (numbers (s ∷ ss)) (numbers (steps_from (plain_steps at n) placed next)) ≡ Less → ⊥
+          → ((i : ℕ) → are_allowed_steps at (placed ++ i ∷ []) ss ≡ true → list_all is_plain_step ss ≡ true → slice_cmp nat_cmp (numbers ss) (numbers (plain_steps at n (placed ++ i ∷ []))) ≡ Less → ⊥)
+          → s ≡ the_step s.entry Full Nested → slice_cmp nat_cmp (numbers (s ∷ ss)) (numbers (steps_from (plain_steps at n) placed next)) ≡ Less → ⊥
       go None e rest shape k = cc
       go (Some i) e rest shape k =
           let step = and_left (is_allowed_step at placed s) (are_allowed_steps at (placed ++ entry_index s ∷ []) ss) a in
@@ -289,6 +282,7 @@ plain_is_least at (Steps ss) admissible plain h = go (is_refuted at) refl h
   where
     steps : Bool
     steps = (length ss == length at.frame) && are_allowed_steps at [] ss
+
     go : (b : Bool) → is_refuted at ≡ b → code_cmp (Steps ss) (cond b Empty (Steps (plain_steps at (length at.frame) []))) ≡ Less → ⊥
     go true e k = both_ways (is_refuted at) (not-true (is_refuted at) (and_left (not (is_refuted at)) steps admissible)) e
     go false e k =

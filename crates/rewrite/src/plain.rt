@@ -130,10 +130,7 @@ fn plain_step(entry: usize) -> CodeStep
 }
 
 // The steps of all entries.
-fn plain_steps<A: Heap>(
-    alloc: A,
-    setting: &Setting<A>,
-) -> Result<Items<CodeStep, A>, AllocError>
+fn plain_steps<A: Heap>(alloc: A, setting: &Setting<A>) -> Result<Items<CodeStep, A>, AllocError>
     ensures { IfOk result (λ steps. steps ≡ spec.plain_steps (setting_of setting.now) (length setting.now.frame) []) }
 {
     let mut placed = Items::new(alloc);

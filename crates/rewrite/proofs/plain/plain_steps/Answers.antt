@@ -1,4 +1,4 @@
-use Rattle.std.proofs.Common.{◌≡◌, ◌∙◌, ap, Some, None, arith, []}
+use Rattle.std.proofs.Common.{◌≡◌, Some, None, arith}
 use Rattle.std.proofs.lemmas.List.{length-map}
 use Rattle.tuples.specs.View.{guard_of}
 use Rattle.trailcheck.specs.View.{setting_of}
@@ -10,8 +10,7 @@ pub returns-in_default : goal.returns-in_default
 returns-in_default g c =
     let at = setting_of c.args.setting.now in
     let none : spec.next_entry at c.loop.placed ≡ None = cc (c.in_ok-entry.ensures, c.as_slice.ensures, c.in_default.is) in
-    no_more at c.loop.steps c.len-count.result c.loop.counter c.loop.placed _ c.loop.invariant c.loop-test.true none
-    ∙ ap (λ n. spec.plain_steps at n []) c.len-count.ensures
+    rw (← c.len-count.ensures) (no_more at c.loop.steps c.len-count.result c.loop.counter c.loop.placed _ c.loop.invariant c.loop-test.true none)
 
 pub plain_step-requires : goal.plain_step-requires
 plain_step-requires g c =
