@@ -1,6 +1,7 @@
 //! Laws of the trails of a planner.
 
 ghost use Rattle.rewrite.specs.Laws.{PlacesEach, ShapesMeanSame, SimplifiesEach};
+ghost use Rattle.rewrite.specs.Plain.{IsPlainCode, PlainIsAdmissible, PlainIsLeast};
 
 use predicates::law_offsets_keep_value;
 
@@ -21,3 +22,10 @@ pub fn law_shapes_mean_same()
 {
     law_offsets_keep_value();
 }
+
+/// A plan may have the plain code, which has full scans and nested joins alone, and no other such code comes before it.
+pub fn law_plain_code_is_least()
+    ensures admissible { PlainIsAdmissible }
+    ensures plain { IsPlainCode }
+    ensures least { PlainIsLeast }
+{}

@@ -2,7 +2,11 @@
 #![tactic(auto)]
 
 mod laws;
+mod plain;
 mod simplifying;
 
-pub use laws::{law_places_each, law_shapes_mean_same, law_simplifies_each};
+pub use laws::{
+    law_places_each, law_plain_code_is_least, law_shapes_mean_same, law_simplifies_each,
+};
+pub use plain::plain_code;
 pub use simplifying::{Simplified, simplify};
