@@ -17,4 +17,5 @@ mod two_filters;
 pub use applying::apply;
 pub use laws::law_steps_keep;
 pub use planning::planning_list;
+pub use runs::reads_only;
 pub use step::{Reason, Rewrite, Step, rewrite_of};

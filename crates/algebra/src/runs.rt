@@ -52,7 +52,7 @@ fn covers_all<A: Heap>(term: &Term<A>, columns: &[ColumnId]) -> bool
 }
 
 /// True where each entry that the condition names is one of the term.
-pub(crate) fn reads_only<A: Heap>(
+pub fn reads_only<A: Heap>(
     alloc: A,
     term: &Term<A>,
     condition: &MovableExpr<A>,

@@ -1,6 +1,12 @@
 //! The trail of a plan: the steps from the written term of a query to the shape of the plan's code.
 #![tactic(auto)]
 
+mod arranging;
 mod laws;
+mod nodes;
+mod placing;
+mod settling;
+mod steps;
 
 pub use laws::law_places_each;
+pub use placing::place;
