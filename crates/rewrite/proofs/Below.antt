@@ -1,5 +1,5 @@
 -- Steps below a path.
-use Rattle.std.proofs.Common.{◌≡◌, ◌∙◌, refl, sym, ap, ℕ, zero, suc, ◌+◌, false, List, [], ◌∷◌, ◌++◌, map, replicate, append_assoc, append-nil, arith}
+use Rattle.std.proofs.Common.{OnOk, Result, Ok, Err, ◌≡◌, ◌∙◌, refl, sym, ap, ℕ, zero, suc, ◌+◌, false, List, [], ◌∷◌, ◌++◌, map, replicate, append_assoc, append-nil, arith}
 use Rattle.std.proofs.lemmas.List.{map-append, replicate_more}
 use Rattle.row_terms.specs.declared.path.Branch.{Branch}
 use Rattle.row_terms.specs.declared.path.Branch.TheVariants.{First}
@@ -36,8 +36,8 @@ filters_below (suc n) ss =
 -- ---- a trail that steps below a path are added to
 
 module _ (path : List Branch) (old : List Step) where
-  pub none_added : old ≡ old ++ below_path path []
-  none_added = sym (append-nil old) ∙ ap (λ l. old ++ l) (sym (below_none path))
+  pub none_added : (whole : List Step) → whole ≡ [] → old ≡ old ++ below_path path whole
+  none_added whole none = sym (append-nil old) ∙ ap (λ l. old ++ l) (sym (below_none path)) ∙ ap (λ ss. old ++ below_path path ss) (sym none)
 
   pub both_added : (ss ts mid new : List Step) → mid ≡ old ++ below_path path ss → new ≡ mid ++ below_path path ts → new ≡ old ++ below_path path (ss ++ ts)
   both_added ss ts mid new m n =
@@ -48,3 +48,11 @@ module _ (path : List Branch) (old : List Step) where
       new ≡ old ++ below_path path (at_root rule ∷ all_down b ss)
   step_added rule b ss deeper mid new m d n =
       both_added (at_root rule ∷ []) (all_down b ss) mid new m (n ∙ ap (λ p. mid ++ below_path p ss) d ∙ ap (λ l. mid ++ l) (below_further path b ss))
+
+-- a call that adds no step
+pub where_ok : {T E P : Type 0} (r : Result T E) → P → OnOk r P
+where_ok (Ok x) p = p
+where_ok (Err e) p = tt
+
+pub none_added_ok : {T E : Type 0} (r : Result T E) (path : List Branch) (old whole : List Step) → whole ≡ [] → OnOk r (old ≡ old ++ below_path path whole)
+none_added_ok r path old whole none = where_ok r (none_added path old whole none)

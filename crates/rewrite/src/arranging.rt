@@ -1,6 +1,6 @@
 //! The joins in the order of a code, with a guard only where it hides a row.
 
-ghost use Rattle.std.specs.Prelude.{◌≡◌, ◌++◌, IfOk, OnOk, map, reverse};
+ghost use Rattle.std.specs.Prelude.{◌≡◌, ◌==◌, ◌++◌, IfOk, OnOk, map, position, reverse};
 ghost use Rattle.std.specs.List.{range_with_len};
 ghost use Rattle.tuples.specs.View.{guard_of};
 ghost use Rattle.row_terms.specs.View.{term_of};
@@ -47,6 +47,13 @@ pub(crate) fn code_entries<A: Heap>(
     Ok(entries)
 }
 
+// The index of the first such entry in the list.
+fn index_of(entry: usize, entries: &[usize]) -> Option<usize>
+    ensures { result ≡ position (λ i. i == entry) entries.now }
+{
+    entries.iter().position(|i| *i == entry)
+}
+
 // The list without the first such entry.
 fn without<A: Heap>(
     alloc: A,
@@ -55,16 +62,12 @@ fn without<A: Heap>(
 ) -> Result<Items<usize, A>, AllocError>
     ensures { IfOk result (λ l. l ≡ spec.without entry entries.now) }
 {
-    let mut rest = Items::new(alloc);
-    let mut is_found = false;
-    for i in entries {
-        if *i == entry && !is_found {
-            is_found = true;
-        } else {
-            rest.push(*i)?;
-        }
-    }
-    Ok(rest)
+    let mut rest = Vec::from_slice(alloc, entries)?;
+    let Some(index) = index_of(entry, entries) else {
+        return Ok(Items::from(rest));
+    };
+    rest.remove(index);
+    Ok(Items::from(rest))
 }
 
 // Adds the step by which an entry and the first of those below it change places, at the node of the path.

@@ -1,4 +1,4 @@
-use Rattle.std.proofs.Common.{◌≡◌, ◌∙◌, ℕ, Bool, true, false, List, [], ◌∷◌, ◌++◌, map, OnOk, Result, Ok, Err, if◌then◌else◌, sym, ap, ap₂, rules}
+use Rattle.std.proofs.Common.{◌≡◌, ◌∙◌, ℕ, Bool, true, false, List, [], ◌∷◌, ◌++◌, map, OnOk, Result, if◌then◌else◌, sym, ap, ap₂, rules}
 use Rattle.expr.specs.Bound.{BoundExpr}
 use Rattle.row_terms.specs.declared.path.Branch.{Branch}
 use Rattle.row_terms.specs.declared.path.Branch.TheVariants.{First, Second}
@@ -9,7 +9,7 @@ use Rattle.algebra.specs.Steps.{Step}
 use Rattle.algebra.specs.View.{step_of}
 use Rattle.rewrite.specs.Placing.{passes, sinking}
 use Rattle.rewrite.specs.Trails.{at_root, all_down, below_path}
-use Rattle.rewrite.proofs.Below.{none_added, step_added}
+use Rattle.rewrite.proofs.Below.{none_added_ok, step_added, where_ok}
 use Rattle.rewrite.proofs.settling.+sink.Goals as goal
 
 -- ---- the steps, by the node
@@ -35,20 +35,13 @@ module _ (count : ℕ) (e : BoundExpr) where
 -- ---- the trail
 
 module _ {T E : Type 0} (result : Result T E) (path : List Branch) (old whole : List Step) where
-  where_ok : {P : Type 0} (r : Result T E) → P → OnOk r P
-  where_ok (Ok x) p = p
-  where_ok (Err e) p = tt
-
-  stays : whole ≡ [] → OnOk result (old ≡ old ++ below_path path whole)
-  stays none = where_ok result (none_added path old ∙ ap (λ ss. old ++ below_path path ss) (sym none))
-
   moves : (rule : ℕ) (b : Branch) (ss mid new : List Step) (lower deeper : List Branch) → mid ≡ old ++ below_path path (at_root rule ∷ []) → lower ≡ path ++ b ∷ [] → deeper ≡ lower → new ≡ mid ++ below_path deeper ss →
       whole ≡ at_root rule ∷ all_down b ss → OnOk result (new ≡ old ++ below_path path whole)
   moves rule b ss mid new lower deeper m l d n w = where_ok result (step_added path old rule b ss deeper mid new m (d ∙ l) n ∙ ap (λ l. old ++ below_path path l) (sym w))
 
 pub returns-then-not-branch-clause-steps : goal.returns-then-not-branch-clause-steps
 returns-then-not-branch-clause-steps g t c =
-    stays c.filtered-then-not-branch.result c.args.path.now (map step_of c.args.trail.now) _
+    none_added_ok c.filtered-then-not-branch.result c.args.path.now (map step_of c.args.trail.now) _
     (filter_is c.args.count c.args.condition c.in-Filtered.above (term_of c.into_inner-input.result) (term_of c.args.term) c.in_ok-passes-in-Filtered.field-0 false
      (ap term_of c.in-Filtered.is ∙ ap (λ x. Filtered c.in-Filtered.above (term_of x)) (sym c.into_inner-input.ensures)) c.in_ok-passes-in-Filtered.ensures (search rules))
 
@@ -83,13 +76,13 @@ returns-then-branch-2-clause-steps g t c =
 
 pub returns-in_ok-term-in-Joined-clause-steps : goal.returns-in_ok-term-in-Joined-clause-steps
 returns-in_ok-term-in-Joined-clause-steps g t c =
-    stays c.filtered-in-Joined.result c.args.path.now (map step_of c.args.trail.now) _
+    none_added_ok c.filtered-in-Joined.result c.args.path.now (map step_of c.args.trail.now) _
     (right_is c.args.count c.args.condition (term_of c.into_inner-left.result) (term_of c.into_inner-right.result) (term_of c.args.term) c.in_ok-reads_only-in-Joined.field-0
      (ap term_of c.in-Joined.is ∙ ap₂ (λ x y. Joined (term_of x) (term_of y)) (sym c.into_inner-left.ensures) (sym c.into_inner-right.ensures)) c.in_ok-reads_only-in-Joined.ensures
      c.in_ok-reads_only-in-Joined-2.field-0 false c.if-branch.false c.in_ok-reads_only-in-Joined-2.ensures c.if-branch-2.false)
 
 pub returns-in-Raw-clause-steps : goal.returns-in-Raw-clause-steps
-returns-in-Raw-clause-steps g t c = stays c.filtered-in-Raw.result c.args.path.now (map step_of c.args.trail.now) _ (ap (λ x. sinking c.args.count c.args.condition (term_of x)) c.in-Raw.is)
+returns-in-Raw-clause-steps g t c = none_added_ok c.filtered-in-Raw.result c.args.path.now (map step_of c.args.trail.now) _ (ap (λ x. sinking c.args.count c.args.condition (term_of x)) c.in-Raw.is)
 
 pub returns-in-Empty-clause-steps : goal.returns-in-Empty-clause-steps
-returns-in-Empty-clause-steps g t c = stays c.filtered-in-Empty.result c.args.path.now (map step_of c.args.trail.now) _ (ap (λ x. sinking c.args.count c.args.condition (term_of x)) c.in-Empty.is)
+returns-in-Empty-clause-steps g t c = none_added_ok c.filtered-in-Empty.result c.args.path.now (map step_of c.args.trail.now) _ (ap (λ x. sinking c.args.count c.args.condition (term_of x)) c.in-Empty.is)
