@@ -1,3 +1,5 @@
+pub mod Added
+pub mod Below
 pub mod Distinct
 pub mod Emptied
 pub mod Leads

@@ -1,0 +1,74 @@
+//! Steps at the nodes below a path.
+
+ghost use Rattle.std.specs.Prelude.{◌≡◌, ◌++◌, ◌∷◌, [], IfOk, OnOk, map, replicate};
+ghost use Rattle.algebra.specs.View.{step_of};
+ghost use Rattle.rewrite.specs.Trails.{at_root, below_path};
+
+use algebra::Step;
+use memory::{Heap, Items};
+use row_terms::Branch;
+use std::alloc::AllocError;
+
+// A copy of the path.
+fn copied<A: Heap>(alloc: A, path: &[Branch]) -> Result<Items<Branch, A>, AllocError>
+    ensures { IfOk result (λ p. p ≡ path.now) }
+{
+    Ok(Items::from(Vec::from_slice(alloc, path)?))
+}
+
+/// The path and one more branch.
+pub(crate) fn further<A: Heap>(
+    alloc: A,
+    path: &[Branch],
+    branch: Branch,
+) -> Result<Items<Branch, A>, AllocError>
+    ensures { IfOk result (λ p. p ≡ path.now ++ branch ∷ []) }
+{
+    let mut path = copied(alloc, path)?;
+    path.push(branch)?;
+    Ok(path)
+}
+
+/// The path to the node below so many filters.
+pub(crate) fn path_below<A: Heap>(alloc: A, filters: usize) -> Result<Items<Branch, A>, AllocError>
+    ensures { IfOk result (λ p. p ≡ replicate filters Branch.First) }
+{
+    let mut path = Items::new(alloc);
+    for _ in 0..filters {
+        path.push(Branch::First)?;
+    }
+    Ok(path)
+}
+
+/// Adds the step by a rule from left to right, without arguments, at the node of the path.
+pub(crate) fn push_step<A: Heap>(
+    alloc: A,
+    trail: &mut Items<Step<A>, A>,
+    path: &[Branch],
+    rule: u64,
+) -> Result<(), AllocError>
+    ensures { OnOk result (map step_of trail.new ≡ map step_of trail.old ++ below_path path.now (at_root rule ∷ [])) }
+{
+    let path = copied(alloc, path)?;
+    trail.push(Step {
+        rule,
+        is_reverse: false,
+        path,
+        arguments: Items::new(alloc),
+    })
+}
+
+/// The same step; the path to the node below a branch there.
+pub(crate) fn step_down<A: Heap>(
+    alloc: A,
+    trail: &mut Items<Step<A>, A>,
+    path: &[Branch],
+    rule: u64,
+    branch: Branch,
+) -> Result<Items<Branch, A>, AllocError>
+    ensures path { IfOk result (λ p. p ≡ path.now ++ branch ∷ []) }
+    ensures step { OnOk result (map step_of trail.new ≡ map step_of trail.old ++ below_path path.now (at_root rule ∷ [])) }
+{
+    push_step(alloc, trail, path, rule)?;
+    further(alloc, path, branch)
+}
