@@ -1,3 +1,5 @@
+mod Walks
+mod Written
 mod Expected
 mod Lexed
 mod Derived

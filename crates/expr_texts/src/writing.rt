@@ -11,8 +11,8 @@ use row_ast::ColumnRef;
 use std::alloc::AllocError;
 use value::{Comparison, Value};
 
-// A text.
-fn push_str<A: Heap>(out: &mut Vec<u8, A>, text: &str) -> Result<(), AllocError>
+/// A text.
+pub fn push_str<A: Heap>(out: &mut Vec<u8, A>, text: &str) -> Result<(), AllocError>
     ensures { OnOk result (out.new.items ≡ out.old.items ++ text.now) }
 {
     out.extend_from_slice(text.as_bytes())

@@ -1,7 +1,8 @@
--- The columns of the entry of a number.
-use Rattle.std.proofs.Common.{◌≡◌, ℕ, zero, suc, ◌-◌, ◌<◌, ◌≤◌, List, [], ◌∷◌, length, refl, arith}
+-- The entry of a number, and its columns.
+use Rattle.std.proofs.Common.{◌≡◌, ℕ, zero, suc, ◌-◌, ◌<◌, ◌≤◌, List, [], ◌∷◌, length, Some, None, slice_get, refl, arith}
 use Rattle.std.specs.Prelude.{map, slice_index_or}
 use Rattle.plan_texts.specs.declared.plan.PlanEntry.{PlanEntry}
+use Rattle.plan_texts.specs.PlanTexts.{item_at}
 use Rattle.plan_texts.specs.Reading.{columns_from, columns_at}
 use Rattle.plan_texts.specs.View.{plan_entry_of}
 
@@ -23,3 +24,24 @@ module _ {A : Type 0} (entries : List (PlanEntry A)) where
   pub none_of : (entry : ℕ) → (entry ≡ 0 → ⊥) → length entries ≤ entry - 1 → columns_at (map plan_entry_of entries) entry ≡ []
   none_of zero some l = absurd (some refl)
   none_of (suc index) some l = no_columns entries index (let same : suc index - 1 ≡ index = omega arith in omega (arith, same, l))
+
+-- ---- the entry
+
+found_at : {A : Type 0} (entries : List (PlanEntry A)) (index : ℕ) (other : PlanEntry A) → index < length entries → slice_get (map plan_entry_of entries) index ≡ Some (plan_entry_of (slice_index_or entries index other))
+found_at [] index other l = absurd (omega arith)
+found_at (x ∷ xs) zero other l = refl
+found_at (x ∷ xs) (suc index) other l = found_at xs index other (omega arith)
+
+none_at : {A : Type 0} (entries : List (PlanEntry A)) (index : ℕ) → length entries ≤ index → slice_get (map plan_entry_of entries) index ≡ None
+none_at [] index l = refl
+none_at (x ∷ xs) zero l = absurd (omega arith)
+none_at (x ∷ xs) (suc index) l = none_at xs index (omega arith)
+
+module _ {A : Type 0} (entries : List (PlanEntry A)) where
+  pub entry_is : (entry : ℕ) (other : PlanEntry A) → (entry ≡ 0 → ⊥) → entry - 1 < length entries → item_at (map plan_entry_of entries) entry ≡ Some (plan_entry_of (slice_index_or entries (entry - 1) other))
+  entry_is zero other some l = absurd (some refl)
+  entry_is (suc index) other some l = let same : suc index - 1 ≡ index = omega arith in rw same (found_at entries index other (omega (arith, same, l)))
+
+  pub no_entry : (entry : ℕ) → (entry ≡ 0 → ⊥) → length entries ≤ entry - 1 → item_at (map plan_entry_of entries) entry ≡ None
+  no_entry zero some l = absurd (some refl)
+  no_entry (suc index) some l = none_at entries index (let same : suc index - 1 ≡ index = omega arith in omega (arith, same, l))

@@ -3,6 +3,7 @@ mod Cuts
 mod Splits
 mod Entries
 mod Additions
+mod Written
 mod Progress
 mod Quiet
 mod LinesBack

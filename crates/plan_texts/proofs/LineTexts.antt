@@ -141,13 +141,13 @@ module _ (entries : List PlanEntry) where
   after_own w method [] s e = cc
   after_own w method (p ∷ ps) s e = joined_with w p ps ∙ ap (λ v. w ++ codes " " ++ v) (scan_own method (p ∷ ps) s e).0
 
-  join_own : (method : Method) (w : List ℕ) (ps : List (List ℕ)) (x : Line) → join_at entries method ps ≡ Some x → method_text entries method ≡ w ++ codes " " → IsTextOfLine entries x (joined (w ∷ ps))
+  join_own : (method : Method) (w : List ℕ) (ps : List (List ℕ)) (x : Line) → join_at entries method ps ≡ Some x → method_text method ≡ w ++ codes " " → IsTextOfLine entries x (joined (w ∷ ps))
   join_own method w ps x e t =
       let m = mapped (λ s. JoinLine s) (scan_at entries method ps) x e in
       subst (λ y. IsTextOfLine entries y (joined (w ∷ ps))) (sym m.2)
-      (after_own w method ps m.0 m.1 ∙ ap (λ v. v ++ scan_text entries m.0) (sym t) ∙ ap (λ v. method_text entries v ++ scan_text entries m.0) (sym (scan_own method ps m.0 m.1).1))
+      (after_own w method ps m.0 m.1 ∙ ap (λ v. v ++ scan_text entries m.0) (sym t) ∙ ap (λ v. method_text v ++ scan_text entries m.0) (sym (scan_own method ps m.0 m.1).1))
 
-  by_own : (method : ℕ → Method) (w : List ℕ) (ps : List (List ℕ)) (x : Line) → by_conjunct entries method ps ≡ Some x → ((k : ℕ) → method_text entries (method k) ≡ w ++ codes " " ++ decimal k ++ codes " ") → IsTextOfLine entries x (joined (w ∷ ps))
+  by_own : (method : ℕ → Method) (w : List ℕ) (ps : List (List ℕ)) (x : Line) → by_conjunct entries method ps ≡ Some x → ((k : ℕ) → method_text (method k) ≡ w ++ codes " " ++ decimal k ++ codes " ") → IsTextOfLine entries x (joined (w ∷ ps))
   by_own method w [] x e t = cc
   by_own method w (k ∷ ps) x e t =
       let m = chained (λ n. join_at entries (method n) ps) (number_at k) x e in
@@ -155,7 +155,7 @@ module _ (entries : List PlanEntry) where
       subst (λ y. IsTextOfLine entries y (joined (w ∷ k ∷ ps))) (sym n.2)
       (joined_with w k ps ∙ ap (λ v. w ++ codes " " ++ v) (after_own k (method m.0) ps n.0 n.1 ∙ ap (λ v. v ++ codes " " ++ scan_text entries n.0) (number_own (2 ^ 64) k m.0 m.1).0)
       ∙ sym (append_assoc (w ++ codes " ") (decimal m.0 ++ codes " ") (scan_text entries n.0)) ∙ ap (λ v. v ++ scan_text entries n.0) (sym (append_assoc (w ++ codes " ") (decimal m.0) (codes " ")) ∙ sym (t m.0))
-      ∙ ap (λ v. method_text entries v ++ scan_text entries n.0) (sym (scan_own (method m.0) ps n.0 n.1).1))
+      ∙ ap (λ v. method_text v ++ scan_text entries n.0) (sym (scan_own (method m.0) ps n.0 n.1).1))
 
   sort_own : (name : List ℕ) (c : SortColumn) → sort_column_at entries (slice_split (λ b. b == 46) name) ≡ Some c → codes "sort " ++ name ≡ codes "sort " ++ alias entries c.entry ++ codes "." ++ column_name entries c.entry c.column
   sort_own name x e = go (slice_split (λ b. b == 46) name) e (join_with_byte-slice_split 46 name)

@@ -109,7 +109,7 @@ module _ (entries : List PlanEntry) where
   pub join_back : (j : CodeStep) → IsJoin entries j → content_at entries (join_text entries j) ≡ Some (JoinLine j)
   join_back j is = go j.method is.0
     where
-      go : (m : Method) → IsMethod entries m → content_at entries (method_text entries m ++ scan_text entries j) ≡ Some (JoinLine (by_method j m))
+      go : (m : Method) → IsMethod entries m → content_at entries (method_text m ++ scan_text entries j) ≡ Some (JoinLine (by_method j m))
       go Nested l = joined Nested j is.1
       go (Hash k) l = by_back (λ n. Hash n) k j l is.1
       go (Merge k) l = by_back (λ n. Merge n) k j l is.1

@@ -40,7 +40,7 @@ module _ (entries : List PlanEntry) where
       let more = text_lines ls q.1 in
       ap lines_of (append_assoc l (10 ∷ []) rest) ∙ quiet_line l rest q.0 ∙ ap (λ (x : List (List ℕ) × List ℕ). let y : List (List ℕ) × List ℕ = (l ∷ x.0, x.1) in y) more
 
-  filters_quiet : (number : ℕ) (es : List Expr) → number + length es ≤ 2 ^ 64 → AreAll IsFilter es → AreAll IsQuiet (filter_lines entries number es)
+  filters_quiet : (number : ℕ) (es : List Expr) → number + length es ≤ 2 ^ 64 → AreAll IsFilter es → AreAll IsQuiet (filter_lines number es)
   filters_quiet number [] l are = tt
   filters_quiet number (e ∷ es) l are = (
     both_quiet (codes "filter " ++ decimal number ++ codes " ") (expr_text e) (both_quiet (codes "filter " ++ decimal number) (codes " ") (both_quiet (codes "filter ") (decimal number) filter_quiet (decimal_quiet number (omega arith))) blank_quiet) (expr_quiet e are.0.written are.0.utf8),
@@ -59,14 +59,14 @@ module _ (entries : List PlanEntry) where
   scan_quiet s is =
       both_quiet (alias entries s.entry ++ codes " ") (access_text entries s.entry s.access) (both_quiet (alias entries s.entry) (codes " ") (word_quiet (alias entries s.entry) is.0.1.goes_well) blank_quiet) (access_quiet s.entry s.access is.1)
 
-  method_quiet : (m : Method) → IsMethod entries m → IsQuiet (method_text entries m)
+  method_quiet : (m : Method) → IsMethod entries m → IsQuiet (method_text m)
   method_quiet Nested l = nested_quiet
   method_quiet (Hash k) l = both_quiet (codes "hash " ++ decimal k) (codes " ") (both_quiet (codes "hash ") (decimal k) hash_quiet (decimal_quiet k (omega (arith, l)))) blank_quiet
   method_quiet (Merge k) l = both_quiet (codes "merge " ++ decimal k) (codes " ") (both_quiet (codes "merge ") (decimal k) merge_quiet (decimal_quiet k (omega (arith, l)))) blank_quiet
 
   joins_quiet : (js : List CodeStep) → AreAll (IsJoin entries) js → AreAll IsQuiet (map (join_text entries) js)
   joins_quiet [] are = tt
-  joins_quiet (j ∷ js) are = (both_quiet (method_text entries j.method) (scan_text entries j) (method_quiet j.method are.0.0) (scan_quiet j are.0.1), joins_quiet js are.1)
+  joins_quiet (j ∷ js) are = (both_quiet (method_text j.method) (scan_text entries j) (method_quiet j.method are.0.0) (scan_quiet j are.0.1), joins_quiet js are.1)
 
   pub code_quiet : (code : Code) → IsCode entries code → AreAll IsQuiet (code_lines entries code)
   code_quiet Empty is = (empty_quiet, tt)
@@ -115,7 +115,7 @@ module _ (entries : List PlanEntry) where
   lines_quiet : (p : Plan) → IsPlan entries p → AreAll IsQuiet (plan_lines entries p)
   lines_quiet p is = (
     both_quiet (codes "cost ") (decimal p.cost) cost_quiet (decimal_quiet p.cost (omega (arith, is.sound.cost))),
-    joined IsQuiet (filter_lines entries 1 p.filters) _ (filters_quiet 1 p.filters (omega (arith, is.few)) is.filters)
+    joined IsQuiet (filter_lines 1 p.filters) _ (filters_quiet 1 p.filters (omega (arith, is.few)) is.filters)
         (joined IsQuiet (code_lines entries p.code) _ (code_quiet p.code is.sound.code)
         (joined IsQuiet (sort_lines entries p.sort) _ (sort_quiet p.sort is.sound.sort) (trail_quiet, steps_quiet p.trail is.sound.trail))),
   )
@@ -141,12 +141,12 @@ module _ (entries : List PlanEntry) where
       (b.0, ap (λ ns. read_lines entries number from ns rest) (append_assoc ls ms more) ∙ a.1 ∙ b.1)
 
   filters_go : (n : ℕ) (done : List Expr) (number : ℕ) (es : List Expr) → number ≡ length done + 1 → number + length es ≤ 2 ^ 64 → AreAll IsFilter es
-      → Goes (Costed n done) (filter_lines entries number es) (Costed n (done ++ map without_offsets es))
+      → Goes (Costed n done) (filter_lines number es) (Costed n (done ++ map without_offsets es))
   filters_go n done number [] e l are = subst (λ xs. Goes (Costed n done) [] (Costed n xs)) (sym (append-nil done)) (stays (Costed n done))
   filters_go n done number (x ∷ es) e l are =
-      both (Costed n done) (Costed n (done ++ without_offsets x ∷ [])) (Costed n (done ++ without_offsets x ∷ map without_offsets es)) ((codes "filter " ++ decimal number ++ codes " " ++ expr_text x) ∷ []) (filter_lines entries (suc number) es)
+      both (Costed n done) (Costed n (done ++ without_offsets x ∷ [])) (Costed n (done ++ without_offsets x ∷ map without_offsets es)) ((codes "filter " ++ decimal number ++ codes " " ++ expr_text x) ∷ []) (filter_lines (suc number) es)
       (one (Costed n done) (Costed n (done ++ without_offsets x ∷ [])) (codes "filter " ++ decimal number ++ codes " " ++ expr_text x) (FilterLine number (without_offsets x)) (filters_quiet number (x ∷ []) (omega arith) (are.0, tt)).0 (filter_back entries number x (omega arith) are.0) (rw (eq-eqb number (length done + 1) e) refl))
-      (subst (λ xs. Goes (Costed n (done ++ without_offsets x ∷ [])) (filter_lines entries (suc number) es) (Costed n xs)) (append_assoc done (without_offsets x ∷ []) (map without_offsets es))
+      (subst (λ xs. Goes (Costed n (done ++ without_offsets x ∷ [])) (filter_lines (suc number) es) (Costed n xs)) (append_assoc done (without_offsets x ∷ []) (map without_offsets es))
       (filters_go n (done ++ without_offsets x ∷ []) (suc number) es (let size = length-append done (without_offsets x ∷ []) in omega (arith, size, e)) (omega arith) are.1))
 
   joins_go : (n : ℕ) (es : List Expr) (done js : List CodeStep) → AreAll (IsJoin entries) js → Goes (Coded n es (Steps done)) (map (join_text entries) js) (Coded n es (Steps (done ++ js)))
@@ -193,10 +193,10 @@ module _ (entries : List PlanEntry) where
       let es = map without_offsets p.filters in
       let end : List (List ℕ) = sort_lines entries p.sort ++ (codes "trail" ∷ map step_text p.trail) in
       let code : List (List ℕ) = code_lines entries p.code ++ end in
-      let filters : List (List ℕ) = filter_lines entries 1 p.filters ++ code in
+      let filters : List (List ℕ) = filter_lines 1 p.filters ++ code in
       both Begun (Costed n []) (Whole (plan_without_offsets p)) ((codes "cost " ++ decimal n) ∷ []) filters
       (one Begun (Costed n []) (codes "cost " ++ decimal n) (CostLine n) (both_quiet (codes "cost ") (decimal n) cost_quiet (decimal_quiet n (omega (arith, is.sound.cost)))) (cost_back entries n is.sound.cost) refl)
-      (both (Costed n []) (Costed n es) (Whole (plan_without_offsets p)) (filter_lines entries 1 p.filters) code (filters_go n [] 1 p.filters refl (omega (arith, is.few)) is.filters)
+      (both (Costed n []) (Costed n es) (Whole (plan_without_offsets p)) (filter_lines 1 p.filters) code (filters_go n [] 1 p.filters refl (omega (arith, is.few)) is.filters)
       (both (Costed n es) (Coded n es p.code) (Whole (plan_without_offsets p)) (code_lines entries p.code) end (code_goes n es p.code is.sound.code)
       (subst (λ ls. Goes (Coded n es p.code) ls (Whole (plan_without_offsets p))) (append_assoc (sort_lines entries p.sort) (codes "trail" ∷ []) (map step_text p.trail))
       (both (Coded n es p.code) (Whole (begun n es p.code p.sort [])) (Whole (plan_without_offsets p)) (sort_lines entries p.sort ++ codes "trail" ∷ []) (map step_text p.trail)

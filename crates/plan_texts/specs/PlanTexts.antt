@@ -39,6 +39,25 @@ abbrev pub column_of : Option PlanEntry → ℕ → Name
 column_of None column = []
 column_of (Some e) column = or_nothing (item_at e.columns column)
 
+-- ---- lines
+
+-- lines, each with its LF
+abbrev pub text_of_lines : List (List ℕ) → List ℕ
+text_of_lines lines = flat_map (λ l. l ++ codes "\n") lines
+
+-- a line for each filter, numbered from a number on
+abbrev pub filter_lines : ℕ → List Expr → List (List ℕ)
+filter_lines number [] = []
+filter_lines number (e ∷ es) = (codes "filter " ++ decimal number ++ codes " " ++ expr_text e) ∷ filter_lines (suc number) es
+
+-- ---- methods of joins
+
+-- the method of a join, and its conjunct
+abbrev pub method_text : Method → List ℕ
+method_text Nested = codes "nested "
+method_text (Hash conjunct) = codes "hash " ++ decimal conjunct ++ codes " "
+method_text (Merge conjunct) = codes "merge " ++ decimal conjunct ++ codes " "
+
 -- ---- steps of a trail
 
 -- the digit of a branch
@@ -80,12 +99,6 @@ module _ (entries : List PlanEntry) where
   abbrev pub scan_text : CodeStep → List ℕ
   scan_text s = alias s.entry ++ codes " " ++ access_text s.entry s.access
 
-  -- the method of a join, and its conjunct
-  abbrev pub method_text : Method → List ℕ
-  method_text Nested = codes "nested "
-  method_text (Hash conjunct) = codes "hash " ++ decimal conjunct ++ codes " "
-  method_text (Merge conjunct) = codes "merge " ++ decimal conjunct ++ codes " "
-
   -- a step after the first
   abbrev pub join_text : CodeStep → List ℕ
   join_text s = method_text s.method ++ scan_text s
@@ -103,15 +116,10 @@ module _ (entries : List PlanEntry) where
 
   -- ---- the plan
 
-  -- a line for each filter, numbered from a number on
-  abbrev pub filter_lines : ℕ → List Expr → List (List ℕ)
-  filter_lines number [] = []
-  filter_lines number (e ∷ es) = (codes "filter " ++ decimal number ++ codes " " ++ expr_text e) ∷ filter_lines (suc number) es
-
   -- the lines of a plan
   abbrev pub plan_lines : Plan → List (List ℕ)
   plan_lines p = (codes "cost " ++ decimal p.cost) ∷ (filter_lines 1 p.filters ++ (code_lines p.code ++ (sort_lines p.sort ++ (codes "trail" ∷ map step_text p.trail))))
 
   -- the text of a plan: its lines, each with an LF
   abbrev pub plan_text : Plan → List ℕ
-  plan_text p = flat_map (λ l. l ++ codes "\n") (plan_lines p)
+  plan_text p = text_of_lines (plan_lines p)

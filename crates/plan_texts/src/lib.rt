@@ -12,7 +12,9 @@ mod parts;
 mod plan;
 mod reading;
 mod steps;
+mod writing;
 
 pub use laws::{law_plans_read_back, law_read_is_text, law_texts_are_read};
 pub use plan::{Plan, PlanEntry, SortColumn};
 pub use reading::read_plan;
+pub use writing::write_plan;

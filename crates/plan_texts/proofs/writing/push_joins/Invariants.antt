@@ -1,0 +1,7 @@
+use Rattle.std.proofs.Common.{◌≡◌, ◌++◌, drop, map}
+use Rattle.plan_texts.specs.PlanTexts.{join_text, text_of_lines}
+use Rattle.plan_texts.specs.View.{plan_entry_of}
+use Rattle.plan_texts.proofs.writing.push_joins.Given as goal
+
+abbrev pub invariant-loop-step : goal.invariant-loop-step
+invariant-loop-step g l = l.out.items ++ text_of_lines (map (join_text (map plan_entry_of l.entries)) (drop l.step-index l.steps)) ≡ l.fn.out.items ++ text_of_lines (map (join_text (map plan_entry_of l.entries)) l.steps)
