@@ -1,4 +1,4 @@
-use Rattle.std.proofs.Common.{◌≡◌, Some, None, arith}
+use Rattle.std.proofs.Common.{◌≡◌, [], Some, None, arith}
 use Rattle.std.proofs.lemmas.List.{length-map}
 use Rattle.tuples.specs.View.{guard_of}
 use Rattle.trailcheck.specs.View.{setting_of}
@@ -10,7 +10,7 @@ pub returns-in_default : goal.returns-in_default
 returns-in_default g c =
     let at = setting_of c.args.setting.now in
     let none : spec.next_entry at c.loop.placed ≡ None = cc (c.in_ok-entry.ensures, c.as_slice.ensures, c.in_default.is) in
-    rw (← c.len-count.ensures) (no_more at c.loop.steps c.len-count.result c.loop.counter c.loop.placed _ c.loop.invariant c.loop-test.true none)
+    rw (← c.len-count.ensures) (no_more at c.loop.steps c.len-count.result c.loop.counter c.loop.placed (spec.plain_steps at c.len-count.result []) c.loop.invariant c.loop-test.true none)
 
 pub plain_step-requires : goal.plain_step-requires
 plain_step-requires g c =
@@ -25,4 +25,4 @@ loop-preserved g c =
     let at = setting_of c.args.setting.now in
     let next : spec.next_entry at c.loop.placed ≡ Some c.in-Some.entry = cc (c.in_ok-entry.ensures, c.as_slice.ensures, c.in-Some.is) in
     rw (c.in_ok-push.ensures.ok, c.in_ok-push-2.ensures.ok, c.plain_step.ensures)
-    (one_more at c.loop.steps c.len-count.result c.loop.counter c.loop.placed _ c.loop.invariant c.loop-test.true c.in-Some.entry next)
+    (one_more at c.loop.steps c.len-count.result c.loop.counter c.loop.placed (spec.plain_steps at c.len-count.result []) c.loop.invariant c.loop-test.true c.in-Some.entry next)
