@@ -1,11 +1,15 @@
-//! Tests of the terms that the steps of a trail make, of the verdicts on trails, and of the conditions that a query is
-//! planned with. docs/ACCEPTANCE.md lists them.
+//! Tests of the terms that the steps of a trail make, of the verdicts on trails, of codes, of the conditions that a query is
+//! planned with, of the trails that a planner makes, and of plans read from texts. docs/ACCEPTANCE.md lists them.
 #![tactic(auto)]
 
 #[cfg(test)]
 mod code_order;
 #[cfg(test)]
 mod codes;
+#[cfg(test)]
+mod plan_reading;
+#[cfg(test)]
+mod planned;
 #[cfg(test)]
 mod planning;
 #[cfg(test)]

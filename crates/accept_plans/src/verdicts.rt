@@ -118,15 +118,16 @@ fn indexed(
     Ok(all)
 }
 
-// The code of a text, which has to be one.
-fn made_code(rt: &(impl Abort + AllocGlobal), text: &str) -> Result<Code<Global>, AllocError> {
+/// The code of a text, which has to be one.
+pub fn made_code(rt: &(impl Abort + AllocGlobal), text: &str) -> Result<Code<Global>, AllocError> {
     match code_of(rt.alloc(), text)? {
         Some(code) => Ok(code),
         None => panic!(rt; "{text}: no code"),
     }
 }
 
-fn verdict_as(alloc: Global, verdict: Verdict) -> Result<String, AllocError> {
+/// A verdict as a text.
+pub fn verdict_as(alloc: Global, verdict: Verdict) -> Result<String, AllocError> {
     match verdict {
         Verdict::Accepted => format!(in alloc; "accepted"),
         Verdict::Refused(refusal) => {
@@ -137,8 +138,8 @@ fn verdict_as(alloc: Global, verdict: Verdict) -> Result<String, AllocError> {
     }
 }
 
-// The guards, the indexes and the conditions of a query.
-fn made_setting(
+/// The guards, the indexes and the conditions of a query.
+pub fn made_setting(
     alloc: Global,
     catalog: &Catalog<Global>,
     role: &str,

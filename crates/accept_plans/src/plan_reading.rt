@@ -1,0 +1,145 @@
+//! Plans read from texts, or the number of the first unreadable line.
+
+use algebra::Step;
+use expr::{Access, Code, Method};
+use memory::{Failure, Items, Text};
+use plan_texts::{Plan, PlanEntry, read_plan};
+use row_terms::Branch;
+use std::alloc::{AllocError, AllocGlobal, Global};
+use std::process::Abort;
+use std::test::Fail;
+
+// A text, and the plan or the unreadable line, with ` | ` between them. In the texts `;` stands for an LF.
+const ROWS: &str = "\
+cost 7;empty;trail; | 7, 0 filters, empty
+cost 340282366920938463463374607431768211455;empty;trail; | 340282366920938463463374607431768211455, 0 filters, empty
+cost 340282366920938463463374607431768211456;empty;trail; | line 1
+cost 07;empty;trail; | line 1
+ | line 1
+; | line 1
+cost 7 ;empty;trail; | line 1
+cost 7;empty;trail | line 3
+cost 7;empty; | line 3
+cost 7;empty;trail;; | line 4
+cost 7;empty;nested r full;trail; | line 3
+cost 7;empty;sort r.id;trail; | 7, 0 filters, empty, sort 2.1
+cost 7;filter 2 r.id;empty;trail; | line 2
+cost 7;filter 1 (r.name = 'it''s; ''a'' line');filter 2 r.id=1;empty;trail; | 7, 2 filters, empty
+cost 7;filter 1 r.id = ;empty;trail; | line 2
+cost 7;first r full;trail; | 7, 0 filters, 2 full nested
+cost 7;first x full;trail; | line 2
+cost 7;first r index id by 0;hash 1 deal full;merge 2 r index name;trail; | 7, 0 filters, 2 range 1 0 nested, 1 full hash 1, 2 index 2 merge 2
+cost 7;first r index region;trail; | line 2
+cost 7;first deal full;nested r full;sort deal.region;trail;4- .;11 011 0 1; | 7, 0 filters, 1 full nested, 2 full nested, sort 1.3, 4 reverse, 11 left right right 0 1
+cost 7;empty;trail;1 012; | line 4
+cost 7;empty;trail;1 0 1 2 3; | line 4
+cost 7;empty;trail;1 ; | line 4
+";
+
+fn entry(alloc: Global, alias: &str, names: &str) -> Result<PlanEntry<Global>, AllocError> {
+    let mut columns = Items::new(alloc);
+    for name in names.split(' ') {
+        columns.push(Text::new(alloc, name)?)?;
+    }
+    Ok(PlanEntry {
+        alias: Text::new(alloc, alias)?,
+        columns,
+    })
+}
+
+// The bytes of a text of the table.
+fn bytes_of(alloc: Global, text: &str) -> Result<Vec<u8>, AllocError> {
+    let mut bytes = Vec::new(alloc);
+    for byte in text.as_bytes() {
+        bytes.push(if *byte == b';' { b'\n' } else { *byte })?;
+    }
+    Ok(bytes)
+}
+
+fn show_access(access: Access, out: &mut String) -> Result<(), AllocError> {
+    match access {
+        Access::Full => out.push_str("full"),
+        Access::Index { column } => write!(out, "index {column}"),
+        Access::Range { column, bound } => write!(out, "range {column} {bound}"),
+    }
+}
+
+fn show_method(method: Method, out: &mut String) -> Result<(), AllocError> {
+    match method {
+        Method::Nested => out.push_str(" nested"),
+        Method::Hash { conjunct } => write!(out, " hash {conjunct}"),
+        Method::Merge { conjunct } => write!(out, " merge {conjunct}"),
+    }
+}
+
+fn show_code(code: &Code<Global>, out: &mut String) -> Result<(), AllocError> {
+    match code {
+        Code::Empty => out.push_str(", empty"),
+        Code::Steps(steps) => {
+            for step in steps.as_slice() {
+                write!(out, ", {} ", step.entry)?;
+                show_access(step.access, out)?;
+                show_method(step.method, out)?;
+            }
+            Ok(())
+        }
+    }
+}
+
+fn show_step(step: &Step<Global>, out: &mut String) -> Result<(), AllocError> {
+    write!(out, ", {}", step.rule)?;
+    if step.is_reverse {
+        out.push_str(" reverse")?;
+    }
+    for branch in step.path.as_slice() {
+        out.push_str(match branch {
+            Branch::First => " left",
+            Branch::Second => " right",
+        })?;
+    }
+    for argument in step.arguments.as_slice() {
+        write!(out, " {argument}")?;
+    }
+    Ok(())
+}
+
+fn show_plan(plan: &Plan<Global>, out: &mut String) -> Result<(), AllocError> {
+    write!(out, "{}, {} filters", plan.cost, plan.filters.len())?;
+    show_code(&plan.code, out)?;
+    if let Some(sort) = plan.sort {
+        write!(out, ", sort {}.{}", sort.entry, sort.column)?;
+    }
+    for step in plan.trail.as_slice() {
+        show_step(step, out)?;
+    }
+    Ok(())
+}
+
+fn read(
+    rt: &(impl Abort + AllocGlobal),
+    entries: &[PlanEntry<Global>],
+    row: &str,
+) -> Result<(), AllocError> {
+    let (text, want) = row.split_once(" | ").unwrap_or((row, ""));
+    let bytes = bytes_of(rt.alloc(), text)?;
+    let mut got = String::new(rt.alloc());
+    match read_plan(rt.alloc(), entries, bytes.as_slice()) {
+        Ok(plan) => show_plan(&plan, &mut got)?,
+        Err(Failure::Error(line)) => write!(got, "line {line}")?,
+        Err(Failure::OutOfMemory) => return Err(AllocError),
+    }
+    assert_eq!(rt; got.as_str(), want, "{text}");
+    Ok(())
+}
+
+#[test]
+fn plans_are_read_from_texts(rt: HostRuntime) -> Result<(), Fail> {
+    let mut entries = Vec::new(rt.alloc());
+    entries.push(entry(rt.alloc(), "deal", "id name region")?)?;
+    entries.push(entry(rt.alloc(), "r", "id name")?)?;
+    assert!(rt; !ROWS.is_empty());
+    for row in ROWS.lines() {
+        read(&rt, entries.as_slice(), row)?;
+    }
+    Ok(())
+}
