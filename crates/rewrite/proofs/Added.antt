@@ -1,5 +1,5 @@
 -- Trails that steps are added to.
-use Rattle.std.proofs.Common.{◌≡◌, ◌∙◌, refl, sym, ap, ap₂, ℕ, zero, suc, ◌+◌, ◌-◌, ◌<◌, ◌≤◌, Bool, true, false, cond, not, ◌==◌, nat_lt, List, [], ◌∷◌, ◌++◌, length, get_or, remove, take, drop, reverse, replicate, position, Option, Some, None, append_assoc, append-nil, if◌then◌else◌, arith}
+use Rattle.std.proofs.Common.{◌≡◌, ◌∙◌, refl, sym, ap, ℕ, zero, suc, ◌+◌, ◌-◌, ◌<◌, ◌≤◌, Bool, true, false, cond, ◌==◌, List, [], ◌∷◌, ◌++◌, length, get_or, remove, take, drop, reverse, replicate, position, Some, None, append_assoc, if◌then◌else◌, arith}
 use Rattle.std.specs.List.{position_from, range_with_len}
 use Rattle.std.proofs.lemmas.Bool.{both_ways, eq-eqb, ne_eqb}
 use Rattle.std.proofs.lemmas.Iterator.Adapters.{position_from-zero}
@@ -83,7 +83,7 @@ module _ (path : List Branch) (old : List Step) where
     ordering_added cs is rest h left m n =
         both_added path old (raising (get_or cs 0 0) is) (all_down First (ordering (rest_of cs) (without (get_or cs 0 0) is))) mid new m
         (n ∙ ap (λ l. mid ++ below_path deeper (ordering (rest_of cs) l)) left ∙ ap (λ p. mid ++ below_path p (ordering (rest_of cs) (without (get_or cs 0 0) is))) d
-         ∙ ap (λ l. mid ++ l) (below_further path First (ordering (rest_of cs) (without (get_or cs 0 0) is))))
+        ∙ ap (λ l. mid ++ l) (below_further path First (ordering (rest_of cs) (without (get_or cs 0 0) is))))
         ∙ ap (λ ss. old ++ below_path path ss) (sym (ordering_split cs is h))
 
     pub opening_added : (frame : List Guard) (is : List ℕ) (side : List Branch) → 2 ≤ length is → side ≡ path ++ Second ∷ [] → mid ≡ old ++ below_path side (opening_one frame (get_or is 0 0)) → new ≡ mid ++ below_path deeper (opening frame (rest_of is)) →

@@ -1,6 +1,6 @@
 -- Steps below a path.
-use Rattle.std.proofs.Common.{OnOk, Result, Ok, Err, ◌≡◌, ◌∙◌, refl, sym, ap, ℕ, zero, suc, ◌+◌, false, List, [], ◌∷◌, ◌++◌, map, replicate, append_assoc, append-nil, arith}
-use Rattle.std.proofs.lemmas.List.{map-append, replicate_more}
+use Rattle.std.proofs.Common.{OnOk, Result, Ok, Err, ◌≡◌, ◌∙◌, refl, sym, ap, ℕ, zero, suc, false, List, [], ◌∷◌, ◌++◌, replicate, append_assoc, append-nil}
+use Rattle.std.proofs.lemmas.List.{map-append}
 use Rattle.row_terms.specs.declared.path.Branch.{Branch}
 use Rattle.row_terms.specs.declared.path.Branch.TheVariants.{First}
 use Rattle.algebra.specs.Steps.{Step}

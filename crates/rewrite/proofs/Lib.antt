@@ -1,3 +1,4 @@
+pub mod Accepting
 pub mod Added
 pub mod Below
 pub mod Distinct

@@ -54,7 +54,7 @@ fn push_emptying<A: Heap>(
     push_clearing(alloc, trail, rest.len())
 }
 
-// Adds the steps by which the conditions, the first innermost, find their places in the term; there are so many entries.
+// Adds the steps that settle the conditions, the first innermost, in the term, where there are so many entries.
 fn settle_all<A: Heap>(
     alloc: A,
     count: usize,
@@ -89,8 +89,20 @@ fn push_placing<A: Heap>(
     let path = path_below(alloc, setting.conditions.len())?;
     let wanted = code_entries(alloc, steps)?;
     let entries = from_entries(alloc, count)?;
-    push_ordering(alloc, trail, path.as_slice(), wanted.as_slice(), entries.as_slice())?;
-    push_opening(alloc, trail, path.as_slice(), setting.frame.as_slice(), wanted.as_slice())?;
+    push_ordering(
+        alloc,
+        trail,
+        path.as_slice(),
+        wanted.as_slice(),
+        entries.as_slice(),
+    )?;
+    push_opening(
+        alloc,
+        trail,
+        path.as_slice(),
+        setting.frame.as_slice(),
+        wanted.as_slice(),
+    )?;
     let term = opened_back(alloc, setting, wanted.as_slice())?;
     settle_all(alloc, count, trail, setting.conditions.as_slice(), term)
 }

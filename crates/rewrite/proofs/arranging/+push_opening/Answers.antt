@@ -15,6 +15,6 @@ returns-in_ok-deeper-in-len1-up g t c =
     let two : 2 ≤ length c.args.entries.now = omega arith in
     on_ok_weaker c.push_opening.result
     (λ n. opening_added c.args.path.now (map step_of c.args.trail.now) c.as_slice-in-len1-up.result.now (map step_of c.push_opening_one-in-len1-up.new.trail) (map step_of c.push_opening.new.trail)
-     (c.as_slice-in-len1-up.ensures ∙ c.in_ok-deeper-in-len1-up.ensures) (map guard_of c.args.frame.now) c.args.entries.now c.as_slice.result.now two (c.as_slice.ensures ∙ c.in_ok-side-in-len1-up.ensures)
-     c.in_ok-push_opening_one-in-len1-up.ensures n)
+    (c.as_slice-in-len1-up.ensures ∙ c.in_ok-deeper-in-len1-up.ensures) (map guard_of c.args.frame.now) c.args.entries.now c.as_slice.result.now two (c.as_slice.ensures ∙ c.in_ok-side-in-len1-up.ensures)
+    c.in_ok-push_opening_one-in-len1-up.ensures n)
     c.push_opening.ensures

@@ -13,5 +13,5 @@ pub returns : goal.returns
 returns g t c =
     on_ok_weaker c.push_ordering.result
     (λ n. ordering_added c.args.path.now (map step_of c.args.trail.now) c.as_slice.result.now (map step_of c.push_raising.new.trail) (map step_of c.push_ordering.new.trail) (c.as_slice.ensures ∙ c.in_ok-deeper.ensures)
-     c.args.wanted.now c.args.entries.now c.as_slice-2.result.now c.in-len1-up.len_at_least (c.as_slice-2.ensures ∙ c.in_ok-rest.ensures) c.in_ok-push_raising.ensures n)
+    c.args.wanted.now c.args.entries.now c.as_slice-2.result.now c.in-len1-up.len_at_least (c.as_slice-2.ensures ∙ c.in_ok-rest.ensures) c.in_ok-push_raising.ensures n)
     c.push_ordering.ensures

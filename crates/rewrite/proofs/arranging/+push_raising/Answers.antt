@@ -16,5 +16,5 @@ pub returns : goal.returns
 returns g t c =
     on_ok_weaker c.push_exchanging.result
     (λ n. raising_added c.args.path.now (map step_of c.args.trail.now) c.args.entry c.args.entries.now c.in-len1-up.len_at_least c.if-i-entry.false c.as_slice.result.now (map step_of c.push_raising.new.trail)
-     (map step_of c.push_exchanging.new.trail) (c.as_slice.ensures ∙ c.in_ok-deeper.ensures) c.in_ok-push_raising.ensures n)
+    (map step_of c.push_exchanging.new.trail) (c.as_slice.ensures ∙ c.in_ok-deeper.ensures) c.in_ok-push_raising.ensures n)
     c.push_exchanging.ensures

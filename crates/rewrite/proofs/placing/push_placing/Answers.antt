@@ -8,7 +8,6 @@ use Rattle.tuples.specs.View.{guard_of}
 use Rattle.row_terms.specs.declared.path.Branch.{Branch}
 use Rattle.row_terms.specs.declared.path.Branch.TheVariants.{First}
 use Rattle.row_terms.specs.Terms.{Term}
-use Rattle.row_terms.specs.View.{term_of}
 use Rattle.algebra.specs.Steps.{Step}
 use Rattle.algebra.specs.View.{step_of}
 use Rattle.trailcheck.specs.View.{setting_of}
@@ -36,7 +35,7 @@ returns g c =
     let count : c.len-count.result ≡ length at.frame = c.len-count.ensures ∙ sym (length-map c.args.setting.now.frame guard_of) in
     on_ok_weaker c.settle_all.result
     (λ n. placing_added at c.args.steps.now some c.in_ok-path.path old one two (map step_of c.settle_all.new.trail) (c.in_ok-path.ensures ∙ ap (λ k. replicate k First) c.len-2.ensures)
-     (c.in_ok-push_ordering.ensures ∙ same_order old c.as_slice.ensures (c.as_slice-2.ensures ∙ c.in_ok-wanted.ensures) (c.as_slice-3.ensures ∙ c.in_ok-entries.ensures ∙ ap (λ k. reverse (range_with_len 0 k)) count))
-     (c.in_ok-push_opening.ensures ∙ same_guards one c.as_slice-4.ensures (ap (map guard_of) c.as_slice-5.ensures) (c.as_slice-6.ensures ∙ c.in_ok-wanted.ensures))
-     (n ∙ same_places two count c.as_slice-8.ensures (c.in_ok-term.ensures ∙ ap (opened_back at) (c.as_slice-7.ensures ∙ c.in_ok-wanted.ensures))))
+    (c.in_ok-push_ordering.ensures ∙ same_order old c.as_slice.ensures (c.as_slice-2.ensures ∙ c.in_ok-wanted.ensures) (c.as_slice-3.ensures ∙ c.in_ok-entries.ensures ∙ ap (λ k. reverse (range_with_len 0 k)) count))
+    (c.in_ok-push_opening.ensures ∙ same_guards one c.as_slice-4.ensures (ap (map guard_of) c.as_slice-5.ensures) (c.as_slice-6.ensures ∙ c.in_ok-wanted.ensures))
+    (n ∙ same_places two count c.as_slice-8.ensures (c.in_ok-term.ensures ∙ ap (opened_back at) (c.as_slice-7.ensures ∙ c.in_ok-wanted.ensures))))
     c.settle_all.ensures

@@ -43,43 +43,43 @@ pub returns-then-not-branch-clause-steps : goal.returns-then-not-branch-clause-s
 returns-then-not-branch-clause-steps g t c =
     none_added_ok c.filtered-then-not-branch.result c.args.path.now (map step_of c.args.trail.now) _
     (filter_is c.args.count c.args.condition c.in-Filtered.above (term_of c.into_inner-input.result) (term_of c.args.term) c.in_ok-passes-in-Filtered.field-0 false
-     (ap term_of c.in-Filtered.is ∙ ap (λ x. Filtered c.in-Filtered.above (term_of x)) (sym c.into_inner-input.ensures)) c.in_ok-passes-in-Filtered.ensures (search rules))
+    (ap term_of c.in-Filtered.is ∙ ap (λ x. Filtered c.in-Filtered.above (term_of x)) (sym c.into_inner-input.ensures)) c.in_ok-passes-in-Filtered.ensures (search rules))
 
 pub returns-in_ok-input-in-Filtered-2-clause-steps : goal.returns-in_ok-input-in-Filtered-2-clause-steps
 returns-in_ok-input-in-Filtered-2-clause-steps g t c =
     moves c.filtered-in-Filtered.result c.args.path.now (map step_of c.args.trail.now) _ 3 First _ (map step_of c.step_down.new.trail) (map step_of c.sink.new.trail) c.in_ok-path-in-Filtered.path c.as_slice.result.now
     c.in_ok-path-in-Filtered.ensures.step c.in_ok-path-in-Filtered.ensures.path c.as_slice.ensures c.in_ok-input-in-Filtered-2.ensures.steps
     (filter_is c.args.count c.args.condition c.in-Filtered.above (term_of c.into_inner-input.result) (term_of c.args.term) c.in_ok-passes-in-Filtered.field-0 true
-     (ap term_of c.in-Filtered.is ∙ ap (λ x. Filtered c.in-Filtered.above (term_of x)) (sym c.into_inner-input.ensures)) c.in_ok-passes-in-Filtered.ensures (search rules))
+    (ap term_of c.in-Filtered.is ∙ ap (λ x. Filtered c.in-Filtered.above (term_of x)) (sym c.into_inner-input.ensures)) c.in_ok-passes-in-Filtered.ensures (search rules))
 
 pub returns-in_ok-input-in-Guarded-clause-steps : goal.returns-in_ok-input-in-Guarded-clause-steps
 returns-in_ok-input-in-Guarded-clause-steps g t c =
     moves c.guarded.result c.args.path.now (map step_of c.args.trail.now) _ 8 First _ (map step_of c.step_down-in-Guarded.new.trail) (map step_of c.sink-in-Guarded.new.trail) c.in_ok-path-in-Guarded.path c.as_slice-in-Guarded.result.now
     c.in_ok-path-in-Guarded.ensures.step c.in_ok-path-in-Guarded.ensures.path c.as_slice-in-Guarded.ensures c.in_ok-input-in-Guarded.ensures.steps
     (guard_is c.args.count c.args.condition c.in-Guarded.entry (term_of c.into_inner-input-in-Guarded.result) (term_of c.args.term)
-     (ap term_of c.in-Guarded.is ∙ ap (λ x. Guarded c.in-Guarded.entry (term_of x)) (sym c.into_inner-input-in-Guarded.ensures)))
+    (ap term_of c.in-Guarded.is ∙ ap (λ x. Guarded c.in-Guarded.entry (term_of x)) (sym c.into_inner-input-in-Guarded.ensures)))
 
 pub returns-then-branch-clause-steps : goal.returns-then-branch-clause-steps
 returns-then-branch-clause-steps g t c =
     moves c.joined.result c.args.path.now (map step_of c.args.trail.now) _ 4 First _ (map step_of c.step_down-then-branch.new.trail) (map step_of c.sink-then-branch.new.trail) c.in_ok-path-in-Joined.path c.as_slice-then-branch.result.now
     c.in_ok-path-in-Joined.ensures.step c.in_ok-path-in-Joined.ensures.path c.as_slice-then-branch.ensures c.in_ok-left-in-Joined.ensures.steps
     (left_is c.args.count c.args.condition (term_of c.into_inner-left.result) (term_of c.into_inner-right.result) (term_of c.args.term) c.in_ok-reads_only-in-Joined.field-0
-     (ap term_of c.in-Joined.is ∙ ap₂ (λ x y. Joined (term_of x) (term_of y)) (sym c.into_inner-left.ensures) (sym c.into_inner-right.ensures)) c.in_ok-reads_only-in-Joined.ensures c.if-branch.true)
+    (ap term_of c.in-Joined.is ∙ ap₂ (λ x y. Joined (term_of x) (term_of y)) (sym c.into_inner-left.ensures) (sym c.into_inner-right.ensures)) c.in_ok-reads_only-in-Joined.ensures c.if-branch.true)
 
 pub returns-then-branch-2-clause-steps : goal.returns-then-branch-2-clause-steps
 returns-then-branch-2-clause-steps g t c =
     moves c.joined-then-branch-2.result c.args.path.now (map step_of c.args.trail.now) _ 5 Second _ (map step_of c.step_down-then-branch-2.new.trail) (map step_of c.sink-then-branch-2.new.trail) c.in_ok-path-in-Joined-2.path c.as_slice-then-branch-2.result.now
     c.in_ok-path-in-Joined-2.ensures.step c.in_ok-path-in-Joined-2.ensures.path c.as_slice-then-branch-2.ensures c.in_ok-right-in-Joined.ensures.steps
     (right_is c.args.count c.args.condition (term_of c.into_inner-left.result) (term_of c.into_inner-right.result) (term_of c.args.term) c.in_ok-reads_only-in-Joined.field-0
-     (ap term_of c.in-Joined.is ∙ ap₂ (λ x y. Joined (term_of x) (term_of y)) (sym c.into_inner-left.ensures) (sym c.into_inner-right.ensures)) c.in_ok-reads_only-in-Joined.ensures
-     c.in_ok-reads_only-in-Joined-2.field-0 true c.if-branch.false c.in_ok-reads_only-in-Joined-2.ensures c.if-branch-2.true)
+    (ap term_of c.in-Joined.is ∙ ap₂ (λ x y. Joined (term_of x) (term_of y)) (sym c.into_inner-left.ensures) (sym c.into_inner-right.ensures)) c.in_ok-reads_only-in-Joined.ensures
+    c.in_ok-reads_only-in-Joined-2.field-0 true c.if-branch.false c.in_ok-reads_only-in-Joined-2.ensures c.if-branch-2.true)
 
 pub returns-in_ok-term-in-Joined-clause-steps : goal.returns-in_ok-term-in-Joined-clause-steps
 returns-in_ok-term-in-Joined-clause-steps g t c =
     none_added_ok c.filtered-in-Joined.result c.args.path.now (map step_of c.args.trail.now) _
     (right_is c.args.count c.args.condition (term_of c.into_inner-left.result) (term_of c.into_inner-right.result) (term_of c.args.term) c.in_ok-reads_only-in-Joined.field-0
-     (ap term_of c.in-Joined.is ∙ ap₂ (λ x y. Joined (term_of x) (term_of y)) (sym c.into_inner-left.ensures) (sym c.into_inner-right.ensures)) c.in_ok-reads_only-in-Joined.ensures
-     c.in_ok-reads_only-in-Joined-2.field-0 false c.if-branch.false c.in_ok-reads_only-in-Joined-2.ensures c.if-branch-2.false)
+    (ap term_of c.in-Joined.is ∙ ap₂ (λ x y. Joined (term_of x) (term_of y)) (sym c.into_inner-left.ensures) (sym c.into_inner-right.ensures)) c.in_ok-reads_only-in-Joined.ensures
+    c.in_ok-reads_only-in-Joined-2.field-0 false c.if-branch.false c.in_ok-reads_only-in-Joined-2.ensures c.if-branch-2.false)
 
 pub returns-in-Raw-clause-steps : goal.returns-in-Raw-clause-steps
 returns-in-Raw-clause-steps g t c = none_added_ok c.filtered-in-Raw.result c.args.path.now (map step_of c.args.trail.now) _ (ap (λ x. sinking c.args.count c.args.condition (term_of x)) c.in-Raw.is)

@@ -1,0 +1,67 @@
+-- The checker accepts a trail that leads to the shape, within its limits.
+use Rattle.std.proofs.Common.{◌≡◌, ◌∙◌, refl, sym, ap, subst, ℕ, zero, suc, ◌+◌, ◌*◌, ◌≤◌, true, map, List, [], ◌∷◌, ◌++◌, length, length-append, Ok, if◌then◌else◌, arith}
+use Rattle.std.proofs.lemmas.List.{length-map}
+use Rattle.expr.specs.Bound.{BoundExpr}
+use Rattle.expr.specs.BoundQuery.{BoundQuery}
+use Rattle.expr.specs.Codes.{Code}
+use Rattle.expr.specs.Conjuncts.{movable_conjuncts}
+use Rattle.predicates.specs.Offsets.{without_offsets}
+use Rattle.row_terms.specs.Terms.{Term, Filtered}
+use Rattle.row_terms.specs.Written.{joins, filters, written}
+use Rattle.algebra.specs.PlanningList.{planning_list}
+use Rattle.algebra.specs.Steps.{Step}
+use Rattle.trailcheck.specs.declared.verdict.Reason.TheVariants as reason
+use Rattle.trailcheck.specs.declared.verdict.Verdict.TheVariants.{Accepted, Refused}
+use Rattle.trailcheck.specs.Admissible.{is_admissible}
+use Rattle.trailcheck.specs.Limits.{most_nodes, most_steps, node_count}
+use Rattle.trailcheck.specs.Replays.{replay}
+use Rattle.trailcheck.specs.Settings.{Setting}
+use Rattle.trailcheck.specs.Shapes.{shape}
+use Rattle.trailcheck.specs.Verdicts.{compared, verdict}
+use Rattle.trailcheck.proofs.Same as same
+use Rattle.rewrite.specs.Laws.{SimplifiesEach, PlansAreAccepted, most_conjuncts}
+use Rattle.rewrite.specs.Placing.{placing}
+use Rattle.rewrite.specs.Simplifying.{simplifying}
+use Rattle.rewrite.specs.Trails.{led}
+use Rattle.rewrite.proofs.Leads.{led_then}
+use Rattle.rewrite.proofs.Lengths.{placing_short}
+use Rattle.rewrite.proofs.Limited.{replays}
+use Rattle.rewrite.proofs.Places.{places_each}
+
+-- ---- the nodes of a written term
+
+pub nodes-filters : (es : List BoundExpr) (x : Term) → node_count (filters es x) ≡ length es + node_count x
+nodes-filters [] x = omega arith
+nodes-filters (e ∷ es) x = let h = nodes-filters es (Filtered e x) in omega (arith, h)
+
+pub nodes-joins : (n : ℕ) → node_count (joins n) ≤ suc (3 * n)
+nodes-joins zero = omega arith
+nodes-joins (suc zero) = omega arith
+nodes-joins (suc (suc n)) = let h = nodes-joins (suc n) in omega (arith, h)
+
+-- ---- the verdict
+
+pub accepts : (at : Setting) (x : Term) (trail : List Step) (code : Code) → is_admissible at code ≡ true → led at.frame trail x ≡ Ok (shape at code) → node_count x + length trail ≤ most_nodes → length trail ≤ most_steps →
+    verdict at x trail code ≡ Accepted
+accepts at x trail code admissible leads nodes steps =
+    ap (λ b. if b then compared (length trail) (shape at code) (replay at.frame 1 trail x) else Refused record { line = 0; reason = reason.Code }) admissible
+    ∙ ap (compared (length trail) (shape at code)) (replays at.frame trail 1 x (shape at code) leads nodes (omega arith))
+    ∙ ap (λ b. if b then Accepted else Refused record { line = length trail + 1; reason = reason.End }) ((same.decides (shape at code) (shape at code)).if_so refl)
+
+-- ---- both trails together
+
+module _ (simplifies : SimplifiesEach) (short : (q : BoundQuery) → length (movable_conjuncts q) ≤ most_conjuncts → (length (simplifying q) ≤ 1024) × (length (planning_list q) ≤ most_conjuncts)) where
+  pub plans_accepted : PlansAreAccepted
+  plans_accepted at q code planned few_entries few_conjuncts admissible =
+      let s = short q few_conjuncts in
+      let conditions : length at.conditions ≤ 64 = subst (λ l. length l ≤ 64) (sym planned) s.1 in
+      let p = placing_short at few_entries conditions code admissible in
+      let a = length-append (simplifying q) (placing at code) in
+      let f = nodes-filters (map without_offsets (movable_conjuncts q)) (joins (length at.frame)) in
+      let m = length-map (movable_conjuncts q) without_offsets in
+      let j = nodes-joins (length at.frame) in
+      accepts at (written (length at.frame) q) (simplifying q ++ placing at code) code admissible
+      (led_then at.frame (simplifying q) (placing at code) (written (length at.frame) q) (filters (planning_list q) (joins (length at.frame))) (simplifies at.frame (length at.frame) q)
+      ∙ ap (λ l. led at.frame (placing at code) (filters l (joins (length at.frame)))) (sym planned)
+      ∙ places_each at code admissible)
+      (omega (arith, a, f, m, j, p, s.0)) (omega (arith, a, p, s.0))
