@@ -19,7 +19,7 @@ use Rattle.trailcheck.specs.Settings.{Setting}
 use Rattle.trailcheck.specs.Shapes.{shape}
 use Rattle.trailcheck.specs.Verdicts.{compared, verdict}
 use Rattle.trailcheck.proofs.Same as same
-use Rattle.rewrite.specs.Laws.{SimplifiesEach, PlansAreAccepted, most_conjuncts}
+use Rattle.rewrite.specs.Laws.{PlansAreAccepted, PlansAreShort, most_conjuncts, most_entries, most_plan_steps}
 use Rattle.rewrite.specs.Placing.{placing}
 use Rattle.rewrite.specs.Simplifying.{simplifying}
 use Rattle.rewrite.specs.Trails.{led}
@@ -27,6 +27,8 @@ use Rattle.rewrite.proofs.Leads.{led_then}
 use Rattle.rewrite.proofs.Lengths.{placing_short}
 use Rattle.rewrite.proofs.Limited.{replays}
 use Rattle.rewrite.proofs.Places.{places_each}
+use Rattle.rewrite.proofs.SimplifiedLength.{simplifying_length, planning_length}
+use Rattle.rewrite.proofs.SimplifiedTerm.{simplifies_each}
 
 -- ---- the nodes of a written term
 
@@ -50,18 +52,28 @@ accepts at x trail code admissible leads nodes steps =
 
 -- ---- both trails together
 
-module _ (simplifies : SimplifiesEach) (short : (q : BoundQuery) → length (movable_conjuncts q) ≤ most_conjuncts → (length (simplifying q) ≤ 1024) × (length (planning_list q) ≤ most_conjuncts)) where
-  pub plans_accepted : PlansAreAccepted
-  plans_accepted at q code planned few_entries few_conjuncts admissible =
-      let s = short q few_conjuncts in
-      let conditions : length at.conditions ≤ 64 = subst (λ l. length l ≤ 64) (sym planned) s.1 in
-      let p = placing_short at few_entries conditions code admissible in
-      let a = length-append (simplifying q) (placing at code) in
-      let f = nodes-filters (map without_offsets (movable_conjuncts q)) (joins (length at.frame)) in
-      let m = length-map (movable_conjuncts q) without_offsets in
-      let j = nodes-joins (length at.frame) in
-      accepts at (written (length at.frame) q) (simplifying q ++ placing at code) code admissible
-      (led_then at.frame (simplifying q) (placing at code) (written (length at.frame) q) (filters (planning_list q) (joins (length at.frame))) (simplifies at.frame (length at.frame) q)
-      ∙ ap (λ l. led at.frame (placing at code) (filters l (joins (length at.frame)))) (sym planned)
-      ∙ places_each at code admissible)
-      (omega (arith, a, f, m, j, p, s.0)) (omega (arith, a, p, s.0))
+module _ (at : Setting) (q : BoundQuery) (code : Code) (listed : at.conditions ≡ planning_list q) (few_entries : length at.frame ≤ most_entries) (few_conjuncts : length (movable_conjuncts q) ≤ most_conjuncts) (admissible : is_admissible at code ≡ true) where
+  short : length (placing at code) ≤ 2564
+  short =
+      let conditions : length at.conditions ≤ 64 = subst (λ l. length l ≤ 64) (sym listed) (planning_length q few_conjuncts) in
+      placing_short at few_entries conditions code admissible
+
+  both_short : length (simplifying q ++ placing at code) ≤ most_plan_steps
+  both_short = let a = length-append (simplifying q) (placing at code) in let s = simplifying_length q few_conjuncts in let p = short in omega (arith, a, s, p)
+
+pub plans_are_short : PlansAreShort
+plans_are_short = both_short
+
+pub plans_accepted : PlansAreAccepted
+plans_accepted at q code planned few_entries few_conjuncts admissible =
+    let p = short at q code planned few_entries few_conjuncts admissible in
+    let s = simplifying_length q few_conjuncts in
+    let a = length-append (simplifying q) (placing at code) in
+    let f = nodes-filters (map without_offsets (movable_conjuncts q)) (joins (length at.frame)) in
+    let m = length-map (movable_conjuncts q) without_offsets in
+    let j = nodes-joins (length at.frame) in
+    accepts at (written (length at.frame) q) (simplifying q ++ placing at code) code admissible
+    (led_then at.frame (simplifying q) (placing at code) (written (length at.frame) q) (filters (planning_list q) (joins (length at.frame))) (simplifies_each at.frame (length at.frame) q)
+    ∙ ap (λ l. led at.frame (placing at code) (filters l (joins (length at.frame)))) (sym planned)
+    ∙ places_each at code admissible)
+    (omega (arith, a, f, m, j, p, s)) (omega (arith, a, p, s))

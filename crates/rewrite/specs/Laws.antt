@@ -39,3 +39,13 @@ abbrev pub PlansAreAccepted : Type 0
 PlansAreAccepted =
     (at : Setting) (q : BoundQuery) (code : Code) → at.conditions ≡ planning_list q → length at.frame ≤ most_entries → length (movable_conjuncts q) ≤ most_conjuncts → is_admissible at code ≡ true
     → verdict at (written (length at.frame) q) (simplifying q ++ placing at code) code ≡ Accepted
+
+-- the most steps of both together
+abbrev pub most_plan_steps : ℕ
+most_plan_steps = 2881
+
+-- both together are no more, of such a query
+abbrev pub PlansAreShort : Type 0
+PlansAreShort =
+    (at : Setting) (q : BoundQuery) (code : Code) → at.conditions ≡ planning_list q → length at.frame ≤ most_entries → length (movable_conjuncts q) ≤ most_conjuncts → is_admissible at code ≡ true
+    → length (simplifying q ++ placing at code) ≤ most_plan_steps

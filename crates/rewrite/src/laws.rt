@@ -1,6 +1,6 @@
 //! Laws of the trails of a planner.
 
-ghost use Rattle.rewrite.specs.Laws.{PlacesEach, ShapesMeanSame, SimplifiesEach};
+ghost use Rattle.rewrite.specs.Laws.{PlacesEach, PlansAreAccepted, PlansAreShort, ShapesMeanSame, SimplifiesEach};
 ghost use Rattle.rewrite.specs.Plain.{IsPlainCode, PlainIsAdmissible, PlainIsLeast};
 
 use predicates::law_offsets_keep_value;
@@ -28,4 +28,11 @@ pub fn law_plain_code_is_least()
     ensures admissible { PlainIsAdmissible }
     ensures plain { IsPlainCode }
     ensures least { PlainIsLeast }
+{}
+
+/// The checker accepts the steps that `simplify` and then `place` make, of every query within the limits and every admissible
+/// code: at most 2,881 steps.
+pub fn law_plans_are_accepted()
+    ensures accepted { PlansAreAccepted }
+    ensures short { PlansAreShort }
 {}

@@ -11,7 +11,8 @@ mod simplifying;
 mod steps;
 
 pub use laws::{
-    law_places_each, law_plain_code_is_least, law_shapes_mean_same, law_simplifies_each,
+    law_places_each, law_plain_code_is_least, law_plans_are_accepted, law_shapes_mean_same,
+    law_simplifies_each,
 };
 pub use placing::place;
 pub use plain::plain_code;
