@@ -1,22 +1,19 @@
 -- The combinations of the shape of a plan are those of the written term.
-use Rattle.std.proofs.Common.{◌≡◌, ◌∙◌, refl, sym, ap, subst, ℕ, zero, suc, ◌<◌, Bool, true, false, ◌&&◌, List, [], ◌∷◌, ◌++◌, map, length, Result, Ok, Err}
+use Rattle.std.proofs.Common.{◌≡◌, ◌∙◌, refl, sym, ap, subst, ℕ, zero, suc, true, List, [], ◌∷◌, ◌++◌, map, length, Ok, Err}
 use Rattle.std.specs.List.Sorted.{IsPermutation}
-use Rattle.std.proofs.lemmas.List.{length-map}
-use Rattle.std.proofs.lemmas.List.Sorted.{IsPermutation-refl, IsPermutation-sym, IsPermutation-trans, IsPermutation-map}
+use Rattle.std.proofs.lemmas.List.Sorted.{IsPermutation-refl, IsPermutation-trans}
 use Rattle.memory.specs.Results.{and_then}
 use Rattle.expr.specs.Bound.{BoundExpr}
 use Rattle.expr.specs.BoundQuery.{BoundQuery}
 use Rattle.expr.specs.Codes.{Code}
 use Rattle.expr.specs.Conjuncts.{conjuncts, movable_conjuncts}
 use Rattle.expr.specs.Movable.{movable}
-use Rattle.eval.proofs.Movables.{and_left, and_right}
 use Rattle.bags.proofs.Members.{Each, each-passes}
 use Rattle.predicates.specs.Laws.{OffsetsKeepValue}
 use Rattle.predicates.specs.Offsets.{without_offsets}
 use Rattle.predicates.proofs.Keeping.{both}
 use Rattle.tuples.specs.Guards.{Guard}
-use Rattle.tuples.specs.World.{World}
-use Rattle.row_terms.specs.Terms.{Term, Filtered, Joined}
+use Rattle.row_terms.specs.Terms.{Term, Filtered}
 use Rattle.row_terms.specs.Means.{mean}
 use Rattle.row_terms.specs.Written.{joins, filters, written}
 use Rattle.algebra.specs.Keeping.{MeanSame, is_movable_term}
