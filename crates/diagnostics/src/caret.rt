@@ -5,8 +5,7 @@ ghost use Rattle.std.specs.List.{filter_map};
 ghost use Rattle.diagnostics.specs.Carets as spec;
 ghost use Rattle.diagnostics.specs.Carets.{below, first_line, last_line, caret_lines, up_to};
 
-use memory::Heap;
-use replies::{push_number, push_str};
+use memory::{Heap, push_number, push_str};
 use std::alloc::AllocError;
 
 // The number of the line after these bytes, from 1.

@@ -7,8 +7,8 @@ ghost use Rattle.diagnostics.specs.Diagnosis.{denial_line, lacking};
 
 use crate::caret::push_caret;
 use crate::meanings::push_refusal;
-use memory::{Heap, Text};
-use replies::{Reply, push_str};
+use memory::{Heap, Text, push_str};
+use replies::Reply;
 use std::alloc::AllocError;
 
 fn push_lacking<A: Heap>(

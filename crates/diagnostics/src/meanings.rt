@@ -4,8 +4,7 @@ ghost use Rattle.std.specs.Prelude.{◌≡◌, ◌++◌, IfOk, OnOk, flat_map};
 ghost use Rattle.diagnostics.specs.Meanings as spec;
 ghost use Rattle.diagnostics.specs.Meanings.{refusal_line, fault_line};
 
-use memory::Heap;
-use replies::push_str;
+use memory::{Heap, push_str};
 use std::alloc::AllocError;
 use value::{FaultKind, Refusal};
 

@@ -1,4 +1,3 @@
-mod Walks
 mod Written
 mod Expected
 mod Lexed

@@ -5,8 +5,8 @@ ghost use Rattle.value.specs.Datum.{datum};
 ghost use Rattle.row_ast.specs.View.{arms as arms_of, expr_of, exprs};
 ghost use Rattle.expr_texts.specs.ExprTexts as spec;
 
-use crate::writing::{not_of, push_column, push_literal, push_literals, push_str, sign_of};
-use memory::Heap;
+use crate::writing::{not_of, push_column, push_literal, push_literals, sign_of};
+use memory::{Heap, push_str};
 use row_ast::{Arm, Expr};
 use std::alloc::AllocError;
 use value::{Comparison, Value};

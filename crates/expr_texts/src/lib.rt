@@ -9,4 +9,4 @@ mod writing;
 pub use expressions::push_expr;
 pub use laws::{law_queries_fit, law_reading_is_determined, law_texts_read_back};
 pub use reading::{read_expr, read_whole};
-pub use writing::{not_of, push_column, push_literal, push_literals, push_str, sign_of};
+pub use writing::{not_of, push_column, push_literal, push_literals, sign_of};

@@ -6,17 +6,10 @@ ghost use Rattle.row_tokens.specs.Tokens.{quoted};
 ghost use Rattle.expr_texts.specs.ExprTexts.{column_text, literal_text, literals_text, further_literals, sign_text, not_text};
 
 use itoa::Buffer;
-use memory::Heap;
+use memory::{Heap, push_str};
 use row_ast::ColumnRef;
 use std::alloc::AllocError;
 use value::{Comparison, Value};
-
-/// A text.
-pub fn push_str<A: Heap>(out: &mut Vec<u8, A>, text: &str) -> Result<(), AllocError>
-    ensures { OnOk result (out.new.items ≡ out.old.items ++ text.now) }
-{
-    out.extend_from_slice(text.as_bytes())
-}
 
 // A text literal: its quotes doubled, between quotes.
 fn push_quoted<A: Heap>(out: &mut Vec<u8, A>, text: &[u8]) -> Result<(), AllocError>

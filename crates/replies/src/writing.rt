@@ -7,10 +7,9 @@ ghost use Rattle.replies.specs.Reply.{Refused as refused, Denied as denied, Faul
 ghost use Rattle.replies.specs.ReplyText.{is_special, needs_quotes, quoted_text, field_text, line_text, offset_text, column_text, reply_text};
 ghost use Rattle.replies.specs.View.{reply_of};
 
-use crate::lines::{push_number, push_str};
 use crate::reply::Reply;
 use itoa::Buffer;
-use memory::{Heap, Items, Text};
+use memory::{Heap, Items, Text, push_number, push_str};
 use std::alloc::AllocError;
 use value::{Fault, Refusal, Value};
 

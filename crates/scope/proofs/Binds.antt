@@ -16,7 +16,7 @@ use Rattle.expr.specs.declared.bound.BoundExpr as code
 use Rattle.expr.specs.declared.bound.BoundExpr.{Case, And, Or}
 use Rattle.expr.specs.declared.bound.BoundArm as code_arm
 use Rattle.expr.proofs.Trees.{bound_exprs_hidden, bound_arms_hidden}
-use Rattle.scope.proofs.Walks.{exprs_step, exprs_over, arms_step, arms_over}
+use Rattle.row_ast.proofs.Walks.{exprs_step, exprs_over, arms_step, arms_over}
 use Rattle.scope.specs.declared.error.BindError.{BindError}
 use Rattle.scope.specs.declared.lookup.Scope.{Scope}
 use Rattle.scope.specs.Entry.{Entry}

@@ -1,3 +1,3 @@
 pub mod Binds
+pub mod ByAlias
 pub mod Found
-pub mod Walks

@@ -1,7 +1,6 @@
 -- The column that a name resolves to, among the entries in scope.
-use Rattle.std.specs.Prelude.{ℕ, nat_lt, ◌+◌, ◌&&◌, ◌||◌, not, Bool, true, false, List, [], ◌∷◌, length, Option, Some, None, is_some, Result, Ok, Err, if◌then◌else◌}
+use Rattle.std.specs.Prelude.{ℕ, nat_lt, ◌+◌, ◌&&◌, not, Bool, List, [], ◌∷◌, length, Option, Some, None, Result, Ok, Err, if◌then◌else◌}
 use Rattle.value.specs.declared.refusal.Refusal.TheVariants as r
-use Rattle.value.specs.Names.{Name}
 use Rattle.row_ast.specs.Ast as ast
 use Rattle.row_objects.specs.ColumnNames.{is_qualified, column_index}
 use Rattle.scope.specs.declared.error.BindError.{BindError}
@@ -15,15 +14,11 @@ use Rattle.scope.specs.Entry.{Entry, fault}
 
 -- the scope of items, WHERE, GROUP BY and HAVING is every entry
 abbrev pub everywhere : List Entry → Scope
-everywhere entries = record { from = 0; to = length entries; unqualified = true }
-
--- the scope of the filters of a plan is every entry, each by its alias
-abbrev pub by_alias : List Entry → Scope
-by_alias entries = record { from = 0; to = length entries; unqualified = false }
+everywhere entries = record { from = 0; to = length entries }
 
 -- the scope of the ON of an entry is from the first entry of its comma item to the entry itself
 abbrev pub on_scope : ℕ → Entry → Scope
-on_scope entry e = record { from = e.first; to = entry + 1; unqualified = true }
+on_scope entry e = record { from = e.first; to = entry + 1 }
 
 abbrev pub is_within : Scope → ℕ → Bool
 is_within scope entry = not (nat_lt entry scope.from) && nat_lt entry scope.to
@@ -34,14 +29,10 @@ abbrev pub found_at : ℕ → Option ℕ → Search
 found_at entry None = search.NoColumn
 found_at entry (Some column) = search.One (record { entry = entry; column = column })
 
--- a name without a table is one where the scope lets it be
-abbrev pub allows : Scope → Option Name → Bool
-allows scope table = scope.unqualified || is_some table
-
 -- the result of the search for a name in an entry
 abbrev pub column_in_entry : Scope → ast.ColumnRef → ℕ → Entry → Search
 column_in_entry scope c entry e =
-    if is_within scope entry && is_qualified e.alias c.table && allows scope c.table then found_at entry (column_index e.table.columns c.name) else search.NoEntry
+    if is_within scope entry && is_qualified e.alias c.table then found_at entry (column_index e.table.columns c.name) else search.NoEntry
 
 -- ---- all entries
 

@@ -20,8 +20,6 @@ pub struct Scope {
     pub from: usize,
     /// One more than the last.
     pub to: usize,
-    /// True where a column may be named without its table.
-    pub unqualified: bool,
 }
 
 // The result of the search for a name among some entries.
@@ -44,18 +42,6 @@ pub fn everywhere<A: Heap>(entries: &[Entry<'_, A>]) -> Scope
     Scope {
         from: 0,
         to: entries.len(),
-        unqualified: true,
-    }
-}
-
-/// The scope of the filters of a plan: every entry, and each column by the alias of its entry.
-pub fn by_alias<A: Heap>(entries: &[Entry<'_, A>]) -> Scope
-    ensures { result ≡ spec.by_alias (entries_of entries.now) }
-{
-    Scope {
-        from: 0,
-        to: entries.len(),
-        unqualified: false,
     }
 }
 
@@ -67,7 +53,6 @@ pub fn on_scope<A: Heap>(number: usize, entry: &Entry<'_, A>) -> Scope
     Scope {
         from: entry.first,
         to: number + 1,
-        unqualified: true,
     }
 }
 
@@ -89,9 +74,6 @@ fn column_in_entry<A: Heap>(
         return Search::NoEntry;
     }
     if !is_qualified(entry.alias, &column.table) {
-        return Search::NoEntry;
-    }
-    if !scope.unqualified && column.table.is_none() {
         return Search::NoEntry;
     }
     match column_index(entry.table.columns(), column.name.as_str()) {

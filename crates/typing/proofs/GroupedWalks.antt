@@ -9,7 +9,7 @@ use Rattle.scope.specs.declared.lookup.Scope.{Scope}
 use Rattle.scope.specs.declared.error.BindError.{BindError}
 use Rattle.scope.specs.Entry.{Entry}
 use Rattle.scope.specs.Lookup.{find_column}
-use Rattle.scope.proofs.Walks.{exprs_step, exprs_over, arms_step, arms_over}
+use Rattle.row_ast.proofs.Walks.{exprs_step, exprs_over, arms_step, arms_over}
 use Rattle.typing.specs.Offsets.{least_of}
 use Rattle.typing.specs.Grouping.{misplaced_column, misplaced, misplaced_members, misplaced_arms}
 

@@ -6,7 +6,7 @@ use Rattle.row_ast.specs.declared.expr.Expr.{Expr}
 use Rattle.row_ast.specs.declared.expr.Arm.{Arm}
 use Rattle.scope.specs.declared.lookup.Scope.{Scope}
 use Rattle.scope.specs.Entry.{Entry}
-use Rattle.scope.proofs.Walks.{exprs_step, exprs_over, arms_step, arms_over}
+use Rattle.row_ast.proofs.Walks.{exprs_step, exprs_over, arms_step, arms_over}
 use Rattle.typing.specs.Typing.{TypeOf, Typed, typed, and_condition, and_arm, typed_members, typed_arms}
 
 -- ---- types

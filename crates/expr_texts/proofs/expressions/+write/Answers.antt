@@ -6,7 +6,7 @@ use Rattle.row_ast.specs.View.{expr_of, exprs, arms}
 use Rattle.row_ast.specs.Weights.{weight}
 use Rattle.row_ast.proofs.Operands.{comparison_is}
 use Rattle.expr_texts.specs.ExprTexts.{expr_text, members_text, further_text, arms_text}
-use Rattle.expr_texts.proofs.Walks.{and_is, or_is, case_none, case_other, case_lighter, exprs_over, exprs_step, exprs_still, arms_over, arms_step, arms_still}
+use Rattle.row_ast.proofs.Walks.{and_is, or_is, case_none, case_other, case_lighter, exprs_over, exprs_step, exprs_still, arms_over, arms_step, arms_still}
 use Rattle.expr_texts.proofs.Written.{enclosed, compared, cased, with_else, member_next, arm_next, no_some}
 use Rattle.expr_texts.proofs.expressions.+write.Goals.{push_expr-in-Some+in_ok-push_str-in-Case-2+in_ok-push_expr-in-Case, push_expr-in_default}
 use Rattle.expr_texts.proofs.expressions.+write.Goals as goal

@@ -9,7 +9,7 @@ use Rattle.row_ast.specs.Weights.{weight, all_weight, arms_weight}
 use Rattle.scope.specs.View.{entry_of}
 use Rattle.scope.specs.BoundExprs.{bound_members, bound_arms}
 use Rattle.scope.proofs.Found.{failed}
-use Rattle.scope.proofs.Walks.{and_is, or_is, case_none, case_other, case_lighter, otherwise_lighter, exprs_still, arms_still, exprs_lighter, when_lighter, result_lighter}
+use Rattle.row_ast.proofs.Walks.{and_is, or_is, case_none, case_other, case_lighter, otherwise_lighter, exprs_still, arms_still, exprs_lighter, when_lighter, result_lighter}
 use Rattle.row_ast.proofs.Operands.{negate_is, in_is, is_null_is, not_is, cast_is, call_is, arithmetic_is, comparison_is, between_is}
 use Rattle.memory.proofs.Lighter.{lighter, left_lighter, right_lighter, middle_lighter, last_lighter}
 use Rattle.scope.proofs.Binds.{bound_as, members_over, members_opened, members_next, arms_bound_over, arms_opened, arms_next}

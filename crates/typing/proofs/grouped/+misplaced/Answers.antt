@@ -4,7 +4,7 @@ use Rattle.std.proofs.Math.Nat.{le_refl}
 use Rattle.row_ast.specs.View.{expr_of, exprs, arms as arms_of}
 use Rattle.row_ast.specs.Weights.{weight, all_weight, arms_weight}
 use Rattle.scope.specs.View.{entry_of}
-use Rattle.scope.proofs.Walks.{and_is, or_is, case_none, case_other, case_lighter, otherwise_lighter, exprs_still, arms_still, exprs_lighter, when_lighter, result_lighter}
+use Rattle.row_ast.proofs.Walks.{and_is, or_is, case_none, case_other, case_lighter, otherwise_lighter, exprs_still, arms_still, exprs_lighter, when_lighter, result_lighter}
 use Rattle.row_ast.proofs.Operands.{negate_is, in_is, is_null_is, not_is, cast_is, call_is, arithmetic_is, comparison_is, between_is}
 use Rattle.memory.proofs.Lighter.{lighter, left_lighter, right_lighter, middle_lighter, last_lighter}
 use Rattle.typing.specs.Grouping.{misplaced_call}

@@ -5,7 +5,7 @@ use Rattle.row_ast.specs.View.{expr_of, exprs, arms as arms_of}
 use Rattle.scope.specs.View.{entry_of}
 use Rattle.typing.specs.Typing.{negation_type, arithmetic_type, comparison_type, between_type, membership_type, null_check_type, not_type, cast_type, call_type, conditions_type, case_type, found_type, typed, typed_arms}
 use Rattle.row_ast.specs.Weights.{weight, all_weight, arms_weight}
-use Rattle.scope.proofs.Walks.{and_is, or_is, case_none, case_some, case_lighter, exprs_lighter, exprs_still, when_lighter, result_lighter, arms_still}
+use Rattle.row_ast.proofs.Walks.{and_is, or_is, case_none, case_some, case_lighter, exprs_lighter, exprs_still, when_lighter, result_lighter, arms_still}
 use Rattle.row_ast.proofs.Operands.{negate_is, in_is, is_null_is, not_is, cast_is, call_is, arithmetic_is, comparison_is, between_is}
 use Rattle.memory.proofs.Lighter.{lighter, left_lighter, right_lighter, middle_lighter, last_lighter}
 use Rattle.typing.proofs.Walks.{member_step, member_over, arm_step, arm_over}
