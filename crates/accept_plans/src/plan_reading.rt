@@ -26,6 +26,9 @@ cost 7;empty;sort r.id;trail; | 7, 0 filters, empty, sort 2.1
 cost 7;filter 2 r.id;empty;trail; | line 2
 cost 7;filter 1 (r.name = 'it''s; ''a'' line');filter 2 r.id=1;empty;trail; | 7, 2 filters, empty
 cost 7;filter 1 r.id = ;empty;trail; | line 2
+cost 7;filter 1 deal.region = 'x' AND r.region = 'x';empty;trail; | line 2
+cost 7;filter 1 x.id = 1;empty;trail; | line 2
+cost 7;filter 1 CASE WHEN r.id = 1 THEN id END = 1;empty;trail; | line 2
 cost 7;first r full;trail; | 7, 0 filters, 2 full nested
 cost 7;first x full;trail; | line 2
 cost 7;first r index id by 0;hash 1 deal full;merge 2 r index name;trail; | 7, 0 filters, 2 range 1 0 nested, 1 full hash 1, 2 index 2 merge 2

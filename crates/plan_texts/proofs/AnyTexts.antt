@@ -28,7 +28,7 @@ module _ (entries : List PlanEntry) where
   one_filter : (n : ℕ) (done : List Expr) (number : ℕ) (l : List ℕ) (e : Expr) → number ≡ length done + 1 → IsTextOfLine entries (FilterLine number e) l → IsLine l → Goes entries (Costed n done) (l ∷ []) (Costed n (done ++ e ∷ []))
   one_filter n done number l e at s line k more rest =
       let said : content_at entries l ≡ Some (FilterLine number e) =
-      ap (content_at entries) s.1 ∙ ap (λ bs. filter_at (cut bs)) (append_assoc (decimal number) (32 ∷ []) s.0) ∙ filter_is entries number s.0 e s.2 s.3 in
+      ap (content_at entries) s.1 ∙ ap (λ bs. filter_at entries (cut bs)) (append_assoc (decimal number) (32 ∷ []) s.0) ∙ filter_is entries number s.0 e s.2 s.3 s.4 in
       let stands : with_line (Costed n done) (FilterLine number e) ≡ Some (Costed n (done ++ e ∷ [])) = rw (eq-eqb number (length done + 1) at) refl in (
         suc k,
         ap (λ o. or_stops k (option_and_then (with_line (Costed n done)) o) (λ d. read_lines entries (suc k) d more rest)) (utf8_line entries l (FilterLine number e) line.utf8 said)

@@ -2,6 +2,8 @@ mod Pieces
 mod Cuts
 mod Splits
 mod Entries
+mod ColumnWalks
+mod Found
 mod Additions
 mod Written
 mod Progress

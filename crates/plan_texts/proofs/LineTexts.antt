@@ -22,8 +22,9 @@ use Rattle.row_terms.specs.declared.path.Branch.{Branch}
 use Rattle.algebra.specs.Steps.{Step}
 use Rattle.plan_texts.specs.declared.plan.SortColumn.{SortColumn}
 use Rattle.plan_texts.specs.Plans.{PlanEntry}
+use Rattle.plan_texts.specs.Columns.{all_columns}
 use Rattle.plan_texts.specs.PlanTexts.{item_at, or_nothing, alias_of, column_of, alias, column_name, access_text, scan_text, method_text, branch_digit, path_text, argument_text, step_text}
-use Rattle.plan_texts.specs.Reading.{number_below, number_at, numbered_from, number_of, Line, CostLine, FilterLine, EmptyLine, FirstLine, JoinLine, SortLine, TrailLine, StepLine, parts, cut, filter_at, is_branch, branch_of, branches_of, path_at, arguments_at, last_minus, but_last, rule_at, step_at, entry_at, columns_from, columns_at, column_at, access_at, scan_at, join_at, by_conjunct, sort_column_at, cost_at, sort_at, other_line, after_word, content_at, IsTextOfLine, LinesAreTexts}
+use Rattle.plan_texts.specs.Reading.{number_below, number_at, numbered_from, number_of, Line, CostLine, FilterLine, EmptyLine, FirstLine, JoinLine, SortLine, TrailLine, StepLine, parts, cut, is_branch, branch_of, branches_of, path_at, arguments_at, last_minus, but_last, rule_at, step_at, entry_at, columns_from, columns_at, column_at, is_found, filter_line, filter_at, access_at, scan_at, join_at, by_conjunct, sort_column_at, cost_at, sort_at, other_line, after_word, content_at, IsTextOfLine, LinesAreTexts}
 
 -- a test that led to a value
 chosen : {X : Type 0} (b : Bool) (x y : Option X) (z : X) → (if b then x else y) ≡ Some z → ((b ≡ true) × (x ≡ Some z)) ⊎ (y ≡ Some z)
@@ -286,17 +287,19 @@ module _ (entries : List PlanEntry) where
           subst (λ y. IsTextOfLine entries y (codes "sort " ++ name)) (sym m.2) (sort_own entries name m.0 m.1)
       sorts (name ∷ k ∷ ps) f = cc
 
-  filter_own : (l : List ℕ) (x : Line) → filter_at (cut l) ≡ Some x → IsTextOfLine entries x (codes "filter " ++ l)
+  filter_own : (l : List ℕ) (x : Line) → filter_at entries (cut l) ≡ Some x → IsTextOfLine entries x (codes "filter " ++ l)
   filter_own l x e = go (cut l) refl e
     where
-      go : (o : Option (List ℕ × List ℕ)) → cut l ≡ o → filter_at o ≡ Some x → IsTextOfLine entries x (codes "filter " ++ l)
+      go : (o : Option (List ℕ × List ℕ)) → cut l ≡ o → filter_at entries o ≡ Some x → IsTextOfLine entries x (codes "filter " ++ l)
       go None h f = cc
       go (Some p) h f =
-          let m = chained (λ n. option_map (λ e. FilterLine n e) (expr_at p.1)) (number_at p.0) x f in
-          let n = mapped (λ e. FilterLine m.0 e) (expr_at p.1) x m.2 in
+          let m = chained (λ n. option_and_then (filter_line entries n) (expr_at p.1)) (number_at p.0) x f in
+          let n = chained (filter_line entries m.0) (expr_at p.1) x m.2 in
+          let found = where_true (all_columns (is_found entries) n.0) (Some (FilterLine m.0 n.0)) x n.2 in
+          let is : FilterLine m.0 n.0 ≡ x = cc (found.1) in
           let own = number_own (2 ^ 64) p.0 m.0 m.1 in
-          subst (λ y. IsTextOfLine entries y (codes "filter " ++ l)) (sym n.2)
-          (p.1, ap (λ v. codes "filter " ++ v) (cut_own l p h) ∙ ap (λ v. codes "filter " ++ (v ++ codes " " ++ p.1)) own.0, own.1, n.1)
+          subst (λ y. IsTextOfLine entries y (codes "filter " ++ l)) is
+          (p.1, ap (λ v. codes "filter " ++ v) (cut_own l p h) ∙ ap (λ v. codes "filter " ++ (v ++ codes " " ++ p.1)) own.0, own.1, n.1, found.0)
 
   after_word_own : (l : List ℕ) (x : Line) → after_word entries (cut l) (parts l) ≡ Some x → IsTextOfLine entries x l
   after_word_own l x e = go (cut l) refl e
@@ -307,7 +310,7 @@ module _ (entries : List PlanEntry) where
       go : (o : Option (List ℕ × List ℕ)) → cut l ≡ o → after_word entries o (parts l) ≡ Some x → IsTextOfLine entries x l
       go None h f = words f
       go (Some p) h f =
-          elim (chosen (bytes_eq p.0 (codes "filter")) (filter_at (cut p.1)) (other_line entries (parts l)) x f) [
+          elim (chosen (bytes_eq p.0 (codes "filter")) (filter_at entries (cut p.1)) (other_line entries (parts l)) x f) [
             | inl k ↦ subst (IsTextOfLine entries x) (sym (cut_own l p h ∙ ap (λ v. v ++ codes " " ++ p.1) (same p.0 (codes "filter") k.0))) (filter_own p.1 x k.1)
             | inr k ↦ words k
           ]

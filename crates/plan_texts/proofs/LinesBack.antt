@@ -1,5 +1,5 @@
 -- The text of each line of a plan is read as the line.
-use Rattle.std.proofs.Common.{◌≡◌, ℕ, sym, ◌==◌, ◌<◌, ◌≤◌, ◌^◌, nat_eq, nat_lt, Bool, true, false, if◌then◌else◌, List, [], ◌∷◌, ◌++◌, length, codes, Some, refl, ap, ◌∙◌, arith}
+use Rattle.std.proofs.Common.{◌≡◌, ℕ, sym, ◌==◌, ◌<◌, ◌≤◌, ◌^◌, nat_eq, nat_lt, Bool, true, false, if◌then◌else◌, List, [], ◌∷◌, ◌++◌, length, codes, Some, None, refl, ap, ◌∙◌, arith}
 use Rattle.std.specs.Prelude.{map, flat_map, option_map, option_and_then}
 use Rattle.std.specs.Char.{is_ascii_digit}
 use Rattle.std.specs.Fmt.{decimal}
@@ -26,8 +26,10 @@ use Rattle.row_terms.specs.declared.path.Branch.TheVariants.{First, Second}
 use Rattle.algebra.specs.Steps.{Step}
 use Rattle.plan_texts.specs.declared.plan.SortColumn.{SortColumn}
 use Rattle.plan_texts.specs.Plans.{PlanEntry}
+use Rattle.plan_texts.specs.Columns.{all_columns}
 use Rattle.plan_texts.specs.PlanTexts.{alias, column_name, access_text, scan_text, method_text, join_text, branch_digit, path_text, argument_text, step_text}
-use Rattle.plan_texts.specs.Reading.{number_at, Line, CostLine, FilterLine, FirstLine, JoinLine, SortLine, StepLine, filter_at, is_branch, branches_of, path_at, arguments_at, last_minus, rule_at, step_at, column_at, access_at, scan_at, join_at, by_conjunct, sort_column_at, content_at, line_at, IsFilter, AreAll, HasEntry, HasColumn, IsAccess, IsScan, IsFirst, IsMethod, IsJoin, IsStep, cut, after_word}
+use Rattle.plan_texts.specs.Reading.{number_at, Line, CostLine, FilterLine, FirstLine, JoinLine, SortLine, StepLine, is_found, filter_line, filter_at, is_branch, branches_of, path_at, arguments_at, last_minus, rule_at, step_at, column_at, access_at, scan_at, join_at, by_conjunct, sort_column_at, content_at, line_at, IsFilter, AreAll, HasEntry, HasColumn, IsAccess, IsScan, IsFirst, IsMethod, IsJoin, IsStep, cut, after_word}
+use Rattle.plan_texts.proofs.Found.{still_found}
 use Rattle.plan_texts.proofs.Quiet.{decimal_digits, decimal_word}
 use Rattle.plan_texts.proofs.Pieces.{Lacks, split_at, split_none, cut_at, word_lacks_blank, word_lacks_dot, number_is, minus_last, without_minus}
 
@@ -53,13 +55,16 @@ module _ (entries : List PlanEntry) where
   pub cost_back : (n : ℕ) → n < 2 ^ 128 → content_at entries (codes "cost " ++ decimal n) ≡ Some (CostLine n)
   cost_back n h = rw (decimal_cut n (widest n h)) (ap (option_map CostLine) (number_is (2 ^ 128) n h (widest n h)))
 
-  pub filter_is : (n : ℕ) (source : List ℕ) (e : Expr) → n < 2 ^ 64 → expr_at source ≡ Some e → filter_at (cut (decimal n ++ 32 ∷ source)) ≡ Some (FilterLine n e)
-  filter_is n source e h r =
-      ap filter_at (cut_at (decimal n) source (decimal_lacks n (wide n h)))
-      ∙ ap (option_and_then (λ m. option_map (λ x. FilterLine m x) (expr_at source))) (a_number n h) ∙ ap (option_map (λ x. FilterLine n x)) r
+  pub filter_is : (n : ℕ) (source : List ℕ) (e : Expr) → n < 2 ^ 64 → expr_at source ≡ Some e → all_columns (is_found entries) e ≡ true → filter_at entries (cut (decimal n ++ 32 ∷ source)) ≡ Some (FilterLine n e)
+  filter_is n source e h r found =
+      ap (filter_at entries) (cut_at (decimal n) source (decimal_lacks n (wide n h)))
+      ∙ ap (option_and_then (λ m. option_and_then (filter_line entries m) (expr_at source))) (a_number n h) ∙ ap (option_and_then (filter_line entries n)) r
+      ∙ ap (λ b. if b then Some (FilterLine n e) else None) found
 
-  pub filter_back : (n : ℕ) (e : Expr) → n < 2 ^ 64 → IsFilter e → content_at entries (codes "filter " ++ decimal n ++ codes " " ++ expr_text e) ≡ Some (FilterLine n (without_offsets e))
-  filter_back n e h is = ap (λ bs. filter_at (cut bs)) (append_assoc (decimal n) (32 ∷ []) (expr_text e)) ∙ filter_is n (expr_text e) (without_offsets e) h (texts_read_back e is.written is.shallow)
+  pub filter_back : (n : ℕ) (e : Expr) → n < 2 ^ 64 → IsFilter entries e → content_at entries (codes "filter " ++ decimal n ++ codes " " ++ expr_text e) ≡ Some (FilterLine n (without_offsets e))
+  filter_back n e h is =
+      ap (λ bs. filter_at entries (cut bs)) (append_assoc (decimal n) (32 ∷ []) (expr_text e))
+      ∙ filter_is n (expr_text e) (without_offsets e) h (texts_read_back e is.written is.shallow) (still_found entries e ∙ is.found)
 
   -- ---- scans
 

@@ -40,7 +40,7 @@ module _ (entries : List PlanEntry) where
       let more = text_lines ls q.1 in
       ap lines_of (append_assoc l (10 ∷ []) rest) ∙ quiet_line l rest q.0 ∙ ap (λ (x : List (List ℕ) × List ℕ). let y : List (List ℕ) × List ℕ = (l ∷ x.0, x.1) in y) more
 
-  filters_quiet : (number : ℕ) (es : List Expr) → number + length es ≤ 2 ^ 64 → AreAll IsFilter es → AreAll IsQuiet (filter_lines number es)
+  filters_quiet : (number : ℕ) (es : List Expr) → number + length es ≤ 2 ^ 64 → AreAll (IsFilter entries) es → AreAll IsQuiet (filter_lines number es)
   filters_quiet number [] l are = tt
   filters_quiet number (e ∷ es) l are = (
     both_quiet (codes "filter " ++ decimal number ++ codes " ") (expr_text e) (both_quiet (codes "filter " ++ decimal number) (codes " ") (both_quiet (codes "filter ") (decimal number) filter_quiet (decimal_quiet number (omega arith))) blank_quiet) (expr_quiet e are.0.written are.0.utf8),
@@ -140,7 +140,7 @@ module _ (entries : List PlanEntry) where
       let b = h a.0 more rest in
       (b.0, ap (λ ns. read_lines entries number from ns rest) (append_assoc ls ms more) ∙ a.1 ∙ b.1)
 
-  filters_go : (n : ℕ) (done : List Expr) (number : ℕ) (es : List Expr) → number ≡ length done + 1 → number + length es ≤ 2 ^ 64 → AreAll IsFilter es
+  filters_go : (n : ℕ) (done : List Expr) (number : ℕ) (es : List Expr) → number ≡ length done + 1 → number + length es ≤ 2 ^ 64 → AreAll (IsFilter entries) es
       → Goes (Costed n done) (filter_lines number es) (Costed n (done ++ map without_offsets es))
   filters_go n done number [] e l are = subst (λ xs. Goes (Costed n done) [] (Costed n xs)) (sym (append-nil done)) (stays (Costed n done))
   filters_go n done number (x ∷ es) e l are =

@@ -1,5 +1,6 @@
 pub mod Plans
 pub mod Lines
 pub mod PlanTexts
+pub mod Columns
 pub mod Reading
 pub mod View

@@ -1,12 +1,12 @@
 -- The reading of a plan's text: the plan, or the number of the first unreadable line.
-use Rattle.std.specs.Prelude.{◌≡◌, ℕ, zero, suc, ◌+◌, ◌<◌, ◌≤◌, ◌^◌, ◌==◌, nat_lt, Bool, true, false, ◌&&◌, ◌||◌, if◌then◌else◌, List, [], ◌∷◌, ◌++◌, length, map, flat_map, Option, Some, None, option_and_then, option_map, Result, Ok, Err, codes}
+use Rattle.std.specs.Prelude.{◌≡◌, ℕ, zero, suc, ◌+◌, ◌<◌, ◌≤◌, ◌^◌, ◌==◌, nat_lt, Bool, true, false, ◌&&◌, ◌||◌, if◌then◌else◌, List, [], ◌∷◌, ◌++◌, length, map, flat_map, Option, Some, None, option_and_then, option_map, is_some, Result, Ok, Err, codes}
 use Rattle.std.specs.List.{slice_split, list_all}
 use denote.Ref.{Bor}
 use Rattle.std.specs.Fmt.{decimal}
 use Rattle.std.specs.Str.{bytes_eq, is_utf8, IsUtf8}
 use Rattle.std.specs.Str.Parse.{digits_value}
 use Rattle.value.specs.Names.{Name}
-use Rattle.row_ast.specs.Ast.{Expr}
+use Rattle.row_ast.specs.Ast.{ColumnRef, Expr}
 use Rattle.expr.specs.Codes.{Code, Empty, Steps}
 use Rattle.expr.specs.declared.code.Access.{Access}
 use Rattle.expr.specs.declared.code.Access.TheVariants.{Full, Index, Range}
@@ -22,6 +22,7 @@ use Rattle.expr_texts.specs.ExprTexts.{expr_text}
 use Rattle.plan_texts.specs.declared.plan.SortColumn.{SortColumn}
 use Rattle.plan_texts.specs.PlanTexts.{alias, column_name, scan_text, join_text, code_lines, sort_lines, step_text, plan_text}
 use Rattle.plan_texts.specs.Lines.{lines_of}
+use Rattle.plan_texts.specs.Columns.{all_columns}
 use Rattle.plan_texts.specs.Plans.{PlanEntry, Plan}
 
 -- ---- numbers and names
@@ -73,11 +74,6 @@ is_word word part = bytes_eq part word
 abbrev pub cut : List ℕ → Option (List ℕ × List ℕ)
 cut [] = None
 cut (b ∷ bs) = if b == 32 then Some ([], bs) else option_map (λ p. (b ∷ p.0, p.1)) (cut bs)
-
--- the line of a filter, by its number and the text of the expression
-abbrev pub filter_at : Option (List ℕ × List ℕ) → Option Line
-filter_at None = None
-filter_at (Some p) = option_and_then (λ n. option_map (λ e. FilterLine n e) (expr_at p.1)) (number_at p.0)
 
 -- 0 or 1
 abbrev pub is_branch : ℕ → Bool
@@ -149,6 +145,19 @@ module _ (entries : List PlanEntry) where
   -- the number of the entry's column of that name
   abbrev pub column_at : ℕ → Name → Option ℕ
   column_at entry name = number_of (columns_at entry) name
+
+  -- an alias of an entry, and a column of its table
+  abbrev pub is_found : ColumnRef → Bool
+  is_found c = is_some (option_and_then (λ alias. option_and_then (λ i. column_at i c.name) (entry_at alias)) c.table)
+
+  -- the line of a filter whose columns are found
+  abbrev pub filter_line : ℕ → Expr → Option Line
+  filter_line number e = if all_columns is_found e then Some (FilterLine number e) else None
+
+  -- the line of a filter, by its number and the text of the expression
+  abbrev pub filter_at : Option (List ℕ × List ℕ) → Option Line
+  filter_at None = None
+  filter_at (Some p) = option_and_then (λ n. option_and_then (filter_line n) (expr_at p.1)) (number_at p.0)
 
   -- the access to an entry
   abbrev pub access_at : ℕ → List (List ℕ) → Option Access
@@ -261,12 +270,6 @@ module _ (entries : List PlanEntry) where
 
 -- ---- plans with a text
 
--- a filter with a text
-pub record IsFilter (e : Expr) : Type 0 where
-  pub written : IsWritten e
-  pub shallow : levels e ≤ filter_levels
-  pub utf8 : IsUtf8 (expr_text e)
-
 -- the name has this number alone, and is one of the grammar
 abbrev pub IsOne : List Name → ℕ → Name → Type 0
 IsOne names number name = (number_of names name ≡ Some number) × IsName name
@@ -283,6 +286,13 @@ pub record IsStep (s : Step) : Type 0 where
   pub few : length s.arguments ≤ 2
 
 module _ (entries : List PlanEntry) where
+  -- a filter with a text, its columns found
+  pub record IsFilter (e : Expr) : Type 0 where
+    pub written : IsWritten e
+    pub shallow : levels e ≤ filter_levels
+    pub utf8 : IsUtf8 (expr_text e)
+    pub found : all_columns (is_found entries) e ≡ true
+
   -- there is an entry of that number, found by its alias
   abbrev pub HasEntry : ℕ → Type 0
   HasEntry entry = IsOne (map (λ (e : PlanEntry). e.alias) entries) entry (alias entries entry)
@@ -350,10 +360,10 @@ PlansReadBack = (entries : List PlanEntry) (p : Plan) → IsPlan entries p → p
 -- ---- the texts of lines
 
 module _ (entries : List PlanEntry) where
-  -- the text of a line; of a filter's any text that is read as the expression
+  -- the text of a line; of a filter's any text that is read as the expression, whose columns are found
   abbrev pub IsTextOfLine : Line → List ℕ → Type 0
   IsTextOfLine (CostLine n) l = (l ≡ codes "cost " ++ decimal n) × (n < 2 ^ 128)
-  IsTextOfLine (FilterLine k e) l = (source : List ℕ) × (l ≡ codes "filter " ++ decimal k ++ codes " " ++ source) × (k < 2 ^ 64) × (expr_at source ≡ Some e)
+  IsTextOfLine (FilterLine k e) l = (source : List ℕ) × (l ≡ codes "filter " ++ decimal k ++ codes " " ++ source) × (k < 2 ^ 64) × (expr_at source ≡ Some e) × (all_columns (is_found entries) e ≡ true)
   IsTextOfLine EmptyLine l = l ≡ codes "empty"
   IsTextOfLine (FirstLine s) l = (l ≡ codes "first " ++ scan_text entries s) × (s.method ≡ Nested)
   IsTextOfLine (JoinLine j) l = l ≡ join_text entries j

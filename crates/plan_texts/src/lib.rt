@@ -2,6 +2,7 @@
 #![tactic(auto)]
 
 mod code;
+mod columns;
 mod draft;
 mod laws;
 mod line;

@@ -6,6 +6,7 @@ ghost use Rattle.plan_texts.specs.Reading as spec;
 ghost use Rattle.plan_texts.specs.View.{line_of, plan_entry_of, texts_of};
 
 use crate::code::{read_hash, read_merge, read_scan};
+use crate::columns::columns_found;
 use crate::names::{column_number, entry_number};
 use crate::numbers::{read_cost, read_number};
 use crate::parts::{cut, dotted, parts_of};
@@ -43,8 +44,12 @@ pub enum Line<A: Heap> {
 }
 
 // The line of a filter, after its word.
-fn read_filter<A: Heap>(alloc: A, rest: &str) -> Result<Option<Line<A>>, AllocError>
-    ensures { IfOk result (λ line. option_map line_of line ≡ spec.filter_at (spec.cut rest.now)) }
+fn read_filter<A: Heap>(
+    alloc: A,
+    entries: &[PlanEntry<A>],
+    rest: &str,
+) -> Result<Option<Line<A>>, AllocError>
+    ensures { IfOk result (λ line. option_map line_of line ≡ spec.filter_at (map plan_entry_of entries.now) (spec.cut rest.now)) }
 {
     let Some((number, source)) = cut(rest) else {
         return Ok(None);
@@ -52,10 +57,13 @@ fn read_filter<A: Heap>(alloc: A, rest: &str) -> Result<Option<Line<A>>, AllocEr
     let Some(number) = read_number(number) else {
         return Ok(None);
     };
-    match read_expr(alloc, source)? {
-        Some(filter) => Ok(Some(Line::Filter { number, filter })),
-        None => Ok(None),
+    let Some(filter) = read_expr(alloc, source)? else {
+        return Ok(None);
+    };
+    if !columns_found(entries, &filter) {
+        return Ok(None);
     }
+    Ok(Some(Line::Filter { number, filter }))
 }
 
 // The line of the cost, after its word.
@@ -146,7 +154,7 @@ fn read_words<A: Heap>(
 {
     if let Some((word, rest)) = cut(line) {
         if word == "filter" {
-            return read_filter(alloc, rest);
+            return read_filter(alloc, entries, rest);
         }
     }
     let parts = parts_of(alloc, line)?;

@@ -11,20 +11,12 @@ ghost use Rattle.plan_texts.specs.View.{plan_entry_of, plan_of};
 use crate::plan::{Plan, PlanEntry, SortColumn};
 use algebra::Step;
 use expr::{Access, Code, CodeStep, Method};
-use expr_texts::{push_expr, push_str};
+use expr_texts::push_expr;
 use itoa::Buffer;
-use memory::{Heap, Text};
+use memory::{Heap, Text, push_number, push_str};
 use row_ast::Expr;
 use row_terms::Branch;
 use std::alloc::AllocError;
-
-// A number.
-fn push_number<A: Heap>(out: &mut Vec<u8, A>, n: u64) -> Result<(), AllocError>
-    ensures { OnOk result (out.new.items ≡ out.old.items ++ decimal n) }
-{
-    let mut buffer = Buffer::new();
-    push_str(out, buffer.format(n))
-}
 
 // A cost.
 fn push_cost<A: Heap>(out: &mut Vec<u8, A>, n: u128) -> Result<(), AllocError>
