@@ -1,0 +1,4 @@
+mod Back
+mod Findable
+mod Made
+mod Compared

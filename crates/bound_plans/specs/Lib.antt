@@ -1,0 +1,4 @@
+pub mod Entries
+pub mod Filters
+pub mod Found
+pub mod Named
