@@ -1,4 +1,1 @@
 pub mod Kept
-pub mod Nesting
-pub mod Pruning
-pub mod Walks

@@ -1,3 +1,1 @@
-pub mod Pushdown
 pub mod Running
-pub mod View

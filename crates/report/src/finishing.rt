@@ -5,16 +5,15 @@ ghost use Rattle.memory.specs.Gives.{Gives};
 ghost use Rattle.value.specs.Datum.{row_of};
 ghost use Rattle.tuples.specs.Combinations.{Combination};
 ghost use Rattle.tuples.specs.View.{world_of};
-ghost use Rattle.tuples.specs.World.{seen_tables, combination_at};
+ghost use Rattle.tuples.specs.World.{combination_at};
 ghost use Rattle.report.specs.Answer as spec;
-ghost use Rattle.report.specs.Answer.{answer, answer_over};
+ghost use Rattle.report.specs.Answer.{answer};
 
 use crate::grouped::rows_of_groups;
 use crate::ordering::ordered;
 use crate::ungrouped::{items_stage, where_stage};
 use expr::fragile_conjuncts;
 use memory::{Failure, Heap, Items};
-use operators::run_nested;
 use tuples::{Combo, World};
 use value::{Fault, Value};
 
@@ -79,15 +78,4 @@ pub fn finish<A: Heap>(
         Gives (λ rows. map (λ r. row_of r) rows) result (answer world.now.role.now (world_of world.now).query same) }
 {
     finish_list(alloc, world, combos)
-}
-
-/// The answer over the combinations of all rows that the role sees, by nested loops.
-pub fn answer_over<A: Heap>(
-    alloc: A,
-    world: &World<'_, A>,
-) -> Result<Items<Items<Value<A>, A>, A>, Failure<Fault>>
-    ensures { Gives (λ rows. map (λ r. row_of r) rows) result (answer_over world.now.role.now (world_of world.now).query (seen_tables (world_of world.now))) }
-{
-    let combos = run_nested(alloc, world)?;
-    finish_list(alloc, world, combos.as_slice())
 }

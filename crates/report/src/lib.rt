@@ -9,6 +9,6 @@ mod ordering;
 mod outcomes;
 mod ungrouped;
 
-pub use finishing::{answer_over, finish};
+pub use finishing::finish;
 pub use laws::{law_hidden_rows, law_order_of_combinations};
 pub use order_laws::law_ordered_rows;

@@ -1,5 +1,5 @@
 -- The entries of FROM are of tables of the catalogue.
-use Rattle.std.proofs.Common.{◌≡◌, Bool, true, false, cond, List, [], ◌∷◌, ◌++◌, find, Option, Some, None, Result, Ok, Err, refl, sym, subst, ap, ◌∙◌}
+use Rattle.std.proofs.Common.{◌≡◌, ◌≤◌, ◌<◌, ◌+◌, arith, length, length-append, map, Bool, true, false, cond, List, [], ◌∷◌, ◌++◌, find, Option, Some, None, Result, Ok, Err, refl, sym, subst, ap, ◌∙◌}
 use Rattle.std.proofs.lemmas.Slice.Eq.{bytes_eq-Decides}
 use Rattle.std.specs.Str.{bytes_eq}
 use Rattle.value.specs.declared.refusal.Refusal.TheVariants as r
@@ -12,11 +12,11 @@ use Rattle.expr.specs.declared.query.OutputKey.{OutputKey}
 use Rattle.scope.specs.Entry.{Entry, fault}
 use Rattle.memory.specs.Results.{and_then}
 use Rattle.expr.specs.BoundQuery.{BoundQuery}
-use Rattle.resolve.specs.Entries.{JoinedTable, alias_of, entries, entries_in, entry_in, found_entry, is_used, joined}
+use Rattle.resolve.specs.Entries.{JoinedTable, alias_of, entries, entries_in, entry_in, first_table, found_entry, is_used, joined, joined_by, with_item}
 use Rattle.typing.specs.Clauses.{clause_error}
 use Rattle.resolve.specs.BoundQueries.{bound_query}
 use Rattle.resolve.specs.OrderBy.{output_keys}
-use Rattle.resolve.specs.Resolved.{Bound, bound_with, checked, ordered, unless_fault, with_order}
+use Rattle.resolve.specs.Resolved.{Bound, bound, bound_with, checked, ordered, unless_fault, with_order}
 use Rattle.resolve.specs.EntryTables.{AreTables, BindsTables}
 
 -- what is given at the end was given on the way
@@ -58,6 +58,28 @@ module _ (cat : Catalog) where
       let step = given (λ e. entries_in cat (before ++ e ∷ []) more) es (entry_in cat before j) e in
       all_found (before ++ step.0 ∷ []) more es (one_more before step.0 h (of_found before j step.0 _ refl step.1)) step.2
 
+  -- ---- an entry for each table
+
+  entry_count : (before : List Entry) (js : List JoinedTable) (es : List Entry) → entries_in cat before js ≡ Ok es → length es ≡ length before + length js
+  entry_count before [] es e = let same : before ≡ es = cc in let n = ap length same in omega arith
+  entry_count before (j ∷ more) es e =
+      let step = given (λ e. entries_in cat (before ++ e ∷ []) more) es (entry_in cat before j) e in
+      let n = entry_count (before ++ step.0 ∷ []) more es step.2 in
+      let m = length-append before (step.0 ∷ []) in
+      omega arith
+
+no_fewer : (before : List JoinedTable) (from : List ast.FromItem) → length before ≤ length (joined before from)
+no_fewer before [] = omega arith
+no_fewer before (f ∷ more) =
+    let n = no_fewer (with_item before f) more in
+    let m = length-append (before ++ first_table (length before) f.first ∷ []) (map (joined_by (length before)) f.joins) in
+    let k = length-append before (first_table (length before) f.first ∷ []) in
+    omega arith
+
+some_joined : (from : List ast.FromItem) → 0 < length from → 0 < length (joined [] from)
+some_joined [] h = absurd (omega arith)
+some_joined (f ∷ more) h = let n = no_fewer (with_item [] f) more in omega arith
+
 -- binding keeps the entries
 of_keys : (es : List Entry) (q : BoundQuery) (b : Bound) (keys : List OutputKey) → ◌≡◌ {A = Result Bound BindError} (Ok record { entries = es; query = with_order q keys }) (Ok b) → es ≡ b.entries
 of_keys es q b keys e = cc
@@ -73,3 +95,12 @@ pub binds_tables : BindsTables
 binds_tables cat q b e =
     let found = given (bound_with q) b (entries cat q.from) e in
     subst (AreTables cat) (same_entries found.0 q b found.2) (all_found cat [] (joined [] q.from) found.0 tt found.1)
+
+-- a query with a table in FROM has an entry
+pub some_entries : (cat : Catalog) (q : ast.Query) (b : Bound) → 0 < length q.from → bound cat q ≡ Ok b → 0 < length b.entries
+some_entries cat q b some e =
+    let found = given (bound_with q) b (entries cat q.from) e in
+    let n = entry_count cat [] (joined [] q.from) found.0 found.1 in
+    let m = some_joined q.from some in
+    let same = ap length (same_entries found.0 q b found.2) in
+    omega arith

@@ -1,3 +1,4 @@
 pub mod Decides
 pub mod Sums
 pub mod TextAnswer
+pub mod Tables

@@ -1,3 +1,4 @@
 pub mod Limits
 pub mod Literals
 pub mod Parsing
+pub mod Tables
