@@ -9,7 +9,7 @@ use std::alloc::{AllocError, Global};
 const VERSION: &str = "0.1.0";
 
 const EXAMPLE: &str =
-    "Example, at the top of the repository:\n  rowplan query --schema examples/sales/schema.sql --dir examples/sales --role alice 'SELECT count(*) AS deals FROM deal'\n\nExit status: 0 answer, 2 command line, 3 refused text, 4 denial, 5 fault, 6 schema, rows or unknown role, 7 memory, 8 input or output";
+    "Example, at the top of the repository:\n  rowplan query --schema examples/sales/schema.sql --dir examples/sales --role alice 'SELECT count(*) AS deals FROM deal'\n\nExit status: 0 answer or accepted plan, 2 command line, 3 refused text or plan, 4 denial, 5 fault, 6 schema, rows or unknown role, 7 memory, 8 input or output";
 
 /// The source of the text of a query.
 #[derive(Clone, Copy)]
@@ -35,11 +35,26 @@ pub struct QueryArguments<'a> {
     pub explain_refusal: bool,
 }
 
+/// The arguments of `rowplan verify`.
+#[derive(Clone, Copy)]
+pub struct VerifyArguments<'a> {
+    /// The path of the schema text, or `-` for standard input.
+    pub schema: &'a str,
+    /// The role that asks.
+    pub role: &'a str,
+    /// The path of the plan's text, or `-` for standard input.
+    pub plan: &'a str,
+    /// The query.
+    pub text: QueryText<'a>,
+}
+
 /// The request of a command line.
 #[derive(Clone, Copy)]
 pub enum Request<'a> {
     /// The reply to a query.
     Query(QueryArguments<'a>),
+    /// The audit of a plan of a query.
+    Verify(VerifyArguments<'a>),
     /// The codes of refusals and faults with their meaning.
     Codes,
 }
@@ -81,6 +96,22 @@ fn query_words<'a>(alloc: Global) -> Result<Vec<Arg<'a>>, AllocError> {
     Ok(Vec::from_array(alloc, words)?)
 }
 
+// The arguments that the options of an audit and its text are read from.
+fn verify_words<'a>(alloc: Global) -> Result<Vec<Arg<'a>>, AllocError> {
+    let file = file_word(alloc)?;
+    let text = text_word(alloc)?;
+    let schema = "The schema text, or - for standard input";
+    let plan = "The text of the plan, or - for standard input";
+    let words = [
+        option(alloc, "schema", "FILE", schema).required(true),
+        option(alloc, "role", "NAME", "The role that asks").required(true),
+        option(alloc, "plan", "FILE", plan).required(true),
+        file,
+        text,
+    ];
+    Ok(Vec::from_array(alloc, words)?)
+}
+
 fn explain_refusal<'a>(alloc: Global) -> Arg<'a> {
     Arg::new(alloc, "explain-refusal")
         .long("explain-refusal")
@@ -98,15 +129,24 @@ fn query_command<'a>(alloc: Global) -> Result<Command<'a>, AllocError> {
         .args(words)
 }
 
+fn verify_command<'a>(alloc: Global) -> Result<Command<'a>, AllocError> {
+    let words = verify_words(alloc)?;
+    Command::new(alloc, "verify")
+        .about("Says if a plan of a role's query is accepted, or which line of it is not")
+        .args(words)
+}
+
 fn command<'a>(alloc: Global) -> Result<Command<'a>, AllocError> {
     let query = query_command(alloc)?;
+    let verify = verify_command(alloc)?;
     let codes = "Lists the codes of refusals and faults with their meaning";
     let program = Command::new(alloc, "rowplan")
         .version(VERSION)
         .about("Queries over tables with row security")
         .subcommand_required(true)
         .after_help(EXAMPLE)
-        .subcommand(query)?;
+        .subcommand(query)?
+        .subcommand(verify)?;
     program.subcommand(Command::new(alloc, "codes").about(codes))
 }
 
@@ -138,16 +178,40 @@ fn query_arguments<'a>(found: &ArgMatches<'a>) -> Option<QueryArguments<'a>> {
     })
 }
 
+// The required arguments of an audit, or memory ran out.
+fn verify_arguments<'a>(found: &ArgMatches<'a>) -> Option<VerifyArguments<'a>> {
+    let (Some(schema), Some(plan)) = (found.get_str("schema"), found.get_str("plan")) else {
+        return None;
+    };
+    let (Some(role), Some(text)) = (found.get_str("role"), query_text(found)) else {
+        return None;
+    };
+    Some(VerifyArguments {
+        schema,
+        role,
+        plan,
+        text,
+    })
+}
+
+// True where the query is read from standard input.
+fn is_input(text: QueryText<'_>) -> bool {
+    match text {
+        QueryText::File(path) => path == "-",
+        QueryText::Given(_) => false,
+    }
+}
+
+// True where the request would read standard input twice.
 fn is_input_twice(request: &Request<'_>) -> bool {
     match request {
-        Request::Query(
-            QueryArguments {
-                schema,
-                text: QueryText::File(path),
-                ..
-            },
-        ) => *path == "-" && *schema == "-",
-        _ => false,
+        Request::Query(query) => query.schema == "-" && is_input(query.text),
+        Request::Verify(audit) => {
+            let schema = audit.schema == "-";
+            let plan = audit.plan == "-";
+            (schema && plan) || ((schema || plan) && is_input(audit.text))
+        }
+        Request::Codes => false,
     }
 }
 
@@ -155,6 +219,12 @@ fn is_input_twice(request: &Request<'_>) -> bool {
 fn request_of<'a>(matches: &ArgMatches<'a>) -> Option<Request<'a>> {
     if let Some(_) = matches.subcommand_matches("codes") {
         return Some(Request::Codes);
+    }
+    if let Some(found) = matches.subcommand_matches("verify") {
+        return match verify_arguments(found) {
+            Some(arguments) => Some(Request::Verify(arguments)),
+            None => None,
+        };
     }
     match matches.subcommand_matches("query") {
         Some(found) => match query_arguments(found) {
@@ -176,7 +246,7 @@ fn accepted<'a>(
     if is_input_twice(&request) {
         let error = command.error(
             ErrorKind::ArgumentConflict,
-            "standard input cannot be both the schema and the query",
+            "standard input can be one of the schema, the plan and the query",
         )?;
         return Err(CommandLineError::Usage(error));
     }

@@ -4,5 +4,5 @@
 mod arguments;
 mod error;
 
-pub use arguments::{QueryArguments, QueryText, Request, read_arguments};
+pub use arguments::{QueryArguments, QueryText, Request, VerifyArguments, read_arguments};
 pub use error::CommandLineError;

@@ -1,6 +1,6 @@
 -- The tables of a world are the rows that the role sees of each entry.
-use Rattle.std.proofs.Common.{◌≡◌, ◌⊎◌, inl, inr, Bool, cond, List, [], ◌∷◌, ◌++◌, map, filter, refl, sym, ap, ap₂, ◌∙◌, append_assoc, append-nil}
-use Rattle.std.proofs.lemmas.List.{map-append}
+use Rattle.std.proofs.Common.{◌≡◌, ◌<◌, ◌⊎◌, inl, inr, suc, Bool, cond, List, [], ◌∷◌, ◌++◌, length, map, filter, refl, sym, ap, ap₂, ◌∙◌, append_assoc, append-nil, arith}
+use Rattle.std.proofs.lemmas.List.{length-map, map-append}
 use Rattle.memory.proofs.Cases.{nil_is_not}
 use Rattle.value.specs.Datum.{Row}
 use Rattle.value.specs.Names.{Name}
@@ -33,6 +33,33 @@ module _ {E G : Type 0} (entry : E → Entry) (guard : G → Guard) (cat : Catal
   seen_are (e ∷ es) (g ∷ gs) same =
       ap₂ ◌∷◌ (filter_same (shows role (guard g)) (sees cat role (entry e).table) (λ row. first_is _ _ _ _ (same row)) (rows (entry e).table.name))
       (seen_are es gs (λ row. others_are _ _ _ _ (same row)))
+
+-- lists that are the same by tests are as long
+pub as_long : {X Y : Type 0} (p : X → Bool) (q : Y → Bool) (xs : List X) (ys : List Y) → map p xs ≡ map q ys → length xs ≡ length ys
+as_long p q xs ys same = sym (length-map xs p) ∙ ap length same ∙ length-map ys q
+
+-- each table has its guard
+module _ {E G : Type 0} (entry : E → Entry) (guard : G → Guard) (rows : Rows) where
+  guards_are : (es : List E) (gs : List G) → length gs ≡ length es → map (λ t. t.guard) (guarded_tables rows (map entry es) (map guard gs)) ≡ map guard gs
+  guards_are [] [] same = refl
+  guards_are [] (g ∷ gs) same = absurd (omega (arith, same))
+  guards_are (e ∷ es) [] same = absurd (omega (arith, same))
+  guards_are (e ∷ es) (g ∷ gs) same = ap (λ l. guard g ∷ l) (guards_are es gs (omega (arith, same)))
+
+  as_many : (es : List E) (gs : List G) → length gs ≡ length es → length (guarded_tables rows (map entry es) (map guard gs)) ≡ length es
+  as_many [] [] same = refl
+  as_many [] (g ∷ gs) same = absurd (omega (arith, same))
+  as_many (e ∷ es) [] same = absurd (omega (arith, same))
+  as_many (e ∷ es) (g ∷ gs) same = ap suc (as_many es gs (omega (arith, same)))
+
+  module _ {T : Type 0} (table : T → GuardedTable) (es : List E) (gs : List G) (ts : List T) (made : map table ts ≡ guarded_tables rows (map entry es) (map guard gs)) (same : length gs ≡ length es) where
+    pub their_guards : map (λ t. t.guard) (map table ts) ≡ map guard gs
+    their_guards = ap (map (λ t. t.guard)) made ∙ guards_are es gs same
+
+    pub some_tables : 0 < length (map entry es) → 0 < length ts
+    some_tables some =
+        let n = ap length made in
+        omega (arith, some, n, length-map ts table, length-map es entry, as_many es gs same)
 
 -- ---- the walk that guards tables
 

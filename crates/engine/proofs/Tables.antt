@@ -1,15 +1,18 @@
 -- The tables of a query that is admitted are in the catalogue, and so in the store.
-use Rattle.std.proofs.Common.{◌≡◌, true, List, [], ◌∷◌, is_some, Option, Some, None, Result, Ok, Err, refl, subst, ap}
+use Rattle.std.proofs.Common.{◌≡◌, ◌<◌, ℕ, Bool, true, false, if◌then◌else◌, List, [], ◌∷◌, length, is_some, Option, Some, None, Result, Ok, Err, refl, subst, ap}
 use Rattle.value.specs.Names.{Name}
 use Rattle.row_ast.specs.Ast.{Query}
 use Rattle.scope.specs.declared.error.BindError.{BindError}
 use Rattle.scope.specs.Entry.{Entry}
-use Rattle.catalog.specs.Catalog.{Catalog, is_table}
+use Rattle.catalog.specs.Catalog.{Catalog, is_role, is_table}
 use Rattle.access.specs.Access.{RequiredPrivilege}
 use Rattle.resolve.specs.Resolved.{Bound, bound}
 use Rattle.resolve.specs.EntryTables.{AreTables}
-use Rattle.resolve.proofs.EntryTables.{binds_tables, given}
-use Rattle.analysis.specs.Analysis.{admitted, admitted_query, permitted, query_read, unless_denied}
+use Rattle.resolve.proofs.EntryTables.{binds_tables, given, some_entries}
+use Rattle.replies.specs.Reply.{Reply}
+use Rattle.syntax.specs.Parsing.{parsed_query}
+use Rattle.syntax.specs.declared.error.ParseError.{ParseError}
+use Rattle.analysis.specs.Analysis.{admitted, admitted_query, permitted, query_read, unless_denied, unless_refused}
 use Rattle.store.specs.Database.{Database}
 use Rattle.store.specs.Agreement.{Agrees}
 use Rattle.store.proofs.Agreement.{each_contents}
@@ -29,6 +32,23 @@ permitted_tables cat role q b (Ok b') is e =
 
 pub admitted_tables : (cat : Catalog) (role : Name) (q : Query) (b : Bound) → admitted_query cat role q ≡ Ok b → AreTables cat b.entries
 admitted_tables cat role q b e = permitted_tables cat role q b (bound cat q) refl e
+
+permitted_entries : (cat : Catalog) (role : Name) (q : Query) (b : Bound) (r : Result Bound BindError) → 0 < length q.from → bound cat q ≡ r → permitted cat role r ≡ Ok b → 0 < length b.entries
+permitted_entries cat role q b (Err fault) some is e = absurd (cc)
+permitted_entries cat role q b (Ok b') some is e =
+    subst (λ (b : Bound). 0 < length b.entries) (not_denied b' b _ e) (some_entries cat q b' some is)
+
+pub admitted_entries : (cat : Catalog) (role : Name) (q : Query) (b : Bound) → 0 < length q.from → admitted_query cat role q ≡ Ok b → 0 < length b.entries
+admitted_entries cat role q b some e = permitted_entries cat role q b (bound cat q) some refl e
+
+-- a query that is read is that of the text
+was_parsed : (b : Bool) (r : Result Query ParseError) (refusal : Reply) (q : Query) → (if b then unless_refused r else Err refusal) ≡ Ok q → r ≡ Ok q
+was_parsed true (Ok q') refusal q e = let same : q' ≡ q = cc in ap Ok same
+was_parsed true (Err error) refusal q e = absurd (cc)
+was_parsed false r refusal q e = absurd (cc)
+
+pub read_parsed : (cat : Catalog) (role : Name) (text : List ℕ) (q : Query) → query_read cat role text ≡ Ok q → parsed_query text ≡ Ok q
+read_parsed cat role text q e = was_parsed (is_role cat role) (parsed_query text) _ q e
 
 have_contents : (database : Database) → Agrees database → (es : List Entry) → AreTables database.catalog es → HaveContents database.tables es
 have_contents database agrees [] h = tt

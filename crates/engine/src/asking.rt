@@ -1,6 +1,6 @@
 //! Asking.
 
-ghost use Rattle.std.specs.Prelude.{◌≡◌, ℕ, List, None, Some, IfOk};
+ghost use Rattle.std.specs.Prelude.{◌≡◌, ◌<◌, ℕ, List, None, Some, IfOk, length};
 ghost use Rattle.value.specs.Names.{Name};
 ghost use Rattle.row_ast.specs.View.{query_of};
 ghost use Rattle.expr.specs.View.{bound_items_of};
@@ -25,6 +25,7 @@ use resolve::Bound;
 use row_ast::Query;
 use std::alloc::AllocError;
 use store::Store;
+use syntax::law_queries_have_tables;
 use value::Refusal;
 
 fn headings<A: Heap>(alloc: A, items: &[BoundItem<A>]) -> Result<Items<Text<A>, A>, AllocError>
@@ -44,7 +45,8 @@ fn answer_bound<A: Heap>(
     role: &str,
     bound: &Bound<'_, A>,
 ) -> Result<Reply<A>, AllocError>
-    requires { AreTables store.now.catalog (bound_of bound.now).entries }
+    requires tables { AreTables store.now.catalog (bound_of bound.now).entries }
+    requires from { 0 < length (bound_of bound.now).entries }
     ensures { IfOk result (λ reply. reply_of reply ≡ answer_reply store.now.catalog (rows_of store.now) role.now (bound_of bound.now)) }
 {
     match answer_rows(alloc, store, role, bound) {
@@ -64,6 +66,7 @@ fn answer_query<A: Heap>(
     role: &str,
     query: &Query<A>,
 ) -> Result<Reply<A>, AllocError>
+    requires { 0 < length (query_of query.now).from }
     ensures { IfOk result (λ reply. reply_of reply ≡ admitted_reply store.now.catalog (rows_of store.now) role.now (admitted_query store.now.catalog role.now (query_of query.now))) }
 {
     match admit(alloc, store.catalog(), role, query)? {
@@ -80,6 +83,7 @@ fn answer<A: Heap>(
 ) -> Result<Reply<A>, AllocError>
     ensures { IfOk result (λ reply. reply_of reply ≡ reply_to store.now.catalog (rows_of store.now) role.now text.now) }
 {
+    law_queries_have_tables();
     match read_query(alloc, store.catalog(), role, text)? {
         Ok(query) => {
             let reply = answer_query(alloc, store, role, &query);

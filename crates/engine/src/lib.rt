@@ -14,9 +14,13 @@
 
 mod answer;
 mod asking;
+mod auditing;
+mod setting;
+mod verifying;
 mod writing;
 
 pub use analysis::refusal;
 pub use asking::{ask, law_each_table_is_held, law_refusals_read_no_row};
 pub use store::{Store, StoreError};
+pub use verifying::verify;
 pub use writing::{law_hidden_rows, serve};

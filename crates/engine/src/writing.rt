@@ -18,8 +18,8 @@ use output::{Out, write_whole};
 use replies::{reply_status, reply_text};
 use store::Store;
 
-// Writes a text: its status, or 8 where the writer failed.
-fn send<W: Out>(out: &mut W, text: &[u8], status: u8) -> u8
+/// Writes a text: its status, or 8 where the writer failed.
+pub(crate) fn send<W: Out>(out: &mut W, text: &[u8], status: u8) -> u8
     requires { status < 8 }
     ensures whole { result ≢ 8 → (result ≡ status) × Appends (W.taken out.old) (W.taken out.new) text.now }
     ensures failed { result ≡ 8 → W.failures out.new ≡ one_more (W.failures out.old) }

@@ -8,7 +8,7 @@ use memory::{Failure, Text};
 use setup::{Folder, SetupError};
 use std::alloc::{AllocError, Global};
 use std::fs::File;
-use std::io::ErrorKind;
+use std::io::{ErrorKind, Read};
 use std::rt::Files;
 use std::{fs, io};
 
@@ -38,6 +38,29 @@ pub fn read_text(
     };
     match text {
         Ok(text) => Ok(text),
+        Err(error) => Err(unreadable(alloc, path, &error)),
+    }
+}
+
+fn input_bytes(rt: &HostRuntime, alloc: Global) -> io::Result<Vec<u8>> {
+    let mut bytes = Vec::new(alloc);
+    rt.stdin().read_to_end(&mut bytes)?;
+    Ok(bytes)
+}
+
+/// The bytes of a file, or of standard input where the path is `-`.
+pub fn read_bytes(
+    rt: &HostRuntime,
+    alloc: Global,
+    path: &str,
+) -> Result<Vec<u8>, Failure<SetupError<Global>>> {
+    let bytes = if path == "-" {
+        input_bytes(rt, alloc)
+    } else {
+        fs::read(rt, path)
+    };
+    match bytes {
+        Ok(bytes) => Ok(bytes),
         Err(error) => Err(unreadable(alloc, path, &error)),
     }
 }

@@ -4,13 +4,14 @@
 mod failure;
 mod files;
 
-use command_line::{QueryArguments, QueryText, Request, read_arguments};
+use command_line::{QueryArguments, QueryText, Request, VerifyArguments, read_arguments};
 use diagnostics::codes_text;
+use engine::verify;
 use failure::{ProgramError, print_error};
-use files::{Directory, read_text};
+use files::{Directory, read_bytes, read_text};
 use memory::Failure;
 use output::{Output, write_whole};
-use setup::{Arguments, SetupError, explain_refusal, open_store, reply};
+use setup::{Arguments, SetupError, explain_refusal, open_store, reply, store_of_schema};
 use std::alloc::{AllocError, Global};
 use std::process::ExitCode;
 use std::{env, io};
@@ -93,6 +94,30 @@ fn query(
     answer(rt, alloc, &store, words)
 }
 
+// Audits the plan, and returns the status of the audit.
+fn audit(
+    rt: &HostRuntime,
+    alloc: Global,
+    words: &VerifyArguments<'_>,
+) -> Result<u8, Failure<SetupError<Global>>> {
+    let schema = read_text(rt, alloc, words.schema)?;
+    let store = store_of_schema(alloc, schema.as_str())?;
+    let plan = read_bytes(rt, alloc, words.plan)?;
+    let text = query_text(rt, alloc, words.text)?;
+    let mut out = Output {
+        inner: io::writer(rt),
+        failed: 0,
+    };
+    Ok(verify(
+        alloc,
+        store.catalog(),
+        words.role,
+        text.as_str(),
+        &plan,
+        &mut out,
+    ))
+}
+
 // Writes the codes with their meaning to standard output.
 fn codes(rt: &HostRuntime, alloc: Global) -> Result<u8, AllocError> {
     let text = codes_text(alloc)?;
@@ -132,6 +157,7 @@ fn run(rt: &HostRuntime) -> Result<u8, ProgramError> {
     let texts = texts_of(alloc, words.as_slice())?;
     match read_arguments(alloc, texts.as_slice())? {
         Request::Query(arguments) => Ok(query(rt, alloc, &arguments)?),
+        Request::Verify(arguments) => Ok(audit(rt, alloc, &arguments)?),
         Request::Codes => Ok(codes(rt, alloc)?),
     }
 }

@@ -21,6 +21,13 @@ abbrev pub schema_fault : {A : Type 0} → memory.Failure SchemaError → memory
 schema_fault (failure.Error e) = failure.Error (fault.Schema e)
 schema_fault failure.OutOfMemory = failure.OutOfMemory
 
+-- the error is that of the schema text; or memory ran out
+abbrev pub IsOfSchema : {A : Type 0} → List ℕ → memory.Failure (SetupError A) → Type 0
+IsOfSchema schema (failure.Error (fault.Schema e)) = schema_applied at_start schema ≡ Err e
+IsOfSchema schema (failure.Error (fault.Input path)) = ⊥
+IsOfSchema schema (failure.Error (fault.Data table column e)) = ⊥
+IsOfSchema schema failure.OutOfMemory = ⊤
+
 -- the schema text makes tables, and this is the error of the first whose rows are not loaded
 abbrev pub IsOfTable : {A : Type 0} → List ℕ → (Name → List ℕ) → (Name → Option (List ℕ)) → memory.Failure (SetupError A) → Type 0
 IsOfTable schema paths bytes f = (empty : Database) × (loaded : List (Name × TableRows)) × (schema_applied at_start schema ≡ Ok empty) × StopsAtTable paths bytes empty.tables loaded f

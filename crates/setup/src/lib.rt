@@ -15,5 +15,5 @@ pub use error::{SchemaError, SetupError};
 pub use explanation::explain_refusal;
 pub use line::{line_of, report, status_of};
 pub use load::{Folder, load_table, load_tables};
-pub use open::open_store;
+pub use open::{open_store, store_of_schema};
 pub use schema::apply_schema;

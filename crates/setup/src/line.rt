@@ -5,9 +5,8 @@ ghost use Rattle.output.specs.Taken.{one_more};
 ghost use Rattle.setup.specs.Lines.{IsBegun, IsReported, data_line, failure_line, failure_status, error_line, error_status, in_column, in_row, memory_line, schema_line, syntax_line};
 
 use crate::error::{SchemaError, SetupError};
-use memory::{Failure, Heap};
+use memory::{Failure, Heap, push_number, push_str};
 use output::{Out, write_whole};
-use replies::{push_number, push_str};
 use std::alloc::AllocError;
 use tables::LoadError;
 

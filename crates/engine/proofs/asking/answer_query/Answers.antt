@@ -2,7 +2,7 @@ use Rattle.std.proofs.Common.{sym, ap, ◌∙◌}
 use Rattle.row_ast.specs.View.{query_of}
 use Rattle.resolve.specs.View.{bound_of}
 use Rattle.analysis.specs.View.{admitted_of}
-use Rattle.engine.proofs.Tables.{admitted_tables}
+use Rattle.engine.proofs.Tables.{admitted_entries, admitted_tables}
 use Rattle.engine.proofs.asking.answer_query.Goals as goal
 
 pub returns-in-Ok : goal.returns-in-Ok
@@ -10,7 +10,12 @@ returns-in-Ok g c =
     let admitted = (rw c.catalog.ensures.catalog at c.in_ok-bound.ensures) in
     rw (sym admitted ∙ ap admitted_of c.in-Ok.is) c.answer_bound.ensures
 
-pub answer_bound-requires : goal.answer_bound-requires
-answer_bound-requires g c =
+pub answer_bound-requires-clause-tables : goal.answer_bound-requires-clause-tables
+answer_bound-requires-clause-tables g c =
     let admitted = (rw c.catalog.ensures.catalog at c.in_ok-bound.ensures) in
     admitted_tables c.args.store.now.catalog c.args.role.now (query_of c.args.query.now) (bound_of c.in-Ok.bound) (sym admitted ∙ ap admitted_of c.in-Ok.is)
+
+pub answer_bound-requires-clause-from : goal.answer_bound-requires-clause-from
+answer_bound-requires-clause-from g c =
+    let admitted = (rw c.catalog.ensures.catalog at c.in_ok-bound.ensures) in
+    admitted_entries c.args.store.now.catalog c.args.role.now (query_of c.args.query.now) (bound_of c.in-Ok.bound) c.requires (sym admitted ∙ ap admitted_of c.in-Ok.is)

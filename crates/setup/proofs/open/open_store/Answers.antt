@@ -1,5 +1,0 @@
-use Rattle.setup.proofs.Opens.{schema_stops}
-use Rattle.setup.proofs.open.open_store.Goals as goal
-
-pub returns-in-Err-clause-fault : goal.returns-in-Err-clause-fault
-returns-in-Err-clause-fault g c = rw c.schema_fault.ensures (schema_stops _ c.args.schema.now (g.F.Folder.path c.args.folder.now) (g.F.Folder.bytes c.args.folder.now) c.in-Err.error (rw c.in_ok-store.ensures at c.in-Err.ensures.applied))
