@@ -1,38 +1,62 @@
 //! Each request for memory refused in turn.
 
 use crate::stores::made;
-use fixture_stores::{DEALS, FixtureError, SCHEMA, deals, load, served, store_of};
+use fixture_stores::{DEALS, FixtureError, SCHEMA, audited, deals, load, served, store_of};
 use memory::{Failure, Heap};
 use metered::Metered;
+use output::Output;
 use std::alloc::AllocError;
 use std::process::Abort;
+use store::Store;
 use value::Refusal;
 
 const TEXT: &str = "SELECT id FROM deal WHERE id IN (1, 2) AND NOT owner = 'bob'";
 
-// Texts of alice with their replies and statuses: of one table, of a join with a cast and a fragile condition, a fault, and
-// groups in an order.
-static TEXTS: [(&str, &str, u8); 4] = [
-    (TEXT, "id\n1\n2\n", 0),
-    (
-        "SELECT CAST(d.id AS text) AS t, e.id + 1 AS n FROM deal d JOIN deal e ON d.id = e.id WHERE e.id * 1 > 0",
-        "t,n\n1,2\n2,3\n",
-        0,
-    ),
-    (
-        "SELECT 1 / (d.id - 1) FROM deal d, deal e WHERE d.id = e.id",
-        "fault 22012 at 9\n",
-        5,
-    ),
-    (
-        "SELECT owner, count(*), max(owner), sum(id) + 1 AS n FROM deal GROUP BY owner HAVING min(id) > 0 ORDER BY n DESC LIMIT 2",
-        "owner,count,max,n\nalice,2,alice,4\n",
-        0,
-    ),
+// A request of alice: a query, or a plan of it that is audited; what is written, and the status.
+#[derive(Clone, Copy)]
+struct Request {
+    text: &'static str,
+    plan: Option<&'static str>,
+    written: &'static str,
+    status: u8,
+}
+
+// Queries of one table, of a join with a cast and a fragile condition, of a fault, and of groups in an order; and an audit.
+static REQUESTS: [Request; 5] = [
+    Request {
+        text: TEXT,
+        plan: None,
+        written: "id\n1\n2\n",
+        status: 0,
+    },
+    Request {
+        text: "SELECT CAST(d.id AS text) AS t, e.id + 1 AS n FROM deal d JOIN deal e ON d.id = e.id WHERE e.id * 1 > 0",
+        plan: None,
+        written: "t,n\n1,2\n2,3\n",
+        status: 0,
+    },
+    Request {
+        text: "SELECT 1 / (d.id - 1) FROM deal d, deal e WHERE d.id = e.id",
+        plan: None,
+        written: "fault 22012 at 9\n",
+        status: 5,
+    },
+    Request {
+        text: "SELECT owner, count(*), max(owner), sum(id) + 1 AS n FROM deal GROUP BY owner HAVING min(id) > 0 ORDER BY n DESC LIMIT 2",
+        plan: None,
+        written: "owner,count,max,n\nalice,2,alice,4\n",
+        status: 0,
+    },
+    Request {
+        text: "SELECT id FROM deal WHERE id = 3",
+        plan: Some("cost 5\nfilter 1 (deal.id = 3)\nfirst deal full\ntrail\n8 .\n"),
+        written: "accepted\n",
+        status: 0,
+    },
 ];
 
-fn texts() -> &'static [(&'static str, &'static str, u8)] {
-    &TEXTS
+fn requests() -> &'static [Request] {
+    &REQUESTS
 }
 
 // The number of requests of the store of the worked rows.
@@ -58,45 +82,44 @@ struct Tried {
     is_refusal: bool,
 }
 
-// The outcome where the nth request after the store is refused.
-fn tried_without(
-    rt: &(impl Abort + AllocGlobal),
-    built: u64,
-    (asked, reply): (&str, &str),
-    n: u64,
-) -> Tried {
+// The status and the bytes of a request.
+fn answered<A: Heap>(alloc: A, store: &Store<A>, asked: Request) -> (u8, Output<Vec<u8>>) {
+    match asked.plan {
+        Some(plan) => audited(alloc, store, "alice", asked.text, plan.as_bytes()),
+        None => served(alloc, store, "alice", asked.text),
+    }
+}
+
+// The outcome where the nth request for memory after the store is refused.
+fn tried_without(rt: &(impl Abort + AllocGlobal), built: u64, asked: Request, n: u64) -> Tried {
     let nth = built.saturating_add(n);
     let heap = Metered::refusing(rt.alloc(), nth);
     let store = made(rt, deals(&heap));
-    let (status, out) = served(&heap, &store, "alice", asked);
+    let (status, out) = answered(&heap, &store, asked);
     Tried {
         none_refused: heap.requests(nth) < nth,
         status,
-        is_reply: out.inner.as_slice() == reply.as_bytes(),
+        is_reply: out.inner.as_slice() == asked.written.as_bytes(),
         is_refusal: out.inner.as_slice() == b"refused 53200\n".as_slice(),
     }
 }
 
-// A reply where the nth request after the store is refused: out of memory, or there are fewer requests and it is whole.
-fn replies_without(
-    rt: &(impl Abort + AllocGlobal),
-    built: u64,
-    (asked, reply, whole): (&str, &str, u8),
-    n: u64,
-) -> bool {
-    let tried = tried_without(rt, built, (asked, reply), n);
+// A reply where the nth request for memory after the store is refused: out of memory, or there are fewer and it is whole.
+fn replies_without(rt: &(impl Abort + AllocGlobal), built: u64, asked: Request, n: u64) -> bool {
+    let tried = tried_without(rt, built, asked, n);
+    let text = asked.text;
     // One of the later requests may be one that the reply can do without.
-    if tried.none_refused || (n > 5 && tried.status == whole) {
-        assert_eq!(rt; tried.status, whole, "{asked} at {n}");
-        assert!(rt; tried.is_reply, "{asked} at {n}");
+    if tried.none_refused || (n > 5 && tried.status == asked.status) {
+        assert_eq!(rt; tried.status, asked.status, "{text} at {n}");
+        assert!(rt; tried.is_reply, "{text} at {n}");
         return tried.none_refused;
     }
-    assert_eq!(rt; tried.status, 7, "{asked} at {n}");
-    assert!(rt; tried.is_refusal, "{asked} at {n}");
+    assert_eq!(rt; tried.status, 7, "{text} at {n}");
+    assert!(rt; tried.is_refusal, "{text} at {n}");
     false
 }
 
-fn reply_or_refusal_of_memory(rt: &(impl Abort + AllocGlobal), asked: (&str, &str, u8)) {
+fn reply_or_refusal_of_memory(rt: &(impl Abort + AllocGlobal), asked: Request) {
     let built = requests_of_deals(rt);
     let mut refused = 0u64;
     for n in 1..1000u64 {
@@ -181,7 +204,7 @@ fn refused_load_adds_nothing(rt: &(impl Abort + AllocGlobal)) {
 
 #[test]
 fn refused_memory_of_stores_and_answers_is_reported(rt: HostRuntime) {
-    for asked in texts() {
+    for asked in requests() {
         reply_or_refusal_of_memory(&rt, *asked);
     }
     for schema in schemas() {

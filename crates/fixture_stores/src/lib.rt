@@ -14,4 +14,6 @@ pub use queries::{QueryError, catalog, error_text, query};
 pub use rows::{Asked, Mismatch, answered};
 pub use sales_store::{SALES, SALES_DEALS, SALES_REGIONS, sales};
 pub use scripts::run_script;
-pub use stores::{DEALS, FLAGS, FixtureError, OPEN, SCHEMA, apply, deals, load, served, store_of};
+pub use stores::{
+    DEALS, FLAGS, FixtureError, OPEN, SCHEMA, apply, audited, deals, load, served, store_of,
+};
