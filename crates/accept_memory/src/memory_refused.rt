@@ -182,24 +182,40 @@ fn store_or_refusal_of_memory(rt: &(impl Abort + AllocGlobal), schema: &str) {
     assert!(rt; refused < 900, "{refused}");
 }
 
-// The number of bytes that the owner is answered after a load of the deals.
-fn answered_after_load<A: Heap>(alloc: A) -> Result<usize, AllocError> {
+// Whether a load of the deals is done, and the number of bytes that the owner is answered after it.
+fn answered_after_load<A: Heap>(alloc: A) -> Result<(bool, usize), AllocError> {
     let Ok(mut store) = store_of(alloc, SCHEMA) else {
         return Err(AllocError);
     };
-    let _done = load(&mut store, "deal", DEALS);
+    let is_done = load(&mut store, "deal", DEALS).is_ok();
     let (_status, out) = served(alloc, &store, "boss", TEXT);
-    Ok(out.inner.len())
+    Ok((is_done, out.inner.len()))
+}
+
+// A load where the nth request for memory is refused: it adds nothing, or it is done, where it can do without that request.
+fn is_done_without(rt: &(impl Abort + AllocGlobal), nth: u64) -> bool {
+    let heap = Metered::refusing(rt.alloc(), nth);
+    let Ok((is_done, bytes)) = answered_after_load(&heap) else {
+        panic!(rt; "at {nth}");
+    };
+    // The heading alone has three bytes.
+    assert_eq!(rt; bytes, if is_done { 7 } else { 3 }, "at {nth}");
+    is_done
 }
 
 fn refused_load_adds_nothing(rt: &(impl Abort + AllocGlobal)) {
     let built = requests_of_schema(rt);
-    for n in 0..requests_of_deals(rt).saturating_sub(built) {
-        let nth = built.saturating_add(n).saturating_add(1);
-        let heap = Metered::refusing(rt.alloc(), nth);
-        // The heading alone: three bytes.
-        assert_eq!(rt; answered_after_load(&heap), Ok(3), "at {nth}");
+    let requests = requests_of_deals(rt).saturating_sub(built);
+    let mut done = 0u64;
+    for n in 0..requests {
+        if is_done_without(rt, built.saturating_add(n).saturating_add(1)) {
+            done = done.saturating_add(1);
+        }
     }
+    assert!(rt;
+        requests > 10 && done.saturating_mul(2) < requests,
+        "{done} of {requests}"
+    );
 }
 
 #[test]

@@ -5,8 +5,6 @@
 #[cfg(test)]
 mod code_order;
 #[cfg(test)]
-mod codes;
-#[cfg(test)]
 mod plan_reading;
 #[cfg(test)]
 mod planned;

@@ -1,6 +1,5 @@
 //! Verdicts on trails.
 
-use crate::codes::code_of;
 use crate::queries::query_text;
 use crate::rows::fields;
 use crate::steps::{repeated, steps_of};
@@ -8,7 +7,7 @@ use access::frame;
 use algebra::{Step, planning_list};
 use catalog::Catalog;
 use expr::Code;
-use fixture_stores::sales;
+use fixture_stores::{code_of, sales};
 use memory::{Items, boxed};
 use resolve::{Bound, bind};
 use row_ast::Query;

@@ -258,28 +258,48 @@ fn opened_without(rt: &(impl Abort + AllocGlobal), nth: u64) -> (Option<u8>, boo
     )
 }
 
-// Such an opening is out of memory, or none of its requests is refused and the store is opened.
-fn opens_without(rt: &(impl Abort + AllocGlobal), nth: u64) -> bool {
+// How an opening ends whose nth request for memory is refused.
+#[derive(Clone, Copy, PartialEq, Eq)]
+enum Opened {
+    // There are fewer requests, and the store is opened.
+    Whole,
+    // The store is opened without that request.
+    Without,
+    // Out of memory, with its line.
+    Refused,
+}
+
+fn opens_without(rt: &(impl Abort + AllocGlobal), nth: u64) -> Opened {
     let (status, none_refused, is_memory) = opened_without(rt, nth);
-    if none_refused {
-        assert_eq!(rt; status, None, "at {nth}");
-        return true;
+    match status {
+        None => {
+            if none_refused {
+                Opened::Whole
+            } else {
+                Opened::Without
+            }
+        }
+        Some(status) => {
+            assert_eq!(rt; status, 7, "at {nth}");
+            assert!(rt; is_memory && !none_refused, "at {nth}");
+            Opened::Refused
+        }
     }
-    assert_eq!(rt; status, Some(7), "at {nth}");
-    assert!(rt; is_memory, "at {nth}");
-    false
 }
 
 fn opens_or_out_of_memory(rt: &(impl Abort + AllocGlobal)) {
     let mut refused = 0u64;
+    let mut without = 0u64;
     for nth in 1..1000u64 {
-        if opens_without(rt, nth) {
-            break;
+        match opens_without(rt, nth) {
+            Opened::Whole => break,
+            Opened::Without => without = without.saturating_add(1),
+            Opened::Refused => refused = refused.saturating_add(1),
         }
-        refused = nth;
     }
     assert!(rt; refused > 20, "{refused}");
     assert!(rt; refused < 900, "{refused}");
+    assert!(rt; without < 10, "{without}");
 }
 
 #[test]

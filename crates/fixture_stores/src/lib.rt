@@ -1,8 +1,9 @@
-//! The stores, catalogues, queries and bound texts that the crates of worked rows share, and how a script of rows is run.
+//! The stores, catalogues, queries, bound texts and codes that the crates of worked rows share, and how a script of rows is run.
 //! It has no contracts; the tests compare what it gives with expected values.
 #![tactic(auto)]
 
 mod bound_texts;
+mod codes;
 mod queries;
 mod rows;
 mod sales_store;
@@ -10,6 +11,7 @@ mod scripts;
 mod stores;
 
 pub use bound_texts::{show_bound, show_bound_query};
+pub use codes::{code_of, show_code};
 pub use queries::{QueryError, catalog, error_text, query};
 pub use rows::{Asked, Mismatch, answered};
 pub use sales_store::{SALES, SALES_DEALS, SALES_REGIONS, sales};

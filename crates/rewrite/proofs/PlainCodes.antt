@@ -91,7 +91,7 @@ module _ (p : ℕ → Bool) (count k : ℕ) (whole : Option ℕ) (so_far : find 
 -- ---- entries that have no place
 
 -- distinct entries in a list are no more than those of the list
-fits : (cs is : List ℕ) → Distinct cs → list_all (is_among is) cs ≡ true → length cs ≤ length is
+pub fits : (cs is : List ℕ) → Distinct cs → list_all (is_among is) cs ≡ true → length cs ≤ length is
 fits [] is d h = omega arith
 fits (c ∷ cs) is d h =
     let l = length-without c is (and_left (is_among is c) (list_all (is_among is) cs) h) in
@@ -102,11 +102,11 @@ not_in_range : (a b n : ℕ) → a < b → is_among (range_with_len b n) a ≡ f
 not_in_range a b zero h = refl
 not_in_range a b (suc n) h = or_from (b == a) (is_among (range_with_len (b + 1) n) a) (ne_eqb b a (λ e. omega arith)) (not_in_range a (b + 1) n (omega arith))
 
-range_distinct : (a n : ℕ) → Distinct (range_with_len a n)
+pub range_distinct : (a n : ℕ) → Distinct (range_with_len a n)
 range_distinct a zero = tt
 range_distinct a (suc n) = (not_in_range a (a + 1) n (omega arith), range_distinct (a + 1) n)
 
-range_count : (a n : ℕ) → length (range_with_len a n) ≡ n
+pub range_count : (a n : ℕ) → length (range_with_len a n) ≡ n
 range_count a zero = refl
 range_count a (suc n) = ap suc (range_count (a + 1) n)
 

@@ -1,26 +1,16 @@
 //! The least code of a query that has full scans and nested joins alone.
 
 ghost use Rattle.std.specs.Prelude.{◌≡◌, ◌<◌, ◌-◌, ◌^◌, IfOk, [], length};
-ghost use Rattle.std.specs.List.{list_any};
-ghost use Rattle.predicates.specs.Equalities as equalities;
 ghost use Rattle.expr.specs.View.{code_of};
 ghost use Rattle.trailcheck.specs.Admissible as admissible;
 ghost use Rattle.trailcheck.specs.Entries as trailcheck_entries;
 ghost use Rattle.trailcheck.specs.View.{setting_of};
 ghost use Rattle.rewrite.specs.Plain as spec;
 
-use expr::{Access, Code, CodeStep, Method, MovableExpr};
+use expr::{Access, Code, CodeStep, Method};
 use memory::{Heap, Items};
-use predicates::is_never_true;
 use std::alloc::AllocError;
-use trailcheck::{Setting, Wanted, is_wanted};
-
-// True where some condition is never true.
-fn some_never_true<A: Heap>(conditions: &[MovableExpr<A>]) -> bool
-    ensures { result ≡ list_any equalities.is_never_true conditions.now }
-{
-    conditions.iter().any(|condition| is_never_true(condition))
-}
+use trailcheck::{Setting, Wanted, is_wanted, some_never_true};
 
 // ---- the next entry
 

@@ -1,3 +1,4 @@
 pub mod Agreement
+pub mod Counts
 pub mod Loads
 pub mod Places

@@ -1,8 +1,13 @@
 //! A catalogue with its tables.
 
-ghost use Rattle.std.specs.Prelude.{◌≡◌, List, IfOk, IfSome, IsErrOf, OnErr, OnOk, Some, ◌<◌, None, is_some, length, option_map, slice_get, true};
+ghost use Rattle.std.specs.Prelude.{◌≡◌, List, IfOk, IfSome, IsErrOf, OnErr, OnOk, Some, ◌<◌, ◌-◌, None, is_some, length, option_map, slice_get, true};
 ghost use Rattle.std.specs.List.{position_from};
-ghost use Rattle.tables.specs.Loading.{Fields, reported};
+ghost use Rattle.csv_records.specs.Left.{records_of};
+ghost use Rattle.memory.specs.Gives.{Gives};
+ghost use Rattle.stats.specs.Statistics.{table_stats};
+ghost use Rattle.stats.specs.View.{stats_of};
+ghost use Rattle.tables.specs.Loading.{Fields, StopsAfterGood, UnlessUnread, appended, reported};
+ghost use Rattle.tables.specs.declared.TheConstants.{MAX_ROWS};
 ghost use Rattle.value.specs.Columns.{columns_of};
 ghost use Rattle.value.specs.Names.{Name};
 ghost use Rattle.row_ast.specs.Statements.{CreateTable};
@@ -10,14 +15,16 @@ ghost use Rattle.row_ast.specs.View.{statement_of};
 ghost use Rattle.catalog.specs.Catalog.{is_table};
 ghost use Rattle.catalog.specs.Changes.{takes_no_memory, IsChange, IsExactChange};
 ghost use Rattle.store.specs.Agreement.{Agrees};
+ghost use Rattle.store.specs.Counted.{IsCounted, first_rows};
 ghost use Rattle.store.specs.Database.{at_start, changed_database, contents_named, empty_table, is_named};
-ghost use Rattle.store.specs.Loads.{IsLoad, IsLoadFrom, LoadStops, store_failure, store_result};
+ghost use Rattle.store.specs.Loads.{IsLoad, IsLoadFrom, LoadStops, due_rows, store_failure, store_result};
 ghost use Rattle.store.specs.View.{stored_of};
 
 use catalog::Catalog;
 use csv_records::Records;
 use memory::{Failure, Heap, Items, Text};
 use row_ast::Statement;
+use stats::Stats;
 use std::alloc::AllocError;
 use std::io::Read;
 use std::marker::Model;
@@ -25,15 +32,16 @@ use tables::{LoadError, Table};
 use thiserror::Error;
 use value::{Column, Refusal, copy_columns};
 
-// A table's name and contents.
+// A table's name and contents, and the statistics of its contents.
 #[derive(Drop)]
 struct Stored<A: Heap> {
     name: Text<A>,
     contents: Table<A>,
+    statistics: Stats<A>,
 }
 
 /// A catalogue with the contents of its tables: those at each index have the name and the columns of the table at that
-/// index of the catalogue.
+/// index of the catalogue. Beside the contents of each table stand its statistics, which a load makes anew.
 #[derive(Drop)]
 pub struct Store<A: Heap> {
     alloc: A,
@@ -56,9 +64,9 @@ impl<A: Heap> Model for Store<A> {
 
     ghost view = { database_of };
 
-    ghost use Rattle.store.specs.Agreement.{Agrees};
+    ghost use Rattle.store.specs.Counted.{IsHeld};
 
-    ghost invariant = { λ s. Agrees (database_of s) };
+    ghost invariant = { IsHeld };
 }
 
 /// An error of rows that are not added.
@@ -84,14 +92,82 @@ fn store_failure(failure: Failure<LoadError>) -> Failure<StoreError>
 
 // A new table, with no rows.
 fn new_table<A: Heap>(alloc: A, name: &str, columns: &[Column<A>]) -> Result<Stored<A>, AllocError>
-    ensures { IfOk result (λ t. stored_of t ≡ (name.now, empty_table (columns_of columns.now))) }
+    ensures stored { IfOk result (λ t. stored_of t ≡ (name.now, empty_table (columns_of columns.now))) }
+    ensures counted { IfOk result (λ t. IsCounted t) }
 {
     let columns = copy_columns(alloc, columns)?;
     let name = Text::new(alloc, name)?;
+    let contents = Table::new(alloc, columns);
+    let statistics = Stats::of(alloc, &contents)?;
     Ok(Stored {
         name,
-        contents: Table::new(alloc, columns),
+        contents,
+        statistics,
     })
+}
+
+impl<A: Heap> Stored<A> {
+    // Makes the statistics anew, after rows were added; where memory runs out, drops the rows from a number on.
+    fn count_anew(&mut self, alloc: A, before: u64) -> Result<(), AllocError>
+        requires { stats_of self.old.statistics ≡ table_stats (first_rows before self.old.contents) }
+        ensures name { self.new.name ≡ self.old.name }
+        ensures counted { IsCounted self.new }
+        ensures ok { OnOk result (self.new.contents ≡ self.old.contents) }
+        ensures err { OnErr result (self.new.contents ≡ first_rows before self.old.contents) }
+    {
+        match Stats::of(alloc, &self.contents) {
+            Ok(statistics) => {
+                self.statistics = statistics;
+                Ok(())
+            }
+            Err(error) => {
+                self.contents.truncate(before);
+                Err(error)
+            }
+        }
+    }
+
+    // Adds the rows that a reader gives, as the table does.
+    fn append<R: Read + Drop>(&mut self, alloc: A, reader: R) -> Result<(), Failure<LoadError>>
+        requires { IsCounted self.old }
+        ensures name { self.new.name ≡ self.old.name }
+        ensures counted { IsCounted self.new }
+        ensures columns { self.new.contents.columns ≡ self.old.contents.columns }
+        ensures unchanged { OnErr result (self.new.contents ≡ self.old.contents) }
+        ensures exact { IfSome (R.remaining reader) (λ bytes. UnlessUnread result (Gives (λ _. self.new.contents.rows) result (appended self.old.contents.rows (due_rows self.old.contents (records_of bytes))))) }
+        ensures some_records { UnlessUnread result ((recs : List Fields) × Gives (λ _. self.new.contents.rows) result (appended self.old.contents.rows (due_rows self.old.contents recs))) }
+        ensures stops { IfSome (R.remaining reader) (λ bytes. StopsAfterGood self.old.contents.columns (MAX_ROWS - length self.old.contents.rows) (records_of bytes) result) }
+    {
+        let before = self.contents.rows();
+        self.contents.append(reader)?;
+        self.count_anew(alloc, before)?;
+        Ok(())
+    }
+
+    // Adds the rows of records, as the table does.
+    fn append_records<R: Read>(
+        &mut self,
+        alloc: A,
+        records: &mut Records<R>,
+    ) -> Result<(), Failure<LoadError>>
+        requires counted { IsCounted self.old }
+        requires expected { records.old.expected ≡ None }
+        requires given { records.old.given ≡ 0 }
+        requires fresh { records.old.failure ≡ None }
+        ensures name { self.new.name ≡ self.old.name }
+        ensures counted { IsCounted self.new }
+        ensures columns { self.new.contents.columns ≡ self.old.contents.columns }
+        ensures unchanged { OnErr result (self.new.contents ≡ self.old.contents) }
+        ensures exact { records.new.failure ≡ None → IfSome records.old.records (λ recs. Gives (λ _. self.new.contents.rows) result (appended self.old.contents.rows (due_rows self.old.contents recs))) }
+        ensures some_records { records.new.failure ≡ None → (recs : List Fields) × Gives (λ _. self.new.contents.rows) result (appended self.old.contents.rows (due_rows self.old.contents recs)) × OnOk result (length recs ≡ records.new.given) }
+        ensures failed { IfSome records.new.failure (λ why. IsErrOf result (reported why records.new.given)) }
+        ensures stops { IfSome records.old.records (λ recs. StopsAfterGood self.old.contents.columns (MAX_ROWS - length self.old.contents.rows) recs result) }
+    {
+        let before = self.contents.rows();
+        self.contents.append_records(records)?;
+        self.count_anew(alloc, before)?;
+        Ok(())
+    }
 }
 
 impl<A: Heap> Store<A> {
@@ -188,6 +264,15 @@ impl<A: Heap> Store<A> {
         self.contents(table).unwrap()
     }
 
+    /// The statistics of a table of the catalogue: those of its rows.
+    pub fn statistics(&self, name: &str) -> &Stats<A>
+        requires { is_table self.now.catalog name.now ≡ true }
+        ensures { option_map (λ t. table_stats t) (contents_named self.now.tables name.now) ≡ Some (stats_of result.now) }
+    {
+        let index = self.table_index(name).unwrap();
+        &self.tables[index].statistics
+    }
+
     /// The name of the table at an index, in order of creation.
     pub fn table_name(&self, index: usize) -> &str
         requires { index < length self.now.tables }
@@ -252,7 +337,7 @@ impl<A: Heap> Store<A> {
         ensures unchanged { OnErr result (self.new ≡ self.old) }
         ensures loaded { (name : Name) → position_from (is_named name) 0 self.old.tables ≡ Some index → IsLoadFrom (R.remaining reader) self.old.tables self.new.tables name (store_result result) }
     {
-        self.tables[index].contents.append(reader)
+        self.tables[index].append(self.alloc, reader)
     }
 
     /// Adds the rows of records, of which none was read before, as `load` does. A contract sees of the records why a read
@@ -277,7 +362,7 @@ impl<A: Heap> Store<A> {
         let Some(i) = self.table_index(table) else {
             return Err(Failure::Error(StoreError::UndefinedTable));
         };
-        match self.tables[i].contents.append_records(records) {
+        match self.tables[i].append_records(self.alloc, records) {
             Ok(()) => Ok(()),
             Err(failure) => Err(store_failure(failure)),
         }

@@ -1,10 +1,10 @@
 //! A table and its rows.
 
-ghost use Rattle.std.specs.Prelude.{◌≡◌, ◌-◌, ◌<◌, ◌≤◌, None, List, [], length, All, IfOk, IfSome, IsErrOf, OnErr, OnOk};
+ghost use Rattle.std.specs.Prelude.{◌≡◌, ◌-◌, ◌<◌, ◌≤◌, None, List, [], length, All, IfOk, IfSome, IsErrOf, OnErr, OnOk, take};
 ghost use Rattle.memory.specs.Gives.{Gives};
 ghost use Rattle.csv_records.specs.Left.{records_of};
 ghost use Rattle.value.specs.Columns.{columns_of};
-ghost use Rattle.value.specs.Datum.{cell, datum_of, row_at};
+ghost use Rattle.value.specs.Datum.{cell, datum, datum_of, row_at};
 ghost use Rattle.tables.specs.Loading.{Fields, NoTextIsNull, StopsAfterGood, UnlessUnread, appended, load_of, reported};
 ghost use Rattle.tables.specs.declared.TheConstants.{MAX_ROWS};
 
@@ -125,6 +125,14 @@ impl<A: Heap> Table<A> {
         Ok(())
     }
 
+    /// Drops the rows from a number on, which counts from 0. It takes no memory.
+    pub fn truncate(&mut self, rows: u64)
+        ensures columns { self.new.columns ≡ self.old.columns }
+        ensures rows { self.new.rows ≡ take rows self.old.rows }
+    {
+        self.rows.truncate(rows as usize);
+    }
+
     /// The columns, in order.
     pub fn columns(&self) -> &[Column<A>]
         ensures { columns_of result.now ≡ self.now.columns }
@@ -139,6 +147,15 @@ impl<A: Heap> Table<A> {
         ensures wide { All (λ r. length r ≡ length self.now.columns) self.now.rows }
     {
         self.rows.len() as u64
+    }
+
+    /// The value of a cell, with row and column counted from 0.
+    pub fn value(&self, row: u64, column: u64) -> &Value<A>
+        requires row { row < length self.now.rows }
+        requires column { column < length self.now.columns }
+        ensures { datum result.now ≡ cell (row_at self.now.rows row) column }
+    {
+        &self.rows[row as usize].as_slice()[column as usize]
     }
 
     /// A cell, with row and column counted from 0.

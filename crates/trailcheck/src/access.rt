@@ -11,7 +11,7 @@ use memory::Heap;
 use value::Comparison;
 
 /// The condition of that number, from 1, if there is one.
-pub(crate) fn condition_at<A: Heap>(setting: &Setting<A>, number: u64) -> Option<&MovableExpr<A>>
+pub fn condition_at<A: Heap>(setting: &Setting<A>, number: u64) -> Option<&MovableExpr<A>>
     ensures { option_map (λ e. e.now) result ≡ spec.condition_at (setting_of setting.now) number }
 {
     if number == 0 {
@@ -51,8 +51,8 @@ fn is_numbered(entry: usize, column: u64, id: ColumnId) -> bool
     id.entry == entry && column != 0 && id.column as u64 == column - 1
 }
 
-// True where the condition compares that column of the entry with a literal, either way round.
-fn bounds<A: Heap>(entry: usize, column: u64, condition: &MovableExpr<A>) -> bool
+/// True where the condition compares that column of the entry, counted from 1, with a literal, either way round.
+pub fn bounds<A: Heap>(entry: usize, column: u64, condition: &MovableExpr<A>) -> bool
     ensures { result ≡ spec.bounds entry column condition.now }
 {
     match condition.expression() {

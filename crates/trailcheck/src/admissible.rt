@@ -17,8 +17,8 @@ use memory::{Heap, Items};
 use predicates::is_never_true;
 use std::alloc::AllocError;
 
-// True where some condition is never true.
-fn some_never_true<A: Heap>(conditions: &[MovableExpr<A>]) -> bool
+/// True where some condition is never true.
+pub fn some_never_true<A: Heap>(conditions: &[MovableExpr<A>]) -> bool
     ensures { result ≡ list_any equalities.is_never_true conditions.now }
 {
     conditions.iter().any(|condition| is_never_true(condition))

@@ -14,7 +14,8 @@ mod setting;
 mod shapes;
 mod verdict;
 
-pub use admissible::is_admissible;
+pub use access::{bounds, condition_at};
+pub use admissible::{is_admissible, some_never_true};
 pub use judging::judge;
 pub use laws::{law_accepted_means_same, law_same_term_is_equal};
 pub use same_term::is_same_term;

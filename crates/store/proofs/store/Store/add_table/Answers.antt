@@ -1,9 +1,12 @@
-use Rattle.std.proofs.Common.{◌≡◌, ◌⊎◌, ◌∙◌, [], ◌∷◌, ◌++◌, Err, ap, subst, map, rules}
+use Rattle.std.proofs.Common.{◌≡◌, ◌⊎◌, ◌∙◌, [], ◌∷◌, ◌++◌, Err, ap, refl, subst, map, rules}
+use Rattle.std.proofs.lemmas.List.Elements.{All-push, All-same}
 use Rattle.value.specs.declared.refusal.Refusal.TheVariants.{OutOfMemory}
 use Rattle.row_ast.specs.View.{statement_of}
 use Rattle.catalog.specs.Changes.{changed}
 use Rattle.store.specs.View.{stored_of}
+use Rattle.store.specs.Counted.{IsCounted}
 use Rattle.store.proofs.Agreement.{new_agrees}
+use Rattle.store.proofs.Counts.{still_held}
 use Rattle.store.proofs.Loads.{same_database, still_refused, taken_back}
 use Rattle.store.proofs.store.Store.add_table.Goals as goal
 
@@ -16,7 +19,17 @@ returns-in-Err g c =
       still_refused c.args.self.now (statement_of c.args.statement.now) _ _ refused,
     )
 
+pub invariant_of-self : goal.invariant_of-self
+invariant_of-self g c = still_held c.self.inside _ refl (rw c.if-is_err.ensures.negation at c.push.ensures.items) c.self.invariant
+
+pub invariant_of-self-in-Err : goal.invariant_of-self-in-Err
+invariant_of-self-in-Err g c =
+    let kept = c.truncate.ensures.items ∙ (rw c.push.ensures.items (taken_back _ _ _ _ (c.len-before.ensures ∙ c.self.inside.tables.ok.0))) in
+    still_held c.self.inside _ c.in-Err.ensures.change.0 kept c.self.invariant
+
 pub invariant_of-self-in-Ok-apply : goal.invariant_of-self-in-Ok-apply
 invariant_of-self-in-Ok-apply g c =
-    let pushed : c.push.new.self.items ≡ c.self.inside.tables.items ++ c.in-Ok.table ∷ [] = search rules in
-    new_agrees (λ t. stored_of t) c.self.inside.tables.items _ c.in-Ok.table c.self.inside.catalog _ c.args.actor.now c.args.name.now (statement_of c.args.statement.now) _ pushed c.in-Ok.ensures c.requires c.in-Ok-apply.ensures.change c.self.invariant
+    let pushed : c.push.new.self.items ≡ c.self.inside.tables.items ++ c.in-Ok.table ∷ [] = search rules in record {
+      agrees = new_agrees (λ t. stored_of t) c.self.inside.tables.items _ c.in-Ok.table c.self.inside.catalog _ c.args.actor.now c.args.name.now (statement_of c.args.statement.now) _ pushed c.in-Ok.ensures.stored c.requires c.in-Ok-apply.ensures.change c.self.invariant.agrees;
+      counted = All-same (λ t. IsCounted t) _ _ pushed (All-push (λ t. IsCounted t) c.self.inside.tables.items c.in-Ok.table c.self.invariant.counted c.in-Ok.ensures.counted);
+    }

@@ -26,6 +26,7 @@ none_added known (CreatePolicy policy) other = refl
 none_added known (DropPolicy name table) other = refl
 
 pub invariant_of-self : goal.invariant_of-self
-invariant_of-self g c =
-    still_agrees _ c.self.inside.catalog _ c.args.actor.now (statement_of c.args.statement.now) c.apply.result c.apply.ensures.change
-    (none_added _ c.args.statement.now c.in_default.not-CreateTable) c.self.invariant
+invariant_of-self g c = record {
+  agrees = still_agrees _ c.self.inside.catalog _ c.args.actor.now (statement_of c.args.statement.now) c.apply.result c.apply.ensures.change (none_added _ c.args.statement.now c.in_default.not-CreateTable) c.self.invariant.agrees;
+  counted = c.self.invariant.counted;
+}

@@ -1,9 +1,12 @@
-use Rattle.std.proofs.Common.{◌≡◌, [], Err, map, sym, refl, ap, ◌∙◌}
+use Rattle.std.proofs.Common.{◌≡◌, [], Err, map, sym, refl, ap, ap₂, ◌∙◌}
+use Rattle.std.proofs.lemmas.List.Elements.{All-set}
 use Rattle.std.proofs.Math.Seq.{map-set_same}
 use Rattle.store.specs.Database.{is_named}
 use Rattle.store.specs.View.{stored_of}
 use Rattle.store.proofs.Places.{none_found}
+use Rattle.store.specs.Counted.{IsCounted}
 use Rattle.store.proofs.Agreement.{columns_kept}
+use Rattle.store.proofs.Counts.{counted_at, entry_of, index_within}
 use Rattle.store.proofs.Loads.{IfSome-all, IfSome-map, rows_loaded, fault_reported, same_database, stops_loaded}
 use Rattle.store.proofs.store.Store.load_records.Goals as goal
 use Rattle.store.proofs.store.Store.load_records.Goals.{in-Ok, in-Err}
@@ -22,7 +25,7 @@ returns-clause-exact g c =
     let entries = c.self.inside.tables.items in
     let at = sym (rw (← c.self.view_is) at c.in-Some.ensures.index) in
     elim c.match-append_records.branch [
-      | in-Ok w ↦ rw (← c.self.view_is, w.result-is) (IfSome-map c.args.records.now.records _ _ (λ recs h. rows_loaded (λ e. stored_of e) c.args.table.now c.index_mut.result.now entries c.in-Some.i at c.index_mut.ensures.value recs _ _ refl c.append_records.ensures.columns h) ((rw w.in-Ok.is at c.append_records.ensures.exact) fine))
+      | in-Ok w ↦ rw (← c.self.view_is, w.result-is) (IfSome-map c.args.records.now.records _ _ (λ recs h. rows_loaded (λ e. stored_of e) c.args.table.now c.index_mut.result.now entries c.in-Some.i at c.index_mut.ensures.value recs c.append_records.new.self _ c.append_records.ensures.name c.append_records.ensures.columns h) ((rw w.in-Ok.is at c.append_records.ensures.exact) fine))
       | in-Err w ↦ rw (← c.self.view_is, w.result-is, w.store_failure.ensures) (IfSome-map c.args.records.now.records _ _ (λ recs h. fault_reported (λ e. stored_of e) c.args.table.now c.index_mut.result.now entries c.in-Some.i at c.index_mut.ensures.value recs (map (λ e. stored_of e) entries) _ h) ((rw w.in-Err.is at c.append_records.ensures.exact) fine))
     ]
 
@@ -32,7 +35,7 @@ returns-clause-some_records g c =
     let entries = c.self.inside.tables.items in
     let at = sym (rw (← c.self.view_is) at c.in-Some.ensures.index) in
     elim c.match-append_records.branch [
-      | in-Ok w ↦ let h = (rw w.in-Ok.is at c.append_records.ensures.some_records) fine in rw (← c.self.view_is, w.result-is) (h.0, rows_loaded (λ e. stored_of e) c.args.table.now c.index_mut.result.now entries c.in-Some.i at c.index_mut.ensures.value h.0 _ _ refl c.append_records.ensures.columns h.1, h.2)
+      | in-Ok w ↦ let h = (rw w.in-Ok.is at c.append_records.ensures.some_records) fine in rw (← c.self.view_is, w.result-is) (h.0, rows_loaded (λ e. stored_of e) c.args.table.now c.index_mut.result.now entries c.in-Some.i at c.index_mut.ensures.value h.0 c.append_records.new.self _ c.append_records.ensures.name c.append_records.ensures.columns h.1, h.2)
       | in-Err w ↦ let h = (rw w.in-Err.is at c.append_records.ensures.some_records) fine in rw (← c.self.view_is, w.result-is, w.store_failure.ensures) (h.0, fault_reported (λ e. stored_of e) c.args.table.now c.index_mut.result.now entries c.in-Some.i at c.index_mut.ensures.value h.0 (map (λ e. stored_of e) entries) _ h.1, tt)
     ]
 
@@ -45,15 +48,22 @@ returns-clause-stops g c =
       | in-Err w ↦ rw (← c.self.view_is, w.result-is, w.store_failure.ensures) (IfSome-map c.args.records.now.records _ _ (λ recs h. stops_loaded (λ e. stored_of e) c.args.table.now c.index_mut.result.now entries c.in-Some.i at c.index_mut.ensures.value recs (Err _) h) (rw w.in-Err.is at c.append_records.ensures.stops))
     ]
 
+pub append_records-requires-clause-counted : goal.append_records-requires-clause-counted
+append_records-requires-clause-counted g c =
+    counted_at c.self.inside.tables.items c.in-Some.i c.index_mut.result.now (index_within c.self.inside c.args.self.now c.in-Some.i c.self.view_is c.in-Some.ensures.within) c.index_mut.ensures.value c.self.invariant.counted
+
 pub invariant_of-self : goal.invariant_of-self
-invariant_of-self g c = columns_kept (λ e. stored_of e) c.self.inside.tables.items c.in-Some.i c.index_mut.result.now _ c.index_mut.ensures.value refl c.append_records.ensures.columns ∙ c.self.invariant
+invariant_of-self g c = record {
+  agrees = columns_kept (λ e. stored_of e) c.self.inside.tables.items c.in-Some.i c.index_mut.result.now c.append_records.new.self c.index_mut.ensures.value c.append_records.ensures.name c.append_records.ensures.columns ∙ c.self.invariant.agrees;
+  counted = All-set (λ e. IsCounted e) c.self.inside.tables.items c.in-Some.i c.append_records.new.self c.append_records.ensures.counted c.self.invariant.counted;
+}
 
 pub returns-clause-unchanged : goal.returns-clause-unchanged
 returns-clause-unchanged g c =
     elim c.match-append_records.branch [
       | in-Ok w ↦ rw w.result-is tt
       | in-Err w ↦
-          let kept : c.append_records.new.self ≡ c.index_mut.result.now.contents = rw w.in-Err.is at c.append_records.ensures.unchanged in
-          let entry = ap (λ t. (c.index_mut.result.now.name, t)) kept ∙ ap (λ e. stored_of e) c.index_mut.ensures.value in
-          rw (w.result-is, ← c.self.view_is) (same_database _ _ _ _ refl (map-set_same (λ e. stored_of e) c.self.inside.tables.items c.in-Some.i _ c.index_mut.result.now entry))
+          let kept : c.append_records.new.self.contents ≡ c.index_mut.result.now.contents = rw w.in-Err.is at c.append_records.ensures.unchanged in
+          let entry = ap₂ entry_of c.append_records.ensures.name kept ∙ ap (λ e. stored_of e) c.index_mut.ensures.value in
+          rw (w.result-is, ← c.self.view_is) (same_database _ _ _ _ refl (map-set_same (λ e. stored_of e) c.self.inside.tables.items c.in-Some.i c.append_records.new.self c.index_mut.result.now entry))
     ]

@@ -4,7 +4,7 @@ use Rattle.store.proofs.Agreement.{same_place}
 use Rattle.store.proofs.store.Store.table_index.Goals as goal
 
 pub returns-in-Some-clause-index : goal.returns-in-Some-clause-index
-returns-in-Some-clause-index g c = rw (← c.self.view_is) (c.in-Some.ensures.index ∙ sym (same_place c.args.name.now 0 (map (λ t. stored_of t) c.self.inside.tables.items) c.self.inside.catalog.tables c.self.invariant))
+returns-in-Some-clause-index g c = rw (← c.self.view_is) (c.in-Some.ensures.index ∙ sym (same_place c.args.name.now 0 (map (λ t. stored_of t) c.self.inside.tables.items) c.self.inside.catalog.tables c.self.invariant.agrees))
 
 pub returns-in-None-clause-index : goal.returns-in-None-clause-index
-returns-in-None-clause-index g c = rw (← c.self.view_is) (c.in-None.ensures.index ∙ sym (same_place c.args.name.now 0 (map (λ t. stored_of t) c.self.inside.tables.items) c.self.inside.catalog.tables c.self.invariant))
+returns-in-None-clause-index g c = rw (← c.self.view_is) (c.in-None.ensures.index ∙ sym (same_place c.args.name.now 0 (map (λ t. stored_of t) c.self.inside.tables.items) c.self.inside.catalog.tables c.self.invariant.agrees))

@@ -1,4 +1,4 @@
-//! Codes of plans read from texts: a step is the number of its entry, an access (`f`, `i2` by the index on column 2, `r2/1` by
+//! Codes of plans as texts: a step is the number of its entry, an access (`f`, `i2` by the index on column 2, `r2/1` by
 //! it and condition 1) and a method (`n`, `h1` and `m1` on condition 1).
 
 use expr::{Access, Code, CodeStep, Method};
@@ -65,4 +65,45 @@ pub fn code_of(alloc: Global, text: &str) -> Result<Option<Code<Global>>, AllocE
         }
     }
     Ok(Some(Code::Steps(steps)))
+}
+
+fn show_access(access: Access, out: &mut String) -> Result<(), AllocError> {
+    match access {
+        Access::Full => out.push_str("f"),
+        Access::Index { column } => write!(out, "i{column}"),
+        Access::Range { column, bound } => write!(out, "r{column}/{bound}"),
+    }
+}
+
+fn show_method(method: Method, out: &mut String) -> Result<(), AllocError> {
+    match method {
+        Method::Nested => out.push_str("n"),
+        Method::Hash { conjunct } => write!(out, "h{conjunct}"),
+        Method::Merge { conjunct } => write!(out, "m{conjunct}"),
+    }
+}
+
+fn show_step(step: CodeStep, out: &mut String) -> Result<(), AllocError> {
+    write!(out, "{} ", step.entry)?;
+    show_access(step.access, out)?;
+    out.push_str(" ")?;
+    show_method(step.method, out)
+}
+
+fn show_steps(steps: &[CodeStep], out: &mut String) -> Result<(), AllocError> {
+    for (i, step) in steps.iter().enumerate() {
+        if i > 0 {
+            out.push_str(", ")?;
+        }
+        show_step(*step, out)?;
+    }
+    Ok(())
+}
+
+/// Writes a code as the text that `code_of` reads.
+pub fn show_code(code: &Code<Global>, out: &mut String) -> Result<(), AllocError> {
+    match code {
+        Code::Empty => out.push_str("empty"),
+        Code::Steps(steps) => show_steps(steps.as_slice(), out),
+    }
 }

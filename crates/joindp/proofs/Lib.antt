@@ -1,0 +1,15 @@
+pub mod Bests
+pub mod Chosen
+pub mod Costs
+pub mod Followed
+pub mod Guards
+pub mod Improved
+pub mod Listing
+pub mod NewSteps
+pub mod OneBit
+pub mod Passing
+pub mod Paths
+pub mod PlacedSets
+pub mod Reached
+pub mod Rows
+pub mod Sized

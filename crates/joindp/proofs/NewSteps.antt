@@ -1,0 +1,68 @@
+-- What a step that may follow a set of placed entries tells.
+use Rattle.std.proofs.Common.{◌≡◌, ◌∙◌, refl, sym, ap, ℕ, zero, suc, ◌<◌, ◌≤◌, true, false, ◌&&◌, not, nat_le, List, length, option_map, Option, Some, None, arith, true≢false}
+use Rattle.std.proofs.lemmas.Bool.{leb-true, not-true}
+use Rattle.expr.specs.declared.bound.ColumnId.{ColumnId}
+use Rattle.expr.specs.declared.code.Method.{Method}
+use Rattle.expr.specs.declared.code.Method.TheVariants.{Nested, Hash, Merge}
+use Rattle.expr.specs.declared.code.CodeStep.{CodeStep}
+use Rattle.expr.specs.Bound.{BoundExpr}
+use Rattle.eval.proofs.Movables.{and_left, and_right}
+use Rattle.predicates.specs.Equalities.{column_sides}
+use Rattle.stats.specs.Card.{Entries}
+use Rattle.trailcheck.specs.Admissible.{condition_at, is_allowed_access, is_some_and}
+use Rattle.trailcheck.specs.Settings.{Setting}
+use Rattle.trailcheck.specs.Shapes.{entry_index}
+use Rattle.joindp.specs.Best.{Problem, estimates}
+use Rattle.joindp.specs.Cost.{Order, facing, merged_order, numbered, order_after, sides_held}
+use Rattle.joindp.specs.Following.{equates_with, may_be_next, may_follow, may_join_by, span}
+use Rattle.joindp.specs.Search.{HasOrders, IsListed}
+
+pub record IsNew (at : Setting) (entries : Entries) (s : CodeStep) : Type 0 where
+  pub from_one : 1 ≤ s.entry
+  pub below : entry_index s < length at.frame
+  pub new : entries (entry_index s) ≡ false
+  pub next : may_be_next at entries (entry_index s) ≡ true
+  pub access : is_allowed_access at (entry_index s) s.access ≡ true
+  pub method : may_join_by at entries (entry_index s) s.method ≡ true
+
+pub is_new : (at : Setting) (entries : Entries) (s : CodeStep) → may_follow at entries s ≡ true → IsNew at entries s
+is_new at entries s h =
+    let i = entry_index s in
+    let range = nat_le 1 s.entry && nat_le s.entry (length at.frame) in
+    let order = and_left (range && may_be_next at entries i) (is_allowed_access at i s.access && may_join_by at entries i s.method) h in
+    let ways = and_right (range && may_be_next at entries i) (is_allowed_access at i s.access && may_join_by at entries i s.method) h in
+    let there = and_left range (may_be_next at entries i) order in
+    let next = and_right range (may_be_next at entries i) order in
+    let a = leb-true 1 s.entry (and_left (nat_le 1 s.entry) (nat_le s.entry (length at.frame)) there) in
+    let b = leb-true s.entry (length at.frame) (and_right (nat_le 1 s.entry) (nat_le s.entry (length at.frame)) there) in
+    record {
+      from_one = a;
+      below = omega (arith, a, b);
+      new = not-true (entries i) (and_left (not (entries i)) _ next);
+      next = next;
+      access = and_left (is_allowed_access at i s.access) (may_join_by at entries i s.method) ways;
+      method = and_right (is_allowed_access at i s.access) (may_join_by at entries i s.method) ways;
+    }
+
+-- ---- the order after it
+
+-- a condition by its number, of a setting and of its list
+pub same_number : (at : Setting) (number : ℕ) → condition_at at number ≡ numbered at.conditions number
+same_number at zero = refl
+same_number at (suc k) = refl
+
+module _ (p : Problem) (orders : List Order) (has : HasOrders p orders) where
+  of_sides : (entry number : ℕ) (o : Option BoundExpr) → numbered p.setting.conditions number ≡ o → (placed : Entries) → is_some_and (equates_with placed entry) o ≡ true → IsListed orders (merged_order (sides_held entry o))
+  of_sides entry number None e placed h = absurd (true≢false (sym h))
+  of_sides entry number (Some c) e placed h = go (column_sides c) refl h
+    where
+      go : (q : Option (ColumnId × ColumnId)) → column_sides c ≡ q → span placed entry q ≡ true → IsListed orders (merged_order (option_map (facing entry) q))
+      go None f k = absurd (true≢false (sym k))
+      go (Some ids) f k = has.of_merge entry number (facing entry ids).0 (facing entry ids).1 (ap (sides_held entry) e ∙ ap (option_map (facing entry)) f)
+
+  -- the order after a join is listed
+  pub listed_after : (placed : Entries) (entry : ℕ) (order : Order) (m : Method) → IsListed orders order → may_join_by p.setting placed entry m ≡ true → IsListed orders (order_after (estimates p) entry order m)
+  listed_after placed entry order Nested listed h = listed
+  listed_after placed entry order (Hash k) listed h = listed
+  listed_after placed entry order (Merge k) listed h =
+      of_sides entry k (numbered p.setting.conditions k) refl placed (sym (ap (is_some_and (equates_with placed entry)) (same_number p.setting k)) ∙ h)

@@ -1,0 +1,121 @@
+-- A list of placed entries and the set of them: the same steps may follow both.
+use Rattle.std.proofs.Common.{◌≡◌, ◌∙◌, refl, sym, ap, subst, ℕ, zero, suc, ◌+◌, ◌-◌, ◌^◌, ◌<◌, ◌≤◌, Bool, true, false, ◌&&◌, ◌||◌, not, ◌==◌, nat_lt, nat_le, List, [], ◌∷◌, ◌++◌, length, reverse, Option, Some, None, arith, length-append, zero-add}
+use mathlib.Core.Path.{fun_ext}
+use Rattle.std.specs.Int.{bit_at}
+use Rattle.std.specs.List.{list_all, range_with_len}
+use Rattle.std.proofs.lemmas.Bool.{lt-ltb, ltb-true}
+use Rattle.expr.specs.declared.bound.ColumnId.{ColumnId}
+use Rattle.expr.specs.declared.code.Method.{Method}
+use Rattle.expr.specs.declared.code.Method.TheVariants.{Nested, Hash, Merge}
+use Rattle.expr.specs.declared.code.CodeStep.{CodeStep}
+use Rattle.expr.specs.Bound.{BoundExpr}
+use Rattle.eval.proofs.Movables.{and_left, and_right}
+use Rattle.predicates.proofs.Keeping.{both}
+use Rattle.predicates.specs.Equalities.{column_sides}
+use Rattle.stats.specs.Card.{Entries}
+use Rattle.std.proofs.lemmas.Nat.{pow_pos}
+use Rattle.stats.proofs.EntrySets.{all_bits_set, bits_of_all, set_within}
+use Rattle.trailcheck.specs.Admissible.{is_some_and, are_across, equates, condition_at, is_connected, is_next, is_allowed_access, is_allowed_method, is_allowed_step}
+use Rattle.trailcheck.specs.Entries.{is_among}
+use Rattle.trailcheck.specs.Settings.{Setting}
+use Rattle.trailcheck.specs.Shapes.{entry_index}
+use Rattle.rewrite.proofs.Distinct.{Distinct, among_more, each_has, from_count, from_has}
+use Rattle.rewrite.proofs.PlainCodes.{fits, range_count, range_distinct}
+use Rattle.joindp.specs.Following.{span, equates_with, may_join_by, may_be_next, may_follow}
+use Rattle.joindp.specs.Search.{set_of}
+use Rattle.joindp.proofs.OneBit.{no_bit, one_more_bit}
+
+-- ---- tests over a list and over its set
+
+same_across : (placed : List ℕ) (entry : ℕ) (o : Option (ColumnId × ColumnId)) → are_across placed entry o ≡ span (is_among placed) entry o
+same_across placed entry None = refl
+same_across placed entry (Some ids) = refl
+
+same_equality : (placed : List ℕ) (entry : ℕ) (o : Option BoundExpr) → is_some_and (equates placed entry) o ≡ is_some_and (equates_with (is_among placed) entry) o
+same_equality placed entry None = refl
+same_equality placed entry (Some e) = same_across placed entry (column_sides e)
+
+same_method : (at : Setting) (placed : List ℕ) (entry : ℕ) (m : Method) → is_allowed_method at placed entry m ≡ may_join_by at (is_among placed) entry m
+same_method at placed entry Nested = refl
+same_method at placed entry (Hash k) = same_equality placed entry (condition_at at k)
+same_method at placed entry (Merge k) = same_equality placed entry (condition_at at k)
+
+regrouped : (a b c : Bool) → (a && b) && c ≡ a && (b && c)
+regrouped true b c = refl
+regrouped false b c = refl
+
+same_order : (at : Setting) (placed : List ℕ) (s : CodeStep) → is_next at placed s && is_connected at placed (entry_index s) ≡ (nat_le 1 s.entry && nat_le s.entry (length at.frame)) && may_be_next at (is_among placed) (entry_index s)
+same_order at placed s = regrouped (nat_le 1 s.entry && nat_le s.entry (length at.frame)) (not (is_among placed (entry_index s))) (is_connected at placed (entry_index s))
+
+-- the same steps may follow a list and its members
+same_steps : (at : Setting) (placed : List ℕ) (s : CodeStep) → is_allowed_step at placed s ≡ may_follow at (is_among placed) s
+same_steps at placed s =
+    ap (λ b. b && (is_allowed_access at (entry_index s) s.access && is_allowed_method at placed (entry_index s) s.method)) (same_order at placed s)
+    ∙ ap (λ b. ((nat_le 1 s.entry && nat_le s.entry (length at.frame)) && may_be_next at (is_among placed) (entry_index s)) && (is_allowed_access at (entry_index s) s.access && b)) (same_method at placed (entry_index s) s.method)
+
+pub same_steps_of : (at : Setting) (placed : List ℕ) (entries : Entries) → ((i : ℕ) → is_among placed i ≡ entries i) → (s : CodeStep) → is_allowed_step at placed s ≡ may_follow at entries s
+same_steps_of at placed entries same s = same_steps at placed s ∙ ap (λ (e : Entries). may_follow at e s) (fun_ext same)
+
+-- ---- a list of placed entries and the bits of their set
+
+-- the bits are those of the entries of the list; js are these, each once
+pub record IsPlaced (n : ℕ) (placed : List ℕ) (set : ℕ) : Type 0 where
+  pub js : List ℕ
+  pub long : length js ≡ length placed
+  pub same : (k : ℕ) → is_among placed k ≡ is_among js k
+  pub bits : (k : ℕ) → is_among placed k ≡ set_of set k
+  pub distinct : Distinct js
+  pub below : list_all (λ i. nat_lt i n) js ≡ true
+  pub within : set < 2 ^ n
+
+-- a list with one entry more
+pub placed_more : (n : ℕ) (placed : List ℕ) (set i : ℕ) → n ≤ 64 → IsPlaced n placed set → i < n → set_of set i ≡ false → IsPlaced n (placed ++ i ∷ []) (set + 2 ^ i)
+placed_more n placed set i few h below new = record {
+  js = i ∷ h.js;
+  long = let l = length-append placed (i ∷ []) in omega (arith, l, h.long);
+  same = λ k. among_more placed i k ∙ ap (λ b. (i == k) || b) (h.same k);
+  bits = λ k. among_more placed i k ∙ ap (λ b. (i == k) || b) (h.bits k) ∙ sym (one_more_bit set i k (omega arith) new);
+  distinct = (sym (h.same i) ∙ h.bits i ∙ new, h.distinct);
+  below = both (nat_lt i n) (list_all (λ j. nat_lt j n) h.js) (lt-ltb i n below) h.below;
+  within = set_within n set i h.within below new;
+}
+
+-- no entry
+placed_none : (n : ℕ) → IsPlaced n [] 0
+placed_none n = record { js = []; long = refl; same = λ k. refl; bits = λ k. sym (no_bit k); distinct = tt; below = refl; within = pow_pos n }
+
+-- the first entry
+pub placed_first : (n i : ℕ) → n ≤ 64 → i < n → IsPlaced n (i ∷ []) (2 ^ i)
+placed_first n i few below = subst (IsPlaced n (i ∷ [])) (zero-add (2 ^ i)) (placed_more n [] 0 i few (placed_none n) below (no_bit i))
+
+all_in_range : (n : ℕ) (js : List ℕ) → list_all (λ i. nat_lt i n) js ≡ true → list_all (is_among (reverse (range_with_len 0 n))) js ≡ true
+all_in_range n [] h = refl
+all_in_range n (j ∷ js) h =
+    both (is_among (reverse (range_with_len 0 n)) j) (list_all (is_among (reverse (range_with_len 0 n))) js) (from_has n j (ltb-true j n (and_left (nat_lt j n) (list_all (λ i. nat_lt i n) js) h)))
+    (all_in_range n js (and_right (nat_lt j n) (list_all (λ i. nat_lt i n) js) h))
+
+all_of_range : (n : ℕ) (js : List ℕ) → ((k : ℕ) → k < n → is_among js k ≡ true) → (a m : ℕ) → a + m ≤ n → list_all (is_among js) (range_with_len a m) ≡ true
+all_of_range n js h a zero within = refl
+all_of_range n js h a (suc m) within = both (is_among js a) (list_all (is_among js) (range_with_len (a + 1) m)) (h a (omega arith)) (all_of_range n js h (a + 1) m (omega arith))
+
+module _ (n : ℕ) (placed : List ℕ) (set : ℕ) (h : IsPlaced n placed set) where
+  -- where as many are placed as there are, all bits are set
+  pub all_placed : length placed ≡ n → set + 1 ≡ 2 ^ n
+  all_placed full =
+      let l = from_count n in
+      let long : length h.js ≡ length (reverse (range_with_len 0 n)) = omega (arith, l, full, h.long) in
+      let each : (k : ℕ) → k < n → set_of set k ≡ true = λ k below. sym (h.bits k) ∙ h.same k ∙ each_has h.js (reverse (range_with_len 0 n)) long h.distinct (all_in_range n h.js h.below) k (from_has n k below) in
+      let e = all_bits_set n set h.within each in
+      let p = pow_pos n in
+      omega (arith, e, p)
+
+  -- and the other way round
+  pub as_many_placed : set + 1 ≡ 2 ^ n → length placed ≡ n
+  as_many_placed whole =
+      let all : set ≡ 2 ^ n - 1 = omega arith in
+      let each : (k : ℕ) → k < n → is_among h.js k ≡ true = λ k below. sym (h.same k) ∙ h.bits k ∙ ap (λ m. bit_at m k == 1) all ∙ bits_of_all n k ∙ lt-ltb k n below in
+      let a = fits (range_with_len 0 n) h.js (range_distinct 0 n) (all_of_range n h.js each 0 n (omega arith)) in
+      let b = fits h.js (reverse (range_with_len 0 n)) h.distinct (all_in_range n h.js h.below) in
+      let c = from_count n in
+      let d = range_count 0 n in
+      omega (arith, a, b, c, d, h.long)

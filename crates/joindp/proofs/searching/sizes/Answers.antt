@@ -1,0 +1,24 @@
+use Rattle.std.proofs.Common.{◌≡◌, ◌∙◌, ◌^◌, ◌≤◌, [], ◌∷◌, length-append, ap, arith}
+use Rattle.std.proofs.lemmas.List.{length-map}
+use Rattle.tuples.specs.View.{guard_of}
+use Rattle.joindp.specs.Best.{estimates}
+use Rattle.joindp.specs.Cost.{size}
+use Rattle.joindp.specs.Search.{entry_count, set_of}
+use Rattle.joindp.specs.View.{problem_of}
+use Rattle.joindp.proofs.Rows.{one_more}
+use Rattle.joindp.proofs.searching.sizes.Goals as goal
+
+pub loop-bits-preserved : goal.loop-bits-preserved
+loop-bits-preserved g c =
+    rw c.in_ok-push.ensures.ok (record {
+      long = let l = length-append c.loop-bits.sizes (c.size.result ∷ []) in omega (arith, l, c.loop-bits.invariant.long);
+      each = one_more (λ set x. (x ≡ size (estimates (problem_of c.args.problem.now)) (set_of set)) × (x ≤ 2 ^ 40)) c.loop-bits.sizes c.size.result c.loop-bits.bits c.loop-bits.invariant.long c.loop-bits.invariant.each
+          (c.size.ensures.value, c.size.ensures.small);
+    })
+
+pub returns : goal.returns
+returns g c =
+    let l = length-map c.args.problem.now.setting.now.frame guard_of in
+    let n : c.len.result ≡ entry_count (problem_of c.args.problem.now) = omega (arith, l, c.len.ensures) in
+    let count : c.loop-bits.bits ≡ 2 ^ entry_count (problem_of c.args.problem.now) = let b = c.bit_of-count.ensures ∙ ap (λ k. 2 ^ k) n in omega (arith, b, c.loop-bits-test.false) in
+    (c.loop-bits.invariant.long ∙ count, λ set within. c.loop-bits.invariant.each set 0 (omega (arith, within, count)))

@@ -1,0 +1,7 @@
+pub mod Card
+pub mod Factors
+pub mod Repeats
+pub mod Runs
+pub mod Statistics
+pub mod Types
+pub mod View
