@@ -1,13 +1,10 @@
 -- What the costs of codes are made from.
-use Rattle.std.proofs.Common.{◌≡◌, ℕ, zero, suc, ◌+◌, ◌-◌, ◌*◌, ◌/◌, ◌%◌, ◌^◌, ◌<◌, ◌≤◌, ◌==◌, nat_le, nat_lt, Bool, not, true, false, ◌||◌, ◌&&◌, List, [], ◌∷◌, ◌++◌, length, All, drop, get_or, Option, Some, None, slice_get, option_map, refl, sym, ap, ◌∙◌, subst, arith}
-use Rattle.std.specs.Int.Digits.{digits_of}
+use Rattle.std.proofs.Common.{◌≡◌, ℕ, zero, suc, ◌+◌, ◌-◌, ◌*◌, ◌%◌, ◌^◌, ◌<◌, ◌≤◌, ◌==◌, nat_le, nat_lt, Bool, not, true, false, ◌||◌, ◌&&◌, List, [], ◌∷◌, ◌++◌, length, All, drop, get_or, Option, Some, None, slice_get, option_map, refl, sym, ap, ◌∙◌, subst, arith}
 use Rattle.std.specs.List.{list_all}
-use Rattle.std.proofs.Math.Nat.{pow-succ'}
 use Rattle.std.proofs.Math.Path.{fun_ext}
 use Rattle.std.proofs.lemmas.Bool.{and_parts, and_from, leb-true, lt-ltb}
-use Rattle.std.proofs.lemmas.Int.Digits.{length-digits_of_step}
 use Rattle.std.proofs.lemmas.List.{drop_more, drop_all}
-use Rattle.std.proofs.lemmas.Nat.{pow_below, pow_pos}
+use Rattle.std.proofs.lemmas.Nat.{pow_below}
 use Rattle.std.proofs.lemmas.Option.{get_or_from_slice_get, slice_get-map, slice_get_within}
 use Rattle.expr.specs.Bound.{BoundExpr}
 use Rattle.expr.specs.declared.bound.ColumnId.{ColumnId}
@@ -23,18 +20,9 @@ use Rattle.trailcheck.specs.Entries.{is_among}
 use Rattle.trailcheck.specs.Settings.{Setting}
 use Rattle.rewrite.proofs.Distinct.{among_more}
 use Rattle.trailcheck.specs.Shapes.{entry_index}
-use Rattle.joindp.specs.Cost.{Estimates, Order, cost_after, entry_size, factor_held, is_ordered_by, last_sorting, numbered, order_after, size, sorting_unless, step_cost, step_cost_of}
+use Rattle.joindp.specs.Cost.{Estimates, cost_after, entry_size, factor_held, last_sorting, size, step_cost, step_cost_of}
+use Rattle.joindp.specs.Orders.{Order, is_ordered_by, numbered, order_after, sorting_unless}
 use Rattle.joindp.proofs.OneBit.{or_false}
-
--- ---- digits
-
--- a number from 2^k on and below 2^(k + 1) has k + 1 digits in base 2
-pub digits_between : (k n : ℕ) → 2 ^ k ≤ n → n < 2 * 2 ^ k → length (digits_of 2 n) ≡ k + 1
-digits_between zero n low high = let one : n ≡ 1 = omega arith in ap (λ m. length (digits_of 2 m)) one
-digits_between (suc k) n low high =
-    let p : 2 ^ suc k ≡ 2 * 2 ^ k = pow-succ' 2 k in
-    let q : 0 < 2 ^ k = pow_pos k in
-    length-digits_of_step 2 n (omega arith) (omega arith) ∙ ap (λ m. m + 1) (digits_between k (n / 2) (omega arith) (omega arith)) ∙ omega arith
 
 -- ---- bits
 
@@ -114,7 +102,7 @@ module _ (at : Estimates) where
     first_left = drop_more steps k d more
 
     part_step : (placed now : Entries) (order next : Order) (cost before after whole : ℕ) → ((i : ℕ) → now i ≡ ((entry_index (get_or steps k d) == i) || placed i)) → cost ≡ step_cost at placed order (get_or steps k d) → after ≡ before + cost
-        → next ≡ order_after at (entry_index (get_or steps k d)) order (get_or steps k d).method → IsPart placed order before (drop k steps) whole → IsPart now next after (drop (k + 1) steps) whole
+        → next ≡ order_after at.conditions (entry_index (get_or steps k d)) order (get_or steps k d).method → IsPart placed order before (drop k steps) whole → IsPart now next after (drop (k + 1) steps) whole
     part_step placed now order next cost before after whole added costs sum follows part =
         let s = get_or steps k d in
         let list = part.0 in
@@ -123,7 +111,7 @@ module _ (at : Estimates) where
           list ++ entry_index s ∷ [],
           (
             λ i. among_more list (entry_index s) i ∙ ap (λ b. (entry_index s == i) || b) (part.1.0 i) ∙ sym (added i),
-            regroup before cost after (step_cost at (is_among list) order s) (cost_after at (list ++ entry_index s ∷ []) (order_after at (entry_index s) order s.method) rest) (cost_after at (list ++ entry_index s ∷ []) next rest) whole sum costs'
+            regroup before cost after (step_cost at (is_among list) order s) (cost_after at (list ++ entry_index s ∷ []) (order_after at.conditions (entry_index s) order s.method) rest) (cost_after at (list ++ entry_index s ∷ []) next rest) whole sum costs'
                 (ap (λ o. cost_after at (list ++ entry_index s ∷ []) o rest) follows)
                 (ap (λ l. before + cost_after at list order l) (sym first_left) ∙ part.1.1),
           ),
@@ -131,12 +119,12 @@ module _ (at : Estimates) where
 
     module _ (entry : ℕ) (is : entry ≡ entry_index (get_or steps k d)) where
       pub part_more : (placed now : Entries) (order next : Order) (x y cost before after whole : ℕ) → ((i : ℕ) → now i ≡ ((entry == i) || placed i)) → x ≡ size at placed → y ≡ entry_size at entry → cost ≡ step_cost_of at x y order (get_or steps k d)
-          → after ≡ before + cost → next ≡ order_after at entry order (get_or steps k d).method → IsPart placed order before (drop k steps) whole → IsPart now next after (drop (k + 1) steps) whole
+          → after ≡ before + cost → next ≡ order_after at.conditions entry order (get_or steps k d).method → IsPart placed order before (drop k steps) whole → IsPart now next after (drop (k + 1) steps) whole
       part_more placed now order next x y cost before after whole added left right costs sum follows =
           let s = get_or steps k d in
           part_step placed now order next cost before after whole (λ i. added i ∙ ap (λ e. (e == i) || placed i) is)
           (costs ∙ ap (λ n. step_cost_of at n y order s) left ∙ ap (λ n. step_cost_of at (size at placed) n order s) (right ∙ ap (entry_size at) is)) sum
-          (follows ∙ ap (λ e. order_after at e order s.method) is)
+          (follows ∙ ap (λ e. order_after at.conditions e order s.method) is)
 
   -- no step is left
   pub part_all : (steps : List CodeStep) (k : ℕ) (placed : Entries) (order : Order) (before last whole : ℕ) → length steps ≤ k → last ≡ last_sorting at order at.wanted → IsPart placed order before (drop k steps) whole → before + last ≡ whole

@@ -21,7 +21,7 @@ one_of_at [] i d h = absurd (omega arith)
 one_of_at (x ∷ xs) zero d h = inl refl
 one_of_at (x ∷ xs) (suc i) d h = inr (one_of_at xs i d (omega arith))
 
-take_all : (xs : List CodeStep) (n : ℕ) → length xs ≤ n → take n xs ≡ xs
+pub take_all : (xs : List CodeStep) (n : ℕ) → length xs ≤ n → take n xs ≡ xs
 take_all [] zero h = refl
 take_all [] (suc n) h = refl
 take_all (x ∷ xs) zero h = absurd (omega arith)

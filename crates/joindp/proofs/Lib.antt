@@ -1,3 +1,4 @@
+pub mod Asked
 pub mod Bests
 pub mod Chosen
 pub mod Costs

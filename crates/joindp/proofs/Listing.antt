@@ -10,8 +10,8 @@ use Rattle.expr.specs.declared.code.Access.TheVariants.{Full, Index, Range}
 use Rattle.expr.specs.Bound.{BoundExpr}
 use Rattle.predicates.specs.Equalities.{column_sides}
 use Rattle.trailcheck.specs.Admissible.{bounds, condition_at, is_allowed_access, is_indexed, is_listed, is_some_and}
-use Rattle.joindp.specs.Best.{Problem, estimates}
-use Rattle.joindp.specs.Cost.{Order, facing, order_of, sides, sides_held}
+use Rattle.joindp.specs.Best.{Problem}
+use Rattle.joindp.specs.Orders.{Order, facing, order_of, sides, sides_held}
 use Rattle.joindp.specs.Search.{AreKept, HasIndexes, HasOrders, HasSides, IsListed}
 
 -- what follows from both, where a call succeeds
@@ -57,7 +57,7 @@ module _ (p : Problem) (orders : List Order) (by_sides : (k : ℕ) (e : BoundExp
   has_held entry k placed own None at same = absurd (cc)
   has_held entry k placed own (Some e) at same = has_sides entry placed own (column_sides e) (by_sides k e at) same
 
-  has_merge : (entry number : ℕ) (placed own : ColumnId) → sides (estimates p) entry number ≡ Some (placed, own) → IsListed orders (Some placed)
+  has_merge : (entry number : ℕ) (placed own : ColumnId) → sides p.setting.conditions entry number ≡ Some (placed, own) → IsListed orders (Some placed)
   has_merge entry zero placed own same = absurd (cc)
   has_merge entry (suc k) placed own same = has_held entry k placed own (slice_get p.setting.conditions k) refl same
 

@@ -12,8 +12,8 @@ use Rattle.stats.specs.Card.{Entries}
 use Rattle.trailcheck.specs.Admissible.{condition_at, is_allowed_access, is_some_and}
 use Rattle.trailcheck.specs.Settings.{Setting}
 use Rattle.trailcheck.specs.Shapes.{entry_index}
-use Rattle.joindp.specs.Best.{Problem, estimates}
-use Rattle.joindp.specs.Cost.{Order, facing, merged_order, numbered, order_after, sides_held}
+use Rattle.joindp.specs.Best.{Problem}
+use Rattle.joindp.specs.Orders.{Order, facing, merged_order, numbered, order_after, sides_held}
 use Rattle.joindp.specs.Following.{equates_with, may_be_next, may_follow, may_join_by, span}
 use Rattle.joindp.specs.Search.{HasOrders, IsListed}
 
@@ -61,7 +61,7 @@ module _ (p : Problem) (orders : List Order) (has : HasOrders p orders) where
       go (Some ids) f k = has.of_merge entry number (facing entry ids).0 (facing entry ids).1 (ap (sides_held entry) e ∙ ap (option_map (facing entry)) f)
 
   -- the order after a join is listed
-  pub listed_after : (placed : Entries) (entry : ℕ) (order : Order) (m : Method) → IsListed orders order → may_join_by p.setting placed entry m ≡ true → IsListed orders (order_after (estimates p) entry order m)
+  pub listed_after : (placed : Entries) (entry : ℕ) (order : Order) (m : Method) → IsListed orders order → may_join_by p.setting placed entry m ≡ true → IsListed orders (order_after p.setting.conditions entry order m)
   listed_after placed entry order Nested listed h = listed
   listed_after placed entry order (Hash k) listed h = listed
   listed_after placed entry order (Merge k) listed h =

@@ -9,7 +9,8 @@ use Rattle.stats.specs.Card.{Entries}
 use Rattle.trailcheck.specs.Admissible.{is_allowed_step, are_allowed_steps}
 use Rattle.trailcheck.specs.Shapes.{entry_index}
 use Rattle.joindp.specs.Best.{Problem, estimates}
-use Rattle.joindp.specs.Cost.{Order, access_cost, cost_after, order_after, order_of, step_cost, steps_cost}
+use Rattle.joindp.specs.Cost.{access_cost, cost_after, step_cost, steps_cost}
+use Rattle.joindp.specs.Orders.{Order, order_after, order_of}
 use Rattle.joindp.specs.Following.{may_follow}
 use Rattle.joindp.specs.Search.{After, Start, entry_count, search, set_of}
 use Rattle.joindp.specs.Walks.{IsPath, path_cost}
@@ -34,7 +35,7 @@ module _ (p : Problem) (few : entry_count p ≤ 12) where
       let rest = and_right (is_allowed_step p.setting placed s) (are_allowed_steps p.setting (placed ++ i ∷ []) ss) allowed in
       let may : may_follow p.setting (set_of set) s ≡ true = sym (follows placed set h s) ∙ step in
       let l = length-append placed (i ∷ []) in
-      (may, path_after (placed ++ i ∷ []) (set + 2 ^ i) (order_after (estimates p) i order s.method) ss (more placed set h s may) rest (omega (arith, l)))
+      (may, path_after (placed ++ i ∷ []) (set + 2 ^ i) (order_after p.setting.conditions i order s.method) ss (more placed set h s may) rest (omega (arith, l)))
 
   pub steps_after : (placed : List ℕ) (set : ℕ) (order : Order) (ss : List CodeStep) → IsPlaced (entry_count p) placed set → IsPath (search p) (After set order) ss
       → (are_allowed_steps p.setting placed ss ≡ true) × (length placed + length ss ≡ entry_count p)
@@ -43,7 +44,7 @@ module _ (p : Problem) (few : entry_count p ≤ 12) where
       (refl, omega (arith, l))
   steps_after placed set order (s ∷ ss) h path =
       let i = entry_index s in
-      let rest = steps_after (placed ++ i ∷ []) (set + 2 ^ i) (order_after (estimates p) i order s.method) ss (more placed set h s path.0) path.1 in
+      let rest = steps_after (placed ++ i ∷ []) (set + 2 ^ i) (order_after p.setting.conditions i order s.method) ss (more placed set h s path.0) path.1 in
       let l = length-append placed (i ∷ []) in
       let long = rest.1 in
       (both (is_allowed_step p.setting placed s) (are_allowed_steps p.setting (placed ++ i ∷ []) ss) (follows placed set h s ∙ path.0) rest.0, omega (arith, l, long))
@@ -53,7 +54,7 @@ module _ (p : Problem) (few : entry_count p ≤ 12) where
   cost_of_path placed set order (s ∷ ss) h path =
       let i = entry_index s in
       ap₂ (λ a b. a + b) (ap (λ (e : Entries). step_cost (estimates p) e order s) (sym (fun_ext h.bits)))
-      (cost_of_path (placed ++ i ∷ []) (set + 2 ^ i) (order_after (estimates p) i order s.method) ss (more placed set h s path.0) path.1)
+      (cost_of_path (placed ++ i ∷ []) (set + 2 ^ i) (order_after p.setting.conditions i order s.method) ss (more placed set h s path.0) path.1)
 
   -- ---- from the first step on
 

@@ -12,7 +12,8 @@ use Rattle.trailcheck.specs.Admissible.{is_allowed_access}
 use Rattle.trailcheck.specs.Shapes.{entry_index}
 use Rattle.joindp.specs.declared.best.Best.{Best}
 use Rattle.joindp.specs.Best.{Problem, estimates}
-use Rattle.joindp.specs.Cost.{Order, access_cost, last_sorting, order_after, order_of, sides, size, step_cost}
+use Rattle.joindp.specs.Cost.{access_cost, last_sorting, size, step_cost}
+use Rattle.joindp.specs.Orders.{Order, order_after, order_of, sides}
 use Rattle.joindp.specs.Following.{accesses, may_be_next, may_follow}
 use Rattle.joindp.specs.Walks.{Walk, Plan, IsBestFrom}
 
@@ -84,7 +85,7 @@ module _ (p : Problem) where
 
   abbrev pub next : State → CodeStep → State
   next Start s = After (2 ^ entry_index s) (order_of (entry_index s) s.access)
-  next (After set order) s = After (set + 2 ^ entry_index s) (order_after (estimates p) (entry_index s) order s.method)
+  next (After set order) s = After (set + 2 ^ entry_index s) (order_after p.setting.conditions (entry_index s) order s.method)
 
   abbrev pub last_cost : State → ℕ
   last_cost Start = last_sorting (estimates p) None p.wanted
@@ -98,7 +99,7 @@ module _ (p : Problem) where
   -- all orders that combinations may come in
   pub record HasOrders (orders : List Order) : Type 0 where
     pub of_access : (entry : ℕ) (access : Access) → is_allowed_access p.setting entry access ≡ true → IsListed orders (order_of entry access)
-    pub of_merge : (entry number : ℕ) (placed own : ColumnId) → sides (estimates p) entry number ≡ Some (placed, own) → IsListed orders (Some placed)
+    pub of_merge : (entry number : ℕ) (placed own : ColumnId) → sides p.setting.conditions entry number ≡ Some (placed, own) → IsListed orders (Some placed)
 
   -- the entries that may be next after each set that some code places
   abbrev pub AreNexts : List ℕ → Type 0

@@ -11,3 +11,14 @@ pub(crate) struct Best<A: Heap> {
     /// The steps.
     pub steps: Items<CodeStep, A>,
 }
+
+/// A step and the rest after it, with what they cost.
+#[derive(Clone, Copy)]
+pub(crate) struct Pick<'t> {
+    /// The cost.
+    pub cost: u128,
+    /// The step.
+    pub first: &'t CodeStep,
+    /// The steps after it.
+    pub rest: &'t [CodeStep],
+}

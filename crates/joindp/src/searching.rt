@@ -1,21 +1,26 @@
 //! The search for the least code.
 
-ghost use Rattle.std.specs.Prelude.{◌≡◌, ◌+◌, ◌-◌, ◌*◌, ◌<◌, ◌≤◌, ◌^◌, [], ◌∷◌, IfOk, Some, false, length, true};
+ghost use Rattle.std.specs.Prelude.{◌≡◌, ◌+◌, ◌-◌, ◌*◌, ◌<◌, ◌≤◌, ◌^◌, [], ◌∷◌, IfOk, Some, false, length, slice_get, true};
 ghost use Rattle.expr.specs.View.{code_of};
 ghost use Rattle.trailcheck.specs.Admissible.{is_admissible};
 ghost use Rattle.joindp.specs.Best.{IsLeast, estimates};
 ghost use Rattle.joindp.specs.Cost as cost_spec;
+ghost use Rattle.joindp.specs.Orders.{Order};
 ghost use Rattle.joindp.specs.Following as following;
 ghost use Rattle.joindp.specs.Following.{may_follow};
 ghost use Rattle.joindp.specs.Search as spec;
-ghost use Rattle.joindp.specs.Search.{After, AreAccesses, AreNexts, AreSizes, HasOrders, IsListed, IsRow, IsSmall, IsTable, Start, entry_count, is_order_of, is_reached, plan_of, set_of};
+ghost use Rattle.joindp.specs.Search.{After, AreAccesses, AreSizes, HasOrders, IsRow, IsSmall, IsTable, Start, entry_count, is_order_of, is_reached, plan_of, set_of};
+ghost use Rattle.joindp.specs.Candidates.{AreCandidates, IsCandidate, picked};
 ghost use Rattle.joindp.specs.View.{problem_of};
 ghost use Rattle.joindp.specs.Walks as walks;
 ghost use Rattle.joindp.specs.Walks.{IsBestFrom, IsNoLater, IsNoWorse, IsPick, numbers};
 
-use crate::best::Best;
-use crate::costing::{access_cost, last_sorting, order_after, order_of, size, step_cost};
+use crate::best::{Best, Pick};
+use crate::candidates::{Candidate, candidates, cost_with, index_after};
+use crate::costing::{access_cost, last_sorting, size};
 use crate::following::{accesses, following};
+use crate::inputs::Inputs;
+use crate::ordering::order_of;
 use crate::orders::{order_index, orders};
 use crate::problem::Problem;
 use crate::reaching::{bit_of, is_order_of, is_reached, nexts};
@@ -46,158 +51,108 @@ fn are_no_later(steps: &[CodeStep], others: &[CodeStep]) -> bool
     }
 }
 
-// True where the numbers of some steps are no later than those of a step and a rest.
-fn are_no_later_than(steps: &[CodeStep], first: CodeStep, rest: &[CodeStep]) -> bool
-    ensures yes { result ≡ true → IsNoLater (numbers steps.now) (numbers (first ∷ rest.now)) }
-    ensures no { result ≡ false → IsNoLater (numbers (first ∷ rest.now)) (numbers steps.now) }
+// True where the one is no worse.
+fn is_no_worse(best: Pick<'_>, other: Pick<'_>) -> bool
+    ensures yes { result ≡ true → IsNoWorse (best.entry.cost, best.entry.first.now ∷ best.entry.rest.now) (other.entry.cost, other.entry.first.now ∷ other.entry.rest.now) }
+    ensures no { result ≡ false → IsNoWorse (other.entry.cost, other.entry.first.now ∷ other.entry.rest.now) (best.entry.cost, best.entry.first.now ∷ best.entry.rest.now) }
 {
-    match steps.split_first() {
-        None => true,
-        Some((step, steps)) => match step.numbers().cmp(&first.numbers()) {
-            Ordering::Less => true,
-            Ordering::Equal => are_no_later(steps, rest),
-            Ordering::Greater => false,
-        },
+    if best.cost != other.cost {
+        return best.cost < other.cost;
+    }
+    match best.first.numbers().cmp(&other.first.numbers()) {
+        Ordering::Less => true,
+        Ordering::Equal => are_no_later(best.rest, other.rest),
+        Ordering::Greater => false,
     }
 }
 
-// True where a plan is no worse than that of a step and a rest, with its cost.
-fn is_no_worse<A: Heap>(best: &Best<A>, cost: u128, first: CodeStep, rest: &[CodeStep]) -> bool
-    ensures yes { result ≡ true → IsNoWorse (best.now.cost, best.now.steps) (cost, first ∷ rest.now) }
-    ensures no { result ≡ false → IsNoWorse (cost, first ∷ rest.now) (best.now.cost, best.now.steps) }
-{
-    if best.cost == cost {
-        are_no_later_than(best.steps.as_slice(), first, rest)
-    } else {
-        best.cost < cost
-    }
-}
-
-// The plan of a step and a rest.
-fn with_first<A: Heap>(
-    alloc: A,
+// Of the best pick so far and that of a step, with its cost, and of the best rest after it, the better one.
+fn better<'t, A: Heap>(
+    best: Option<Pick<'t>>,
     cost: u128,
-    first: CodeStep,
-    rest: &[CodeStep],
-) -> Result<Option<Best<A>>, AllocError>
-    ensures { IfOk result (λ b. plan_of b ≡ Some (cost, first ∷ rest.now)) }
+    first: &'t CodeStep,
+    rest: &'t Option<Best<A>>,
+) -> Option<Pick<'t>>
+    requires cost { cost ≤ 2 ^ 81 }
+    requires rest { IsSmall (2 ^ 12) (plan_of rest.now) }
+    ensures { IsPick (picked best.entry) (walks.with_first cost first.now (plan_of rest.now)) (picked result) }
 {
+    let Some(rest) = rest else {
+        return best;
+    };
+    let pick = Pick {
+        cost: cost + rest.cost,
+        first,
+        rest: rest.steps.as_slice(),
+    };
+    match best {
+        Some(best) => Some(if is_no_worse(best, pick) { best } else { pick }),
+        None => Some(pick),
+    }
+}
+
+// The plan of a pick.
+fn plan<A: Heap>(alloc: A, pick: Option<Pick<'_>>) -> Result<Option<Best<A>>, AllocError>
+    ensures { IfOk result (λ b. plan_of b ≡ picked pick.entry) }
+{
+    let Some(pick) = pick else {
+        return Ok(None);
+    };
     let mut steps = Vec::new(alloc);
-    steps.push(first)?;
-    steps.extend_from_slice(rest)?;
+    steps.push(*pick.first)?;
+    steps.extend_from_slice(pick.rest)?;
     Ok(Some(Best {
-        cost,
+        cost: pick.cost,
         steps: Items::from(steps),
     }))
 }
 
-// Of the best plan so far and that of a step, with its cost, and of the best rest after it, the better one.
-fn better<A: Heap>(
-    alloc: A,
-    best: Option<Best<A>>,
-    cost: u128,
-    first: CodeStep,
-    rest: &Option<Best<A>>,
-) -> Result<Option<Best<A>>, AllocError>
-    requires cost { cost ≤ 2 ^ 81 }
-    requires rest { IsSmall (2 ^ 12) (plan_of rest.now) }
-    ensures { IfOk result (λ r. IsPick (plan_of best) (walks.with_first cost first (plan_of rest.now)) (plan_of r)) }
-{
-    let Some(rest) = rest else {
-        return Ok(best);
-    };
-    let cost = cost + rest.cost;
-    let rest = rest.steps.as_slice();
-    match best {
-        None => with_first(alloc, cost, first, rest),
-        Some(best) => {
-            if is_no_worse(&best, cost, first, rest) {
-                Ok(Some(best))
-            } else {
-                with_first(alloc, cost, first, rest)
-            }
-        }
-    }
-}
-
 // ---- the table
 
-// What the search reads: the estimated number of combinations of each set of entries, by its bits, the orders that they may come
-// in, and the ways in which the rows of each entry may be read.
-#[derive(Drop)]
-struct Inputs<'s, 'p, A: Heap> {
-    problem: &'s Problem<'p, A>,
-    sizes: &'s [u64],
-    orders: &'s [Option<ColumnId>],
-    accesses: &'s [Items<Access, A>],
-    nexts: &'s [u64],
-    ghost sized: { AreSizes (problem_of problem.now) sizes.now },
-    ghost following: { AreNexts (problem_of problem.now) nexts.now },
-    ghost read: { AreAccesses (problem_of problem.now) accesses.now },
-}
-
-// The best plan from a set on, in the table.
+// The best plan from a set on, in the table, for the order of that index.
 fn best_in<'t, A: Heap>(
     inputs: &Inputs<'_, '_, A>,
     table: &'t [Vec<Option<Best<A>>, A>],
     low: usize,
     set: usize,
-    order: Option<ColumnId>,
+    index: usize,
 ) -> &'t Option<Best<A>>
     requires table { IsTable (problem_of inputs.now.problem.now) inputs.now.nexts.now inputs.now.orders.now low table.now }
     requires above { low < set }
     requires within { set < 2 ^ entry_count (problem_of inputs.now.problem.now) }
     requires reached { is_reached (entry_count (problem_of inputs.now.problem.now)) inputs.now.nexts.now set ≡ true }
-    requires fits { is_order_of set order ≡ true }
-    requires order { IsListed inputs.now.orders.now order }
-    ensures best { IsBestFrom (spec.search (problem_of inputs.now.problem.now)) (After set order) (plan_of result.now) }
-    ensures small { IsSmall (2 ^ entry_count (problem_of inputs.now.problem.now) - set) (plan_of result.now) }
+    requires index { index < length inputs.now.orders.now }
+    ensures best { (order : Order) → slice_get inputs.now.orders.now index ≡ Some order → is_order_of set order ≡ true → IsBestFrom (spec.search (problem_of inputs.now.problem.now)) (After set order) (plan_of result.now) }
+    ensures small { (order : Order) → slice_get inputs.now.orders.now index ≡ Some order → is_order_of set order ≡ true → IsSmall (2 ^ entry_count (problem_of inputs.now.problem.now) - set) (plan_of result.now) }
 {
     let count = inputs.sizes.len();
     let row = &table[count - 1 - set];
-    &row[order_index(inputs.orders, order)]
+    &row[index]
 }
 
 // ---- one step
 
-// The cost of a step after a set.
-fn cost_of_step<A: Heap>(
-    inputs: &Inputs<'_, '_, A>,
-    set: usize,
-    order: Option<ColumnId>,
-    step: CodeStep,
-) -> u128
-    requires within { set < 2 ^ entry_count (problem_of inputs.now.problem.now) }
-    requires allowed { may_follow (problem_of inputs.now.problem.now).setting (set_of set) step ≡ true }
-    ensures value { result ≡ spec.cost_of_step (problem_of inputs.now.problem.now) (After set order) step }
-    ensures small { result ≤ 2 ^ 81 }
-{
-    let x = inputs.sizes[set];
-    let y = inputs.sizes[bit_of(entry_index(step))];
-    step_cost(inputs.problem, x, y, order, step)
-}
-
-// The best rest after a step after a set.
+// The best rest after a step after a set, of which the combinations come in the order of that index.
 fn rest_after<'t, A: Heap>(
     inputs: &Inputs<'_, '_, A>,
     table: &'t [Vec<Option<Best<A>>, A>],
     set: usize,
+    index: usize,
     order: Option<ColumnId>,
-    step: CodeStep,
+    candidate: &Candidate,
 ) -> &'t Option<Best<A>>
-    requires orders { HasOrders (problem_of inputs.now.problem.now) inputs.now.orders.now }
     requires table { IsTable (problem_of inputs.now.problem.now) inputs.now.nexts.now inputs.now.orders.now set table.now }
     requires within { set < 2 ^ entry_count (problem_of inputs.now.problem.now) }
-    requires allowed { may_follow (problem_of inputs.now.problem.now).setting (set_of set) step ≡ true }
     requires reached { is_reached (entry_count (problem_of inputs.now.problem.now)) inputs.now.nexts.now set ≡ true }
     requires fits { is_order_of set order ≡ true }
-    requires order { IsListed inputs.now.orders.now order }
-    ensures best { IsBestFrom (spec.search (problem_of inputs.now.problem.now)) (spec.next (problem_of inputs.now.problem.now) (After set order) step) (plan_of result.now) }
+    requires order { slice_get inputs.now.orders.now index ≡ Some order }
+    requires allowed { may_follow (problem_of inputs.now.problem.now).setting (set_of set) candidate.now.step ≡ true }
+    requires candidate { IsCandidate (problem_of inputs.now.problem.now) inputs.now.orders.now set candidate.now }
+    ensures best { IsBestFrom (spec.search (problem_of inputs.now.problem.now)) (spec.next (problem_of inputs.now.problem.now) (After set order) candidate.now.step) (plan_of result.now) }
     ensures small { IsSmall (2 ^ entry_count (problem_of inputs.now.problem.now) - set - 1) (plan_of result.now) }
 {
-    let entry = entry_index(step);
-    let next = order_after(inputs.problem, entry, order, step.method);
-    best_in(inputs, table, set, set + bit_of(entry), next)
+    let next = index_after(index, candidate.merge);
+    best_in(inputs, table, set, set + candidate.bit, next)
 }
 
 // The best rest after the first step.
@@ -213,51 +168,46 @@ fn rest_after_first<'t, A: Heap>(
     ensures small { IsSmall (2 ^ 12) (plan_of result.now) }
 {
     let entry = entry_index(step);
-    best_in(
-        inputs,
-        table,
-        0,
-        bit_of(entry),
-        order_of(entry, step.access),
-    )
+    let index = order_index(inputs.orders, order_of(entry, step.access));
+    best_in(inputs, table, 0, bit_of(entry), index)
 }
 
 // ---- the best of all steps
 
-// The best plan from a set on, of which the steps are those that may follow.
-fn best_after<A: Heap>(
+// The best plan from a set on, where its combinations come in the order of that index, of which the steps are those that may follow.
+fn best_after<'t, A: Heap>(
     alloc: A,
     inputs: &Inputs<'_, '_, A>,
-    table: &[Vec<Option<Best<A>>, A>],
+    table: &'t [Vec<Option<Best<A>>, A>],
     set: usize,
+    index: usize,
     order: Option<ColumnId>,
-    steps: &[CodeStep],
+    candidates: &'t [Candidate],
 ) -> Result<Option<Best<A>>, AllocError>
-    requires orders { HasOrders (problem_of inputs.now.problem.now) inputs.now.orders.now }
     requires table { IsTable (problem_of inputs.now.problem.now) inputs.now.nexts.now inputs.now.orders.now set table.now }
     requires within { set + 1 < 2 ^ entry_count (problem_of inputs.now.problem.now) }
     requires reached { is_reached (entry_count (problem_of inputs.now.problem.now)) inputs.now.nexts.now set ≡ true }
     requires fits { is_order_of set order ≡ true }
-    requires order { IsListed inputs.now.orders.now order }
-    requires steps { steps.now ≡ following.following (problem_of inputs.now.problem.now).setting (set_of set) }
+    requires order { slice_get inputs.now.orders.now index ≡ Some order }
+    requires candidates { AreCandidates (problem_of inputs.now.problem.now) inputs.now.orders.now set candidates.now }
     ensures best { IfOk result (λ b. IsBestFrom (spec.search (problem_of inputs.now.problem.now)) (After set order) (plan_of b)) }
     ensures small { IfOk result (λ b. IsSmall (2 ^ entry_count (problem_of inputs.now.problem.now) - set) (plan_of b)) }
 {
     let mut best = None;
-    for step in steps {
-        let cost = cost_of_step(inputs, set, order, *step);
-        let rest = rest_after(inputs, table, set, order, *step);
-        best = better(alloc, best, cost, *step, rest)?;
+    for candidate in candidates {
+        let cost = cost_with(order, candidate);
+        let rest = rest_after(inputs, table, set, index, order, candidate);
+        best = better(best, cost, &candidate.step, rest);
     }
-    Ok(best)
+    plan(alloc, best)
 }
 
 // The best plan of all, of which the steps are those that may come first.
-fn best_of_all<A: Heap>(
+fn best_of_all<'t, A: Heap>(
     alloc: A,
     inputs: &Inputs<'_, '_, A>,
-    table: &[Vec<Option<Best<A>>, A>],
-    steps: &[CodeStep],
+    table: &'t [Vec<Option<Best<A>>, A>],
+    steps: &'t [CodeStep],
 ) -> Result<Option<Best<A>>, AllocError>
     requires orders { HasOrders (problem_of inputs.now.problem.now) inputs.now.orders.now }
     requires table { IsTable (problem_of inputs.now.problem.now) inputs.now.nexts.now inputs.now.orders.now 0 table.now }
@@ -269,9 +219,9 @@ fn best_of_all<A: Heap>(
     for step in steps {
         let cost = access_cost(inputs.problem, entry_index(*step), step.access);
         let rest = rest_after_first(inputs, table, *step);
-        best = better(alloc, best, cost, *step, rest)?;
+        best = better(best, cost, step, rest);
     }
-    Ok(best)
+    plan(alloc, best)
 }
 
 // The plan where all entries are placed.
@@ -292,15 +242,15 @@ fn best_from<A: Heap>(
     inputs: &Inputs<'_, '_, A>,
     table: &[Vec<Option<Best<A>>, A>],
     set: usize,
+    index: usize,
     order: Option<ColumnId>,
-    steps: &[CodeStep],
+    candidates: &[Candidate],
 ) -> Result<Option<Best<A>>, AllocError>
-    requires orders { HasOrders (problem_of inputs.now.problem.now) inputs.now.orders.now }
     requires table { IsTable (problem_of inputs.now.problem.now) inputs.now.nexts.now inputs.now.orders.now set table.now }
     requires within { set < 2 ^ entry_count (problem_of inputs.now.problem.now) }
     requires reached { is_reached (entry_count (problem_of inputs.now.problem.now)) inputs.now.nexts.now set ≡ true }
-    requires order { IsListed inputs.now.orders.now order }
-    requires steps { steps.now ≡ following.following (problem_of inputs.now.problem.now).setting (set_of set) }
+    requires order { slice_get inputs.now.orders.now index ≡ Some order }
+    requires candidates { AreCandidates (problem_of inputs.now.problem.now) inputs.now.orders.now set candidates.now }
     ensures best { IfOk result (λ b. is_order_of set order ≡ true → IsBestFrom (spec.search (problem_of inputs.now.problem.now)) (After set order) (plan_of b)) }
     ensures small { IfOk result (λ b. is_order_of set order ≡ true → IsSmall (2 ^ entry_count (problem_of inputs.now.problem.now) - set) (plan_of b)) }
 {
@@ -310,7 +260,7 @@ fn best_from<A: Heap>(
     if set + 1 == inputs.sizes.len() {
         return Ok(at_end(alloc, inputs.problem, order));
     }
-    best_after(alloc, inputs, table, set, order, steps)
+    best_after(alloc, inputs, table, set, index, order, candidates)
 }
 
 // The best plans from a set on, for each order that its combinations can come in; none where no code places the set.
@@ -328,11 +278,18 @@ fn row_of<A: Heap>(
     if !is_reached(inputs.nexts, set, inputs.problem.setting.frame.len()) {
         return Ok(Vec::new(alloc));
     }
-    let placed = EntrySet { bits: set as u64 };
-    let steps = following(alloc, inputs.problem, inputs.accesses, placed)?;
+    let candidates = candidates(alloc, inputs, set)?;
     let mut row = Vec::new(alloc);
-    for order in inputs.orders {
-        let best = best_from(alloc, inputs, table, set, *order, steps.as_slice())?;
+    for (index, order) in inputs.orders.iter().enumerate() {
+        let best = best_from(
+            alloc,
+            inputs,
+            table,
+            set,
+            index,
+            *order,
+            candidates.as_slice(),
+        )?;
         row.push(best)?;
     }
     Ok(row)

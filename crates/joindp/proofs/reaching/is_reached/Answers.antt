@@ -1,4 +1,4 @@
-use Rattle.std.proofs.Common.{◌≡◌, ◌∙◌, sym}
+use Rattle.std.proofs.Common.{◌∙◌, sym}
 use Rattle.joindp.specs.Search as spec
 use Rattle.trailcheck.proofs.Numbers.{none_yet}
 use Rattle.joindp.proofs.reaching.is_reached.Goals as goal

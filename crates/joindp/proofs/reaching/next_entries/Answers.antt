@@ -1,4 +1,4 @@
-use Rattle.std.proofs.Common.{◌≡◌, ◌∙◌, ◌+◌, ◌&&◌, ◌||◌, ◌==◌, nat_lt, ap, sym, arith}
+use Rattle.std.proofs.Common.{◌≡◌, ◌∙◌, ◌&&◌, ◌||◌, ◌==◌, nat_lt, ap, arith}
 use Rattle.std.proofs.lemmas.List.{length-map}
 use Rattle.tuples.specs.View.{guard_of}
 use Rattle.stats.specs.View.{members}

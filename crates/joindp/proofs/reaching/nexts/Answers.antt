@@ -1,4 +1,4 @@
-use Rattle.std.proofs.Common.{◌≡◌, ◌∙◌, ◌+◌, ◌^◌, ◌<◌, ◌≤◌, ◌&&◌, ℕ, [], ◌∷◌, true, nat_lt, ap, subst, sym, length, length-append, arith, slice_index_or}
+use Rattle.std.proofs.Common.{◌≡◌, ◌∙◌, ◌^◌, ◌&&◌, ℕ, [], ◌∷◌, true, nat_lt, ap, subst, sym, length-append, arith}
 use Rattle.std.proofs.lemmas.List.{length-map}
 use Rattle.tuples.specs.View.{guard_of}
 use Rattle.joindp.specs.Following.{may_be_next}

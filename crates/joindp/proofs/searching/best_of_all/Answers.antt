@@ -1,10 +1,12 @@
 use Rattle.std.proofs.Common.{◌∙◌, ap, sym, subst, arith, false, slice_index_or}
 use Rattle.std.proofs.lemmas.Bool.{ne_eqb}
+use Rattle.std.proofs.lemmas.Result.{IfOk-weaker}
 use Rattle.joindp.specs.Best.{estimates}
+use Rattle.joindp.specs.Candidates.{picked}
 use Rattle.joindp.specs.Cost.{access_cost}
-use Rattle.joindp.specs.Search.{Start, entry_count, plan_of}
+use Rattle.joindp.specs.Search.{Start, entry_count, plan_of, search}
 use Rattle.joindp.specs.View.{problem_of}
-use Rattle.joindp.specs.Walks.{IsOneOf}
+use Rattle.joindp.specs.Walks.{IsBestFrom, IsOneOf}
 use Rattle.joindp.proofs.Followed.{all_followed}
 use Rattle.joindp.proofs.Improved.{all_improved, each_follows, improved, no_step}
 use Rattle.joindp.proofs.searching.best_of_all.Goals as goal
@@ -17,11 +19,12 @@ pub loop-step-preserved : goal.loop-step-preserved
 loop-step-preserved g c =
     let p = problem_of c.args.inputs.now.problem.now in
     let may = each_follows p.setting (λ entry. false) c.args.steps.now c.loop-step.step-index c.requires.steps c.loop-step-test.true in
-    improved p Start c.args.steps.now c.loop-step.step-index no_step (plan_of c.loop-step.best) (plan_of c.rest_after_first-rest.result.now) (plan_of c.in_ok-best.best) c.access_cost-cost.result c.loop-step-test.true may
-    c.loop-step.invariant (c.access_cost-cost.ensures.value ∙ ap (λ i. access_cost (estimates p) i (slice_index_or c.args.steps.now c.loop-step.step-index no_step).access) c.entry_index.ensures) c.rest_after_first-rest.ensures.best c.in_ok-best.ensures
+    improved p Start c.args.steps.now c.loop-step.step-index no_step (picked c.loop-step.best) (plan_of c.rest_after_first-rest.result.now) (picked c.better-best.result) c.access_cost-cost.result c.loop-step-test.true may
+    c.loop-step.invariant (c.access_cost-cost.ensures.value ∙ ap (λ i. access_cost (estimates p) i (slice_index_or c.args.steps.now c.loop-step.step-index no_step).access) c.entry_index.ensures) c.rest_after_first-rest.ensures.best c.better-best.ensures
 
 pub returns : goal.returns
 returns g c =
     let p = problem_of c.args.inputs.now.problem.now in
-    all_improved p Start c.args.steps.now c.loop-step.step-index (plan_of c.loop-step.best) (omega (arith, c.loop-step-test.false)) (ne_eqb (entry_count p) 0 (λ e. omega (arith, e, c.requires.some)))
-    (λ s may. subst (λ xs. IsOneOf xs s) (sym c.requires.steps) (all_followed p.setting (λ entry. false) s may)) c.loop-step.invariant
+    let best = all_improved p Start c.args.steps.now c.loop-step.step-index (picked c.loop-step.best) (omega (arith, c.loop-step-test.false)) (ne_eqb (entry_count p) 0 (λ e. omega (arith, e, c.requires.some)))
+    (λ s may. subst (λ xs. IsOneOf xs s) (sym c.requires.steps) (all_followed p.setting (λ entry. false) s may)) c.loop-step.invariant in
+    IfOk-weaker c.plan.result _ _ (λ b e. subst (IsBestFrom (search p) Start) (sym e) best) c.plan.ensures

@@ -1,8 +1,9 @@
 use Rattle.std.proofs.Common.{take}
-use Rattle.joindp.specs.Search.{Start, plan_of, search}
+use Rattle.joindp.specs.Candidates.{picked}
+use Rattle.joindp.specs.Search.{Start, search}
 use Rattle.joindp.specs.View.{problem_of}
 use Rattle.joindp.specs.Walks.{IsBestOf}
 use Rattle.joindp.proofs.searching.best_of_all.Given as goal
 
 abbrev pub invariant-loop-step : goal.invariant-loop-step
-invariant-loop-step g l = IsBestOf (search (problem_of l.inputs.problem.now)) (take l.step-index l.steps) Start (plan_of l.best)
+invariant-loop-step g l = IsBestOf (search (problem_of l.inputs.problem.now)) (take l.step-index l.steps) Start (picked l.best)

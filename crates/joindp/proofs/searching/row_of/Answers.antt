@@ -1,21 +1,21 @@
 use Rattle.std.proofs.Common.{◌≡◌, ◌∙◌, ◌-◌, ◌^◌, [], ◌∷◌, None, Some, true, length, length-append, arith, subst, sym}
 use Rattle.std.specs.List.{slice_get}
-use Rattle.joindp.specs.Cost.{Order}
+use Rattle.joindp.specs.Orders.{Order}
 use Rattle.joindp.specs.Search.{After, IsSmall, entry_count, is_order_of, plan_of, search}
 use Rattle.joindp.specs.View.{problem_of}
 use Rattle.joindp.specs.Walks.{IsBestFrom}
 use Rattle.joindp.proofs.Rows.{element_is, index_within, one_more}
 use Rattle.joindp.proofs.searching.row_of.Goals as goal
 
-pub loop-order-preserved : goal.loop-order-preserved
-loop-order-preserved g c =
+pub loop-index-preserved : goal.loop-index-preserved
+loop-index-preserved g c =
     let p = problem_of c.args.inputs.now.problem.now in
     rw c.in_ok-push.ensures.items (record {
-      long = let l = length-append c.loop-order.row.items (c.in_ok-best.best ∷ []) in omega (arith, l, c.loop-order.invariant.long);
+      long = let l = length-append c.loop-index.row.items (c.in_ok-best.best ∷ []) in omega (arith, l, c.loop-index.invariant.long);
       each = one_more (λ i b. (order : Order) → slice_get c.args.inputs.now.orders.now i ≡ Some order → is_order_of c.args.set order ≡ true → IsBestFrom (search p) (After c.args.set order) (plan_of b) × IsSmall (2 ^ entry_count p - c.args.set) (plan_of b))
-          c.loop-order.row.items c.in_ok-best.best c.loop-order.order-index c.loop-order.invariant.long c.loop-order.invariant.each
+          c.loop-index.row.items c.in_ok-best.best c.loop-index.index c.loop-index.invariant.long c.loop-index.invariant.each
           (λ order e fits.
-          let same = element_is c.args.inputs.now.orders.now c.loop-order.order-index None order c.loop-order-test.true e in
+          let same = element_is c.args.inputs.now.orders.now c.loop-index.index None order c.loop-index-test.true e in
           let fits' = subst (λ o. is_order_of c.args.set o ≡ true) same fits in (
             subst (λ o. IsBestFrom (search p) (After c.args.set o) (plan_of c.in_ok-best.best)) (sym same) (c.in_ok-best.ensures.best fits'),
             c.in_ok-best.ensures.small fits',
@@ -24,5 +24,5 @@ loop-order-preserved g c =
 
 pub returns : goal.returns
 returns g c =
-    let n : c.loop-order.order-index ≡ length c.args.inputs.now.orders.now = omega (arith, c.loop-order-test.false) in
-    λ reached. (c.loop-order.invariant.long ∙ n, λ i order d e. c.loop-order.invariant.each i d (let w = index_within c.args.inputs.now.orders.now i order e in omega (arith, w, n)) order e)
+    let n : c.loop-index.index ≡ length c.args.inputs.now.orders.now = omega (arith, c.loop-index-test.false) in
+    λ reached. (c.loop-index.invariant.long ∙ n, λ i order d e. c.loop-index.invariant.each i d (let w = index_within c.args.inputs.now.orders.now i order e in omega (arith, w, n)) order e)

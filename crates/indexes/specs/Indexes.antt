@@ -1,0 +1,10 @@
+-- Indexes on the columns of a table.
+use Rattle.std.specs.Prelude.{ℕ, List, IsPermutation, IsSorted, length}
+use Rattle.std.specs.List.{range_with_len}
+use Rattle.std.specs.Ordering.{on}
+use Rattle.value.specs.Datum.{Row, cell, row_at}
+use Rattle.value.specs.Orders.{datum_cmp}
+
+-- the numbers of all rows, ascending by their cells in a column, nulls last
+abbrev pub IsIndex : List Row → (column : ℕ) → (numbers : List ℕ) → Type 0
+IsIndex rows column numbers = IsPermutation (range_with_len 0 (length rows)) numbers × IsSorted (on (λ n. cell (row_at rows n) column) datum_cmp) numbers

@@ -1,0 +1,46 @@
+//! The index on a column.
+
+ghost use Rattle.std.specs.Prelude.{◌≡◌, ◌<◌, IfOk, length};
+ghost use Rattle.value.specs.Datum.{cell, datum_of, row_at};
+ghost use Rattle.value.specs.Orders.{datum_cmp};
+ghost use Rattle.indexes.specs.Indexes.{IsIndex};
+
+use memory::{Heap, Items};
+use std::alloc::AllocError;
+use std::cmp::Ordering;
+use tables::Table;
+use value::{Val, cmp_values};
+
+// The cell in a column of the row of that number; null beyond the rows and columns of the table.
+fn cell_of<A: Heap>(table: &Table<A>, number: u64, column: usize) -> Val<'_, A>
+    ensures { datum_of result ≡ cell (row_at table.now.rows number) column }
+{
+    if number < table.rows() && column < table.columns().len() {
+        table.cell(number, column as u64)
+    } else {
+        Val::Null
+    }
+}
+
+// The order of the cells of two rows, nulls last.
+fn compare<A: Heap>(table: &Table<A>, column: usize, one: u64, other: u64) -> Ordering
+    ensures { result ≡ datum_cmp (cell (row_at table.now.rows one) column) (cell (row_at table.now.rows other) column) }
+{
+    cmp_values(&cell_of(table, one, column), &cell_of(table, other, column))
+}
+
+/// The numbers of all rows of a table, ascending by their cells in a column, nulls last. It fails where memory runs out.
+pub fn index_of<A: Heap>(
+    alloc: A,
+    table: &Table<A>,
+    column: usize,
+) -> Result<Items<u64, A>, AllocError>
+    ensures { IfOk result (λ numbers. IsIndex table.now.rows column numbers) }
+{
+    let mut numbers = Vec::new(alloc);
+    for number in 0..table.rows() {
+        numbers.push(number)?;
+    }
+    numbers.sort_unstable_by(|one, other| compare(table, column, *one, *other));
+    Ok(Items::from(numbers))
+}

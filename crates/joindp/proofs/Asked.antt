@@ -1,0 +1,150 @@
+-- What is the same of a step whatever order the combinations before it come in.
+use Rattle.std.proofs.Common.{◌≡◌, ◌∙◌, refl, sym, ap, subst, ℕ, ◌+◌, ◌^◌, ◌<◌, ◌≤◌, Bool, true, false, List, length, map, take, option_map, Option, Some, None, slice_index_or, arith, true≢false}
+use Rattle.std.specs.Prelude.{slice_get, if◌then◌else◌}
+use Rattle.std.proofs.lemmas.Bool.{eq-eqb}
+use Rattle.std.proofs.lemmas.List.{get_or-map, length-map}
+use Rattle.expr.specs.declared.bound.ColumnId.{ColumnId}
+use Rattle.expr.specs.declared.code.Method.{Method}
+use Rattle.expr.specs.declared.code.Method.TheVariants.{Nested, Hash, Merge}
+use Rattle.expr.specs.declared.code.CodeStep.{CodeStep}
+use Rattle.expr.specs.Bound.{BoundExpr, is_column}
+use Rattle.predicates.proofs.Keeping.{both}
+use Rattle.predicates.specs.Equalities.{column_sides}
+use Rattle.sorting.specs.Steps.{sort_steps}
+use Rattle.stats.specs.Card.{Entries}
+use Rattle.trailcheck.specs.Admissible.{is_some_and}
+use Rattle.trailcheck.specs.Shapes.{entry_index}
+use Rattle.joindp.specs.declared.candidates.Candidate.{Candidate}
+use Rattle.joindp.specs.declared.candidates.MergeOrder.{MergeOrder}
+use Rattle.joindp.specs.Best.{Problem, estimates}
+use Rattle.joindp.specs.Candidates.{AreCandidates, Asks, IsCandidate, asked, sorting_for}
+use Rattle.joindp.specs.Cost.{Estimates, access_cost, join_cost, step_cost_of}
+use Rattle.joindp.specs.Orders.{Order, facing, is_ordered_by, merge_sorting, merged_order, numbered, order_after, order_of, sides, sides_held, sorting_unless}
+use Rattle.joindp.specs.Following.{equates_with, may_follow, may_join_by, span}
+use Rattle.joindp.specs.Search.{After, AreSizes, cost_of_step, entry_count, next, search, set_of}
+use Rattle.joindp.specs.Walks.{IsBestFrom, IsBestOf, IsPick, Plan, with_first}
+use Rattle.joindp.proofs.Improved.{each_follows, improved, no_step}
+use Rattle.joindp.proofs.NewSteps.{same_number}
+use Rattle.joindp.proofs.Sized.{cost_is}
+
+-- ---- a join that is no merge
+
+-- neither the order after it nor its cost is that of a merge
+pub record KeepsOrder (at : Estimates) (s : CodeStep) : Type 0 where
+  pub order : (order : Order) → order_after at.conditions (entry_index s) order s.method ≡ order
+  pub cost : (x y : ℕ) (order other : Order) → step_cost_of at x y order s ≡ step_cost_of at x y other s
+
+pub no_merge : (at : Estimates) (s : CodeStep) → ((k : ℕ) → s.method ≡ Merge k → ⊥) → KeepsOrder at s
+no_merge at s never = go s.method refl
+  where
+    go : (m : Method) → s.method ≡ m → KeepsOrder at s
+    go Nested e = record {
+      order = λ order. ap (order_after at.conditions (entry_index s) order) e;
+      cost = λ x y order other. ap (λ m. join_cost at x y order s m + access_cost at (entry_index s) s.access) e ∙ sym (ap (λ m. join_cost at x y other s m + access_cost at (entry_index s) s.access) e);
+    }
+    go (Hash k) e = record {
+      order = λ order. ap (order_after at.conditions (entry_index s) order) e;
+      cost = λ x y order other. ap (λ m. join_cost at x y order s m + access_cost at (entry_index s) s.access) e ∙ sym (ap (λ m. join_cost at x y other s m + access_cost at (entry_index s) s.access) e);
+    }
+    go (Merge k) e = absurd (never k e)
+
+-- ---- a merge
+
+-- what a merge asks for is there
+pub has_sides : (p : Problem) (placed : Entries) (entry k : ℕ) → may_join_by p.setting placed entry (Merge k) ≡ true → sides p.setting.conditions entry k ≡ None → ⊥
+has_sides p placed entry k h = of (numbered p.setting.conditions k) (sym (ap (is_some_and (equates_with placed entry)) (same_number p.setting k)) ∙ h)
+  where
+    go : (q : Option (ColumnId × ColumnId)) → span placed entry q ≡ true → option_map (facing entry) q ≡ None → ⊥
+    go None spans e = true≢false (sym spans)
+    go (Some ids) spans e = cc
+
+    of : (o : Option BoundExpr) → is_some_and (equates_with placed entry) o ≡ true → sides_held entry o ≡ None → ⊥
+    of None joins e = true≢false (sym joins)
+    of (Some c) joins e = go (column_sides c) joins e
+
+is_own_column : (id : ColumnId) → is_column id id ≡ true
+is_own_column id = both _ _ (eq-eqb id.entry id.entry refl) (eq-eqb id.column id.column refl)
+
+module _ (at : Estimates) (s : CodeStep) (k : ℕ) (column own : ColumnId) (is : s.method ≡ Merge k) (there : sides at.conditions (entry_index s) k ≡ Some (column, own)) where
+  merge_order_after : (order : Order) → order_after at.conditions (entry_index s) order s.method ≡ Some column
+  merge_order_after order = ap (order_after at.conditions (entry_index s) order) is ∙ ap merged_order there
+
+  -- its cost is that in the order it asks for, and that of sorting
+  merge_cost : (x y : ℕ) (order : Order) (sort : ℕ) → sort ≡ sort_steps x → step_cost_of at x y (Some column) s + (if is_ordered_by order column then 0 else sort) ≡ step_cost_of at x y order s
+  merge_cost x y order sort e =
+      let right = sorting_unless (is_ordered_by (order_of (entry_index s) s.access) own) y in
+      let read = access_cost at (entry_index s) s.access in
+      let whole : (o : Order) → step_cost_of at x y o s ≡ x + y + (right + sorting_unless (is_ordered_by o column) x) + read =
+      λ o. ap (λ m. join_cost at x y o s m + read) is ∙ ap (λ q. x + y + merge_sorting o (order_of (entry_index s) s.access) x y q + read) there in
+      let none : sorting_unless (is_ordered_by (Some column) column) x ≡ 0 = ap (λ b. sorting_unless b x) (is_own_column column) in
+      let more : (if is_ordered_by order column then 0 else sort) ≡ sorting_unless (is_ordered_by order column) x = ap (λ n. if is_ordered_by order column then 0 else n) e in
+      let a = whole (Some column) in
+      let b = whole order in
+      omega (arith, a, b, none, more)
+
+sorting_few : (order : Order) (m : MergeOrder) → m.sorting ≤ 2 ^ 46 → sorting_for order (Some m) ≤ 2 ^ 46
+sorting_few order m h = go (is_ordered_by order m.column)
+  where
+    go : (b : Bool) → (if b then 0 else m.sorting) ≤ 2 ^ 46
+    go true = omega arith
+    go false = h
+
+-- ---- both
+
+pub asks_none : (at : Estimates) (orders : List Order) (x : ℕ) (s : CodeStep) → ((k : ℕ) → s.method ≡ Merge k → ⊥) → Asks at orders x s None
+asks_none at orders x s never =
+    let keeps = no_merge at s never in
+    record {
+      order = λ i order e. e ∙ ap Some (sym (keeps.order order));
+      cost = λ y order. let e = keeps.cost x y None order in omega (arith, e);
+      small = λ order. omega arith;
+    }
+
+pub asks_merge : (at : Estimates) (orders : List Order) (x : ℕ) (s : CodeStep) (k : ℕ) (m : MergeOrder) (own : ColumnId) → s.method ≡ Merge k → sides at.conditions (entry_index s) k ≡ Some (m.column, own) → slice_get orders m.index ≡ Some (Some m.column) → m.sorting ≡ sort_steps x → m.sorting ≤ 2 ^ 46
+    → Asks at orders x s (Some m)
+asks_merge at orders x s k m own is there listed sort few = record {
+  order = λ i order e. listed ∙ ap Some (sym (merge_order_after at s k m.column own is there order));
+  cost = λ y order. merge_cost at s k m.column own is there x y order m.sorting sort;
+  small = λ order. sorting_few order m few;
+}
+
+module _ (p : Problem) (few : entry_count p ≤ 12) (orders : List Order) (sizes : List ℕ) (sized : AreSizes p sizes) (set : ℕ) (within : set < 2 ^ entry_count p) where
+  pub is_candidate : (c : Candidate) → may_follow p.setting (set_of set) c.step ≡ true → c.bit ≡ 2 ^ entry_index c.step → Asks (estimates p) orders (slice_index_or sizes set 0) c.step c.merge
+      → c.cost ≡ step_cost_of (estimates p) (slice_index_or sizes set 0) (slice_index_or sizes c.bit 0) (asked c.merge) c.step → c.cost ≤ 2 ^ 80 + 2 ^ 66 → IsCandidate p orders set c
+  is_candidate c may bit asks cost low = record {
+    bit = bit;
+    cost = λ order. ap (λ n. n + sorting_for order c.merge) cost ∙ asks.cost (slice_index_or sizes c.bit 0) order ∙ cost_is p few sizes sized set c.bit order c.step within may bit;
+    small = λ order. let e = asks.small order in omega (arith, e, low);
+    order = asks.order;
+  }
+
+-- what a list of them is read with
+abbrev pub no_candidate : Candidate
+no_candidate = record { step = no_step; bit = 0; cost = 0; merge = None }
+
+abbrev pub own_step : Candidate → CodeStep
+own_step c = c.step
+
+-- ---- one of them
+
+module _ (p : Problem) (orders : List Order) (set : ℕ) (cs : List Candidate) (are : AreCandidates p orders set cs) (k : ℕ) (d : Candidate) (within : k < length cs) where
+  step_at : slice_index_or (map own_step cs) k no_step ≡ (slice_index_or cs k d).step
+  step_at = get_or-map own_step cs k d no_step within
+
+  as_many : length (map own_step cs) ≡ length cs
+  as_many = length-map cs own_step
+
+  pub may_come : may_follow p.setting (set_of set) (slice_index_or cs k d).step ≡ true
+  may_come = subst (λ s. may_follow p.setting (set_of set) s ≡ true) step_at (each_follows p.setting (set_of set) (map own_step cs) k are.0 (omega (arith, as_many, within)))
+
+  pub candidate_at : IsCandidate p orders set (slice_index_or cs k d)
+  candidate_at = are.1 k d within
+
+  -- the better of the best so far and one more
+  pub improved_by : (order : Order) (best rest new : Option Plan) (cost : ℕ) → IsBestOf (search p) (take k (map own_step cs)) (After set order) best → cost ≡ (slice_index_or cs k d).cost + sorting_for order (slice_index_or cs k d).merge
+      → IsBestFrom (search p) (next p (After set order) (slice_index_or cs k d).step) rest → IsPick best (with_first cost (slice_index_or cs k d).step rest) new → IsBestOf (search p) (take (k + 1) (map own_step cs)) (After set order) new
+  improved_by order best rest new cost h e after pick =
+      let at = step_at in
+      let many = as_many in
+      improved p (After set order) (map own_step cs) k no_step best rest new cost (omega (arith, many, within)) (subst (λ s. may_follow p.setting (set_of set) s ≡ true) (sym at) may_come) h
+      (e ∙ candidate_at.cost order ∙ ap (cost_of_step p (After set order)) (sym at)) (subst (λ s. IsBestFrom (search p) (next p (After set order) s) rest) (sym at) after) (subst (λ s. IsPick best (with_first cost s rest) new) (sym at) pick)

@@ -1,0 +1,22 @@
+//! What the search reads.
+
+ghost use Rattle.joindp.specs.Search.{AreAccesses, AreNexts, AreSizes};
+ghost use Rattle.joindp.specs.View.{problem_of};
+
+use crate::problem::Problem;
+use expr::{Access, ColumnId};
+use memory::{Heap, Items};
+
+/// What the search reads: the estimated number of combinations of each set of entries, by its bits, the orders that they may come
+/// in, the ways in which the rows of each entry may be read, and the entries that may be next after each set.
+#[derive(Drop)]
+pub(crate) struct Inputs<'s, 'p, A: Heap> {
+    pub problem: &'s Problem<'p, A>,
+    pub sizes: &'s [u64],
+    pub orders: &'s [Option<ColumnId>],
+    pub accesses: &'s [Items<Access, A>],
+    pub nexts: &'s [u64],
+    ghost sized: { AreSizes (problem_of problem.now) sizes.now },
+    ghost following: { AreNexts (problem_of problem.now) nexts.now },
+    ghost read: { AreAccesses (problem_of problem.now) accesses.now },
+}

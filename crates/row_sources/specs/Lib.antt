@@ -1,0 +1,4 @@
+pub mod Ascending
+pub mod Sources
+pub mod Values
+pub mod Wanted
