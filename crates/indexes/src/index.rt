@@ -1,9 +1,9 @@
-//! The index on a column.
+//! The indexes of a table.
 
 ghost use Rattle.std.specs.Prelude.{◌≡◌, ◌<◌, IfOk, length};
 ghost use Rattle.value.specs.Datum.{cell, datum_of, row_at};
 ghost use Rattle.value.specs.Orders.{datum_cmp};
-ghost use Rattle.indexes.specs.Indexes.{IsIndex};
+ghost use Rattle.indexes.specs.Indexes.{AreIndexes, IsIndex};
 
 use memory::{Heap, Items};
 use std::alloc::AllocError;
@@ -43,4 +43,32 @@ pub fn index_of<A: Heap>(
     }
     numbers.sort_unstable_by(|one, other| compare(table, column, *one, *other));
     Ok(Items::from(numbers))
+}
+
+/// The rows of an index.
+#[derive(Drop)]
+pub struct IndexRows<A: Heap> {
+    /// The number of its column, from 1.
+    pub column: u64,
+    /// The numbers of the rows.
+    pub numbers: Items<u64, A>,
+}
+
+/// The indexes of a table on columns of these numbers, which count from 1. It fails where memory runs out.
+pub fn indexes_of<A: Heap>(
+    alloc: A,
+    table: &Table<A>,
+    columns: &[u64],
+) -> Result<Items<IndexRows<A>, A>, AllocError>
+    ensures { IfOk result (λ indexes. AreIndexes table.now.rows columns.now indexes) }
+{
+    let mut indexes = Items::new(alloc);
+    for column in columns {
+        let numbers = index_of(alloc, table, column.saturating_sub(1) as usize)?;
+        indexes.push(IndexRows {
+            column: *column,
+            numbers,
+        })?;
+    }
+    Ok(indexes)
 }

@@ -3,4 +3,4 @@
 
 mod index;
 
-pub use index::index_of;
+pub use index::{IndexRows, index_of, indexes_of};

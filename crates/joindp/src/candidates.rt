@@ -145,9 +145,9 @@ pub(crate) fn candidates<A: Heap>(
 {
     let placed = EntrySet { bits: set as u64 };
     let steps = following(alloc, inputs.problem, inputs.accesses, placed)?;
-    let mut candidates = Items::new(alloc);
+    let mut candidates = Vec::with_capacity(alloc, steps.len())?;
     for step in steps.as_slice() {
         candidates.push(candidate_of(inputs, set, *step))?;
     }
-    Ok(candidates)
+    Ok(Items::from(candidates))
 }

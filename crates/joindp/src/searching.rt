@@ -98,7 +98,8 @@ fn plan<A: Heap>(alloc: A, pick: Option<Pick<'_>>) -> Result<Option<Best<A>>, Al
     let Some(pick) = pick else {
         return Ok(None);
     };
-    let mut steps = Vec::new(alloc);
+    let count = pick.rest.len().saturating_add(1);
+    let mut steps = Vec::with_capacity(alloc, count)?;
     steps.push(*pick.first)?;
     steps.extend_from_slice(pick.rest)?;
     Ok(Some(Best {
@@ -279,7 +280,7 @@ fn row_of<A: Heap>(
         return Ok(Vec::new(alloc));
     }
     let candidates = candidates(alloc, inputs, set)?;
-    let mut row = Vec::new(alloc);
+    let mut row = Vec::with_capacity(alloc, inputs.orders.len())?;
     for (index, order) in inputs.orders.iter().enumerate() {
         let best = best_from(
             alloc,
@@ -330,7 +331,7 @@ fn best_plan<A: Heap>(alloc: A, inputs: &Inputs<'_, '_, A>) -> Result<Option<Bes
     ensures { IfOk result (λ b. IsBestFrom (spec.search (problem_of inputs.now.problem.now)) Start (plan_of b)) }
 {
     let count = inputs.sizes.len();
-    let mut table = Vec::new(alloc);
+    let mut table = Vec::with_capacity(alloc, count)?;
     for set in (1..count).rev() {
         let row = row_of(alloc, inputs, &table, set)?;
         table.push(row)?;

@@ -19,11 +19,11 @@ loop-step-preserved g c =
     let items = c.as_slice-step-items.result.now in
     let i = c.loop-step.step-index in
     let new = c.candidate_of.result in
-    rw c.in_ok-push.ensures.ok (record {
-      long = let l = length-append c.loop-step.candidates (new ∷ []) in omega (arith, l, c.loop-step.invariant.long);
+    rw c.in_ok-push.ensures.items (record {
+      long = let l = length-append c.loop-step.candidates.items (new ∷ []) in omega (arith, l, c.loop-step.invariant.long);
       steps =
-          map-append own_step c.loop-step.candidates (new ∷ [])
+          map-append own_step c.loop-step.candidates.items (new ∷ [])
           ∙ ap₂ (λ l s. l ++ s ∷ []) c.loop-step.invariant.steps c.candidate_of.ensures.step
           ∙ sym (ap (λ n. take n items) (add-one i) ∙ take-suc items i no_step c.loop-step-test.true);
-      each = one_more (λ k x. IsCandidate (problem_of c.args.inputs.now.problem.now) c.args.inputs.now.orders.now c.args.set x) c.loop-step.candidates new i c.loop-step.invariant.long c.loop-step.invariant.each c.candidate_of.ensures.candidate;
+      each = one_more (λ k x. IsCandidate (problem_of c.args.inputs.now.problem.now) c.args.inputs.now.orders.now c.args.set x) c.loop-step.candidates.items new i c.loop-step.invariant.long c.loop-step.invariant.each c.candidate_of.ensures.candidate;
     })
