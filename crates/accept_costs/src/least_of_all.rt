@@ -1,18 +1,63 @@
 //! The search and an enumeration of all codes find the same, over small problems that are drawn from a seed.
 
-use crate::all_codes::{Costed, least_of_all};
+ghost use Rattle.std.specs.Prelude.{◌≡◌};
+ghost use Rattle.trailcheck.specs.View.{setting_of};
+ghost use Rattle.joindp.specs.View.{problem_of};
+
 use crate::planned::lent;
-use crate::random::Random;
-use crate::random_problems::{Drawn, draw};
+use expr::{Code, cmp_codes};
+use fixture_plans::{Drawn, Random, all_codes, draw};
 use fixture_stores::show_code;
-use joindp::{MAX_ENTRIES, Problem, search};
+use joindp::{MAX_ENTRIES, Problem, cost, search};
+use memory::Items;
 use std::alloc::{AllocError, AllocGlobal, Global};
+use std::cmp::Ordering;
 use std::process::Abort;
 use std::test::Fail;
+use trailcheck::{Setting, is_admissible};
 
 const SEED: u64 = 1979;
 
 const PROBLEMS: u64 = 200;
+
+// A code and its cost.
+#[derive(Drop)]
+struct Costed {
+    code: Code<Global>,
+    cost: u128,
+}
+
+// The one that comes first by cost and then by code.
+fn lesser(best: Option<Costed>, other: Costed) -> Costed {
+    let Some(best) = best else {
+        return other;
+    };
+    let order = best.cost.cmp(&other.cost);
+    if order.then(cmp_codes(&best.code, &other.code)) == Ordering::Greater {
+        other
+    } else {
+        best
+    }
+}
+
+// The least of the codes that a plan may have, if there is one.
+fn least_of_all(
+    alloc: Global,
+    setting: &Setting<Global>,
+    problem: &Problem<'_, Global>,
+    codes: Items<Code<Global>, Global>,
+) -> Result<Option<Costed>, AllocError>
+    requires { (problem_of problem.now).setting ≡ setting_of setting.now }
+{
+    let mut best = None;
+    for code in codes.into_vec() {
+        if is_admissible(alloc, setting, &code)? {
+            let cost = cost(problem, &code);
+            best = Some(lesser(best, Costed { code, cost }));
+        }
+    }
+    Ok(best)
+}
 
 // A cost and its code, as a text.
 fn text_of(alloc: Global, found: &Costed) -> Result<String, AllocError> {
@@ -40,7 +85,8 @@ fn is_least(
     let problem = Problem::new(rt.alloc(), setting, &statistics, *wanted)?;
     let (code, cost) = search(rt.alloc(), &problem)?;
     let got = text_of(rt.alloc(), &Costed { code, cost })?;
-    let Some(least) = least_of_all(rt.alloc(), setting, &problem)? else {
+    let codes = all_codes(rt.alloc(), setting)?;
+    let Some(least) = least_of_all(rt.alloc(), setting, &problem, codes)? else {
         panic!(rt; "problem {number}: no code");
     };
     let want = text_of(rt.alloc(), &least)?;

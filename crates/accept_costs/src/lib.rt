@@ -3,8 +3,6 @@
 #![tactic(auto)]
 
 #[cfg(test)]
-mod all_codes;
-#[cfg(test)]
 mod code_costs;
 #[cfg(test)]
 mod counted;
@@ -18,10 +16,6 @@ mod least_of_all;
 mod planned;
 #[cfg(test)]
 mod queries;
-#[cfg(test)]
-mod random;
-#[cfg(test)]
-mod random_problems;
 #[cfg(test)]
 mod rows;
 #[cfg(test)]

@@ -1,24 +1,9 @@
-//! All codes that a plan may have, one after another, and the least of them.
+//! All codes that a plan may have, one after another.
 
-ghost use Rattle.std.specs.Prelude.{◌≡◌};
-ghost use Rattle.trailcheck.specs.View.{setting_of};
-ghost use Rattle.joindp.specs.View.{problem_of};
-
-use expr::{Access, Code, CodeStep, Method, cmp_codes};
-use joindp::{Problem, cost};
+use expr::{Access, Code, CodeStep, Method};
 use memory::Items;
 use std::alloc::{AllocError, Global};
-use std::cmp::Ordering;
 use trailcheck::{Setting, is_admissible};
-
-/// A code and its cost.
-#[derive(Drop)]
-pub struct Costed {
-    /// The code.
-    pub code: Code<Global>,
-    /// The cost.
-    pub cost: u128,
-}
 
 // ---- parts of steps
 
@@ -190,54 +175,33 @@ fn code_at(
     Ok(Code::Steps(all))
 }
 
-// ---- the least
+// ---- all of them
 
-// The one that comes first by cost and then by code.
-fn lesser(best: Option<Costed>, other: Costed) -> Costed {
-    let Some(best) = best else {
-        return other;
-    };
-    let order = best.cost.cmp(&other.cost);
-    if order.then(cmp_codes(&best.code, &other.code)) == Ordering::Greater {
-        other
-    } else {
-        best
-    }
-}
-
-// The best so far, or the code, where a plan may have it and it is less.
-fn with_code(
+// Adds the code, where a plan may have it.
+fn push_code(
+    all: &mut Items<Code<Global>, Global>,
     alloc: Global,
     setting: &Setting<Global>,
-    problem: &Problem<'_, Global>,
-    best: Option<Costed>,
     code: Code<Global>,
-) -> Result<Option<Costed>, AllocError>
-    requires { (problem_of problem.now).setting ≡ setting_of setting.now }
-{
-    if !is_admissible(alloc, setting, &code)? {
-        return Ok(best);
+) -> Result<(), AllocError> {
+    if is_admissible(alloc, setting, &code)? {
+        all.push(code)
+    } else {
+        Ok(())
     }
-    let cost = cost(problem, &code);
-    Ok(Some(lesser(best, Costed { code, cost })))
 }
 
-// The same of all codes that choices make.
-fn with_choices(
+// Adds those codes that choices make.
+fn push_choices(
+    all: &mut Items<Code<Global>, Global>,
     alloc: Global,
     setting: &Setting<Global>,
-    problem: &Problem<'_, Global>,
-    known: Option<Costed>,
     choices: &[Items<CodeStep, Global>],
-) -> Result<Option<Costed>, AllocError>
-    requires { (problem_of problem.now).setting ≡ setting_of setting.now }
-{
-    let mut best = known;
+) -> Result<(), AllocError> {
     for number in 0..count(choices) {
-        let code = code_at(alloc, choices, number)?;
-        best = with_code(alloc, setting, problem, best, code)?;
+        push_code(all, alloc, setting, code_at(alloc, choices, number)?)?;
     }
-    Ok(best)
+    Ok(())
 }
 
 // Full scans and nested joins of the entries that are the digits of a number.
@@ -268,38 +232,32 @@ fn code_of_steps(alloc: Global, steps: &[CodeStep]) -> Result<Code<Global>, Allo
     Ok(Code::Steps(all))
 }
 
-// The best so far, or the least of the codes that read the entries in the order of the plain steps.
-fn with_order(
+// Adds those codes that read the entries in the order of the plain steps.
+fn push_order(
+    all: &mut Items<Code<Global>, Global>,
     alloc: Global,
     setting: &Setting<Global>,
-    problem: &Problem<'_, Global>,
-    best: Option<Costed>,
     plain: &[CodeStep],
-) -> Result<Option<Costed>, AllocError>
-    requires { (problem_of problem.now).setting ≡ setting_of setting.now }
-{
+) -> Result<(), AllocError> {
     if !is_admissible(alloc, setting, &code_of_steps(alloc, plain)?)? {
-        return Ok(best);
+        return Ok(());
     }
     let choices = choices(alloc, setting, plain)?;
-    with_choices(alloc, setting, problem, best, choices.as_slice())
+    push_choices(all, alloc, setting, choices.as_slice())
 }
 
-/// The least of all codes that a plan may have, if there is one: of those that read at most four entries of two columns each,
-/// and the code of no rows.
-pub fn least_of_all(
+/// All codes that a plan may have: those that read at most four entries of two columns each, and the code of no rows.
+pub fn all_codes(
     alloc: Global,
     setting: &Setting<Global>,
-    problem: &Problem<'_, Global>,
-) -> Result<Option<Costed>, AllocError>
-    requires { (problem_of problem.now).setting ≡ setting_of setting.now }
-{
+) -> Result<Items<Code<Global>, Global>, AllocError> {
+    let mut all = Items::new(alloc);
+    push_code(&mut all, alloc, setting, Code::Empty)?;
     let entries = setting.frame.len() as u64;
     let orders = entries.saturating_pow(entries.min(4) as u32);
-    let mut best = with_code(alloc, setting, problem, None, Code::Empty)?;
     for number in 0..orders {
         let plain = plain_steps(alloc, entries, number)?;
-        best = with_order(alloc, setting, problem, best, plain.as_slice())?;
+        push_order(&mut all, alloc, setting, plain.as_slice())?;
     }
-    Ok(best)
+    Ok(all)
 }

@@ -1,0 +1,39 @@
+//! A column of one value, and a condition that is never true.
+
+use joins::{Column, Condition, Key};
+use memory::Heap;
+use tuples::Combo;
+use value::Val;
+
+/// A column that is TRUE in each combination.
+#[derive(Drop)]
+pub struct AlwaysTrue {}
+
+impl<A: Heap> Column<A> for AlwaysTrue {
+    ghost use Rattle.std.specs.Prelude.{true};
+    ghost use Rattle.value.specs.Datum.{bool};
+
+    ghost value = { λ s c. bool true };
+
+    fn value(&self, _combination: &Combo<A>) -> Val<'_, A> {
+        Val::Bool(true)
+    }
+
+    fn key(&self, _combination: &Combo<A>) -> Option<Key<'_>> {
+        Some(Key::Bool(true))
+    }
+}
+
+/// A condition that is true on no combination.
+#[derive(Drop)]
+pub struct Never {}
+
+impl<A: Heap> Condition<A> for Never {
+    ghost use Rattle.std.specs.Prelude.{false};
+
+    ghost passes = { λ s c. false };
+
+    fn passes(&self, _combination: &Combo<A>) -> bool {
+        false
+    }
+}
