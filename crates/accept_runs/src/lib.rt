@@ -1,9 +1,16 @@
-//! Tests of the run of codes: the steps that joins count. docs/ACCEPTANCE.md lists them.
+//! Tests of the run of codes: their combinations, the order of these, and the steps that are counted. docs/ACCEPTANCE.md lists
+//! them.
 #![tactic(auto)]
 
+#[cfg(test)]
+mod cases;
+#[cfg(test)]
+mod runs;
 #[cfg(test)]
 mod slow_source;
 #[cfg(test)]
 mod steps_counted;
 #[cfg(test)]
 mod trivial;
+#[cfg(test)]
+mod worlds;

@@ -1,0 +1,119 @@
+//! The tables of the runs, and the rows of the test: each has a role, a query or its name, the indexes (the number of an entry and that
+//! of a column, with a dot between them), the column by which the rows are wanted in order, or `-`, the code of a plan, its
+//! combinations in their order (the numbers of the rows, from 0, of the entries in the order of FROM; in braces where an index with
+//! equal values leaves their order open), and the steps that are counted.
+
+/// The statements that make the tables.
+pub const SCHEMA: &str = "CREATE ROLE alice;
+CREATE TABLE a (id bigint, k bigint, t text, b boolean); CREATE TABLE c (id bigint, k bigint, t text, b boolean);
+CREATE TABLE bare (id bigint, k bigint, t text, b boolean);
+ALTER TABLE c ENABLE ROW LEVEL SECURITY; CREATE POLICY p ON c USING (b);";
+
+/// The rows of the table a.
+pub const A: &str = "id,k,t,b
+1,1,x,t
+2,\\N,y,f
+3,2,\\N,\\N
+4,1,x,t
+5,5,z,f
+";
+
+/// The rows of the table c.
+pub const C: &str = "id,k,t,b
+1,1,x,t
+2,2,y,\\N
+3,1,z,f
+4,\\N,x,t
+5,7,\\N,f
+";
+
+const KEYS: &str = "SELECT a.id FROM a, c WHERE a.k = c.k";
+
+const TEXTS: &str = "SELECT a.id FROM a, c WHERE a.t = c.t";
+
+const TRUTHS: &str = "SELECT a.id FROM a, c WHERE a.b = c.b";
+
+const NUMBERS: &str = "SELECT a.id FROM a, c WHERE a.id = c.id";
+
+const BARE: &str = "SELECT a.id FROM a, bare WHERE a.k = bare.k";
+
+const SELF: &str = "SELECT p.id FROM a p, a q WHERE p.k = q.k";
+
+const THREE: &str =
+    "SELECT a.id FROM a, c, a d WHERE a.k = c.k AND c.id = d.id AND (a.id < d.id OR a.t = c.t)";
+
+/// The query of that name, or the text itself.
+pub fn query_text(text: &str) -> &str {
+    match text {
+        "KEYS" => KEYS,
+        "TEXTS" => TEXTS,
+        "TRUTHS" => TRUTHS,
+        "NUMBERS" => NUMBERS,
+        "BARE" => BARE,
+        "SELF" => SELF,
+        "THREE" => THREE,
+        _ => text,
+    }
+}
+
+/// The rows of the test.
+///
+/// A full scan takes a step for each row, the scan of an index two, the part of an index one more. Nested loops take one for each
+/// pair; a hash join one for each row of both sides and each pair with equal keys; a merge one for each left row, one for each right
+/// row that is passed since it is less than a left one, and one for each pair with equal keys. Sorting takes one for each comparison
+/// of the merge sort, which halves a list with the smaller half first.
+pub const ROWS: &str = "root | KEYS | - | - | 1 f n, 2 f n | 0.0 0.2 2.1 3.0 3.2 | 35
+root | KEYS | - | - | 1 f n, 2 f h1 | 0.0 0.2 2.1 3.0 3.2 | 25
+root | KEYS | - | - | 2 f n, 1 f h1 | 0.0 3.0 2.1 0.2 3.2 | 25
+root | KEYS | - | - | 1 f n, 2 f m1 | 0.0 0.2 3.0 3.2 2.1 | 38
+root | KEYS | 1.2 2.2 | - | 1 i2 n, 2 i2 m1 | {0.0 0.2 2.1 3.0 3.2} | 34
+root | KEYS | 2.2 | - | 1 f n, 2 i2 m1 | {0.0 0.2 2.1 3.0 3.2} | 37
+root | KEYS | 1.2 | - | 1 i2 n, 2 f m1 | {0.0 0.2 2.1 3.0 3.2} | 35
+root | TEXTS | - | - | 1 f n, 2 f n | 0.0 0.3 1.1 3.0 3.3 4.2 | 35
+root | TEXTS | - | - | 1 f n, 2 f h1 | 0.0 0.3 1.1 3.0 3.3 4.2 | 26
+root | TRUTHS | - | - | 1 f n, 2 f h1 | 0.0 0.3 1.2 1.4 3.0 3.3 4.2 4.4 | 28
+root | TRUTHS | - | - | 1 f n, 2 f n | 0.0 0.3 1.2 1.4 3.0 3.3 4.2 4.4 | 35
+root | NUMBERS | 1.1 2.1 | - | 1 i1 n, 2 i1 m1 | 0.0 1.1 2.2 3.3 4.4 | 34
+root | NUMBERS | 1.1 2.1 | - | 1 i1 n, 2 i1 h1 | 0.0 1.1 2.2 3.3 4.4 | 35
+root | NUMBERS | 1.1 2.1 | - | 1 i1 n, 2 i1 n | 0.0 1.1 2.2 3.3 4.4 | 45
+root | BARE | - | - | 1 f n, 2 f n |  | 5
+root | BARE | - | - | 1 f n, 2 f h1 |  | 10
+root | BARE | - | - | 2 f n, 1 f h1 |  | 10
+root | BARE | - | - | 1 f n, 2 f m1 |  | 18
+root | BARE | - | - | 2 f n, 1 f m1 |  | 13
+root | SELF | - | - | 1 f n, 2 f h1 | 0.0 0.3 2.2 3.0 3.3 4.4 | 26
+root | SELF | - | - | 1 f n, 2 f n | 0.0 0.3 2.2 3.0 3.3 4.4 | 35
+root | THREE | - | - | 1 f n, 2 f h1, 3 f h2 | 0.0.0 0.2.2 3.0.0 | 45
+root | THREE | - | - | 1 f n, 2 f h1, 3 f n | 0.0.0 0.2.2 3.0.0 | 55
+root | THREE | - | - | 3 f n, 2 f h2, 1 f h1 | 0.0.0 3.0.0 0.2.2 | 45
+root | KEYS | - | 1.1 | 2 f n, 1 f h1 | 0.0 0.2 2.1 3.0 3.2 | 33
+root | KEYS | 1.1 | 1.1 | 1 i1 n, 2 f h1 | 0.0 0.2 2.1 3.0 3.2 | 30
+root | KEYS | - | 1.2 | 1 f n, 2 f m1 | 0.0 0.2 3.0 3.2 2.1 | 38
+root | SELECT id FROM a | - | 1.1 | 1 f n | 0 1 2 3 4 | 10
+root | SELECT id FROM a | - | 1.2 | 1 f n | 0 3 2 4 1 | 13
+root | SELECT id FROM a | 1.1 | - | 1 i1 n | 0 1 2 3 4 | 10
+root | SELECT id FROM a WHERE id < 3 | 1.1 | - | 1 r1/1 n | 0 1 | 5
+root | SELECT id FROM a WHERE id <= 3 | 1.1 | - | 1 r1/1 n | 0 1 2 | 7
+root | SELECT id FROM a WHERE id = 3 | 1.1 | - | 1 r1/1 n | 2 | 3
+root | SELECT id FROM a WHERE id >= 3 | 1.1 | - | 1 r1/1 n | 2 3 4 | 7
+root | SELECT id FROM a WHERE id > 3 | 1.1 | - | 1 r1/1 n | 3 4 | 5
+root | SELECT id FROM a WHERE 3 < id | 1.1 | - | 1 r1/1 n | 3 4 | 5
+root | SELECT id FROM a WHERE 3 <= id | 1.1 | - | 1 r1/1 n | 2 3 4 | 7
+root | SELECT id FROM a WHERE 3 = id | 1.1 | - | 1 r1/1 n | 2 | 3
+root | SELECT id FROM a WHERE 3 >= id | 1.1 | - | 1 r1/1 n | 0 1 2 | 7
+root | SELECT id FROM a WHERE 3 > id | 1.1 | - | 1 r1/1 n | 0 1 | 5
+root | SELECT id FROM a WHERE id < 0 | 1.1 | - | 1 r1/1 n |  | 1
+root | SELECT id FROM a WHERE id < 100 | 1.1 | - | 1 r1/1 n | 0 1 2 3 4 | 11
+root | SELECT id FROM a WHERE id = 100 | 1.1 | - | 1 r1/1 n |  | 1
+root | SELECT id FROM a WHERE k >= 2 | 1.2 | - | 1 r2/1 n | 2 4 | 5
+root | SELECT id FROM a WHERE k < NULL | 1.2 | - | 1 r2/1 n |  | 1
+root | SELECT id FROM a WHERE t > 'x' | 1.3 | - | 1 r3/1 n | 1 4 | 5
+root | SELECT id FROM a WHERE b = TRUE | 1.4 | - | 1 r4/1 n | {0 3} | 5
+alice | KEYS | - | - | 1 f n, 2 f h1 | 0.0 3.0 | 19
+alice | KEYS | - | - | 1 f n, 2 f n | 0.0 3.0 | 20
+alice | KEYS | - | - | 2 f n, 1 f h1 | 0.0 3.0 | 19
+alice | KEYS | 2.2 | - | 1 f n, 2 i2 m1 | 0.0 3.0 | 31
+root | SELECT id FROM a WHERE FALSE | - | - | empty |  | 0
+root | SELECT id FROM a WHERE 1 = 1 | - | - | 1 f n | 0 1 2 3 4 | 5
+root | SELECT a.id FROM a, c | - | - | 1 f n, 2 f n | 0.0 0.1 0.2 0.3 0.4 1.0 1.1 1.2 1.3 1.4 2.0 2.1 2.2 2.3 2.4 3.0 3.1 3.2 3.3 3.4 4.0 4.1 4.2 4.3 4.4 | 35
+";

@@ -1,0 +1,307 @@
+//! Codes that are run.
+
+ghost use Rattle.std.specs.Prelude.{◌≡◌, map};
+ghost use Rattle.tuples.specs.View.{guard_of};
+
+use crate::cases::{A, C, ROWS, SCHEMA, query_text};
+use crate::worlds::{indexes_of_tables, lent, tables_of};
+use access::frame;
+use algebra::planning_list;
+use executor::run;
+use expr::{Code, ColumnId};
+use fixture_stores::{FixtureError, code_of, load, store_of};
+use memory::{Failure, Items};
+use resolve::{Bound, bind};
+use row_ast::Query;
+use std::alloc::{AllocError, AllocGlobal, Global};
+use std::process::Abort;
+use std::test::Fail;
+use store::Store;
+use syntax::parse_query;
+use tables::Table;
+use trailcheck::{Setting, is_admissible};
+use tuples::{Combo, Slot, Work, World};
+
+// A row of the test.
+#[derive(Clone, Copy)]
+struct Row<'r> {
+    role: &'r str,
+    query: &'r str,
+    indexes: &'r str,
+    wanted: &'r str,
+    code: &'r str,
+    combinations: &'r str,
+    steps: &'r str,
+}
+
+// The part of a line before the next mark, and the rest.
+fn field(line: &str) -> (&str, &str) {
+    line.split_once(" | ").unwrap_or((line, ""))
+}
+
+fn row_of(line: &str) -> Row<'_> {
+    let (role, rest) = field(line);
+    let (query, rest) = field(rest);
+    let (indexes, rest) = field(rest);
+    let (wanted, rest) = field(rest);
+    let (code, rest) = field(rest);
+    let (combinations, steps) = field(rest);
+    Row {
+        role,
+        query,
+        indexes,
+        wanted,
+        code,
+        combinations,
+        steps,
+    }
+}
+
+// ---- what plans are made from
+
+// An entry or a column as an index: its number in a text, which counts from 1.
+fn index_from(text: &str) -> Option<usize> {
+    text.parse::<usize>().ok()?.checked_sub(1)
+}
+
+// The column of a text.
+fn column_of(text: &str) -> Option<ColumnId> {
+    let (entry, column) = text.split_once('.')?;
+    Some(ColumnId {
+        entry: index_from(entry)?,
+        column: index_from(column)?,
+    })
+}
+
+// The numbers of the columns of an entry that have an index.
+fn indexed_columns(
+    alloc: Global,
+    indexes: &str,
+    entry: usize,
+) -> Result<Items<u64, Global>, AllocError> {
+    let mut columns = Items::new(alloc);
+    for word in indexes.split(' ') {
+        match column_of(word) {
+            Some(id) if id.entry == entry => columns.push((id.column as u64).saturating_add(1))?,
+            _ => {}
+        }
+    }
+    Ok(columns)
+}
+
+fn indexed(
+    alloc: Global,
+    indexes: &str,
+    entries: usize,
+) -> Result<Items<Items<u64, Global>, Global>, AllocError> {
+    let mut all = Items::new(alloc);
+    for entry in 0..entries {
+        all.push(indexed_columns(alloc, indexes, entry)?)?;
+    }
+    Ok(all)
+}
+
+fn setting(
+    alloc: Global,
+    store: &Store<Global>,
+    bound: &Bound<'_, Global>,
+    row: Row<'_>,
+) -> Result<Setting<Global>, AllocError> {
+    let entries = bound.entries.as_slice();
+    Ok(Setting {
+        frame: frame(alloc, store.catalog(), row.role, entries)?,
+        indexed: indexed(alloc, row.indexes, entries.len())?,
+        conditions: planning_list(alloc, &bound.query)?,
+    })
+}
+
+// The contents of each entry's table.
+fn contents<'s>(
+    rt: &(impl Abort + AllocGlobal),
+    store: &'s Store<Global>,
+    bound: &Bound<'_, Global>,
+) -> Result<Vec<&'s Table<Global>, Global>, AllocError> {
+    let mut all = Vec::new(rt.alloc());
+    for entry in bound.entries.as_slice() {
+        match store.contents(entry.table.name()) {
+            Some(table) => all.push(table)?,
+            None => panic!(rt; "no contents"),
+        }
+    }
+    Ok(all)
+}
+
+// ---- combinations as texts
+
+fn push_slot(text: &mut String, slot: Slot) -> Result<(), AllocError> {
+    match slot {
+        Slot::Row(number) => write!(text, "{number}"),
+        Slot::NullRow => text.push_str("null"),
+        Slot::Absent => text.push_str("-"),
+    }
+}
+
+// The numbers of the rows of so many entries.
+fn text_of(
+    alloc: Global,
+    combination: &Combo<Global>,
+    entries: usize,
+) -> Result<String, AllocError> {
+    let mut text = String::new(alloc);
+    for entry in 0..entries {
+        if entry > 0 {
+            text.push_str(".")?;
+        }
+        push_slot(&mut text, combination.row(entry))?;
+    }
+    Ok(text)
+}
+
+fn texts_of(
+    alloc: Global,
+    combinations: &[Combo<Global>],
+    entries: usize,
+) -> Result<Vec<String, Global>, AllocError> {
+    let mut texts = Vec::new(alloc);
+    for combination in combinations {
+        texts.push(text_of(alloc, combination, entries)?)?;
+    }
+    Ok(texts)
+}
+
+fn joined(alloc: Global, texts: &[String]) -> Result<String, AllocError> {
+    let mut all = String::new(alloc);
+    for (i, text) in texts.iter().enumerate() {
+        if i > 0 {
+            all.push_str(" ")?;
+        }
+        all.push_str(text.as_str())?;
+    }
+    Ok(all)
+}
+
+// The combinations as the row has them: in order, or sorted where it has braces.
+fn shown(
+    alloc: Global,
+    combinations: &[Combo<Global>],
+    entries: usize,
+    want: &str,
+) -> Result<String, AllocError> {
+    let mut texts = texts_of(alloc, combinations, entries)?;
+    if !want.starts_with('{') {
+        return joined(alloc, &texts);
+    }
+    texts.sort_unstable_by(|one, other| one.as_str().cmp(other.as_str()));
+    let all = joined(alloc, &texts)?;
+    format!(in alloc; "{{{}}}", all.as_str())
+}
+
+// ---- runs
+
+fn runs_as(
+    rt: &(impl Abort + AllocGlobal),
+    world: &World<'_, Global>,
+    setting: &Setting<Global>,
+    code: &Code<Global>,
+    row: Row<'_>,
+) -> Result<(), AllocError>
+    requires { map guard_of setting.now.frame ≡ map (λ t. guard_of t.guard.now) world.now.tables.now }
+{
+    let indexes = indexes_of_tables(rt.alloc(), world.tables, setting.indexed.as_slice())?;
+    let lent = lent(rt.alloc(), indexes.as_slice())?;
+    assert!(rt;
+        is_admissible(rt.alloc(), setting, code)?,
+        "{}: not admissible",
+        row.code
+    );
+    let mut work = Work::new();
+    let wanted = column_of(row.wanted);
+    let found = run(rt.alloc(), world, setting, &lent, code, wanted, &mut work)?;
+    let got = shown(
+        rt.alloc(),
+        found.as_slice(),
+        world.tables.len(),
+        row.combinations,
+    )?;
+    assert_eq!(rt;
+        got.as_str(),
+        row.combinations,
+        "{} by {}",
+        row.query,
+        row.code
+    );
+    let steps = format!(in rt.alloc(); "{}", work.count())?;
+    assert_eq!(rt;
+        steps.as_str(),
+        row.steps,
+        "steps of {} by {}",
+        row.query,
+        row.code
+    );
+    Ok(())
+}
+
+fn run_bound(
+    rt: &(impl Abort + AllocGlobal),
+    store: &Store<Global>,
+    bound: &Bound<'_, Global>,
+    row: Row<'_>,
+) -> Result<(), AllocError> {
+    let setting = setting(rt.alloc(), store, bound, row)?;
+    let contents = contents(rt, store, bound)?;
+    let tables = tables_of(rt.alloc(), &contents, setting.frame.as_slice())?;
+    let world = World {
+        role: row.role,
+        query: &bound.query,
+        tables: &tables,
+    };
+    match code_of(rt.alloc(), row.code)? {
+        Some(code) => runs_as(rt, &world, &setting, &code, row),
+        None => panic!(rt; "{}: no code", row.code),
+    }
+}
+
+fn run_query(
+    rt: &(impl Abort + AllocGlobal),
+    store: &Store<Global>,
+    query: &Query<Global>,
+    row: Row<'_>,
+) -> Result<(), AllocError> {
+    match bind(rt.alloc(), store.catalog(), query) {
+        Ok(bound) => run_bound(rt, store, &bound, row),
+        Err(_) => panic!(rt; "{}: not bound", row.query),
+    }
+}
+
+fn run_row(
+    rt: &(impl Abort + AllocGlobal),
+    store: &Store<Global>,
+    row: Row<'_>,
+) -> Result<(), AllocError> {
+    match parse_query(rt.alloc(), query_text(row.query)) {
+        Ok(query) => run_query(rt, store, &query, row),
+        Err(_) => panic!(rt; "{}: no query", row.query),
+    }
+}
+
+// The store of the rows.
+fn made(alloc: Global) -> Result<Box<Store<Global>, Global>, Failure<FixtureError>> {
+    let mut store = store_of(alloc, SCHEMA)?;
+    load(&mut store, "a", A)?;
+    load(&mut store, "c", C)?;
+    Ok(store)
+}
+
+#[test]
+fn codes_give_their_combinations_in_order_and_count_their_steps(
+    rt: HostRuntime,
+) -> Result<(), Fail> {
+    let Ok(store) = made(rt.alloc()) else {
+        panic!(rt; "no store");
+    };
+    assert!(rt; !ROWS.is_empty());
+    for line in ROWS.lines() {
+        run_row(&rt, &store, row_of(line))?;
+    }
+    Ok(())
+}
