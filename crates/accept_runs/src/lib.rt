@@ -5,11 +5,17 @@
 #[cfg(test)]
 mod cases;
 #[cfg(test)]
+mod drawn_tables;
+#[cfg(test)]
+mod every_code;
+#[cfg(test)]
 mod runs;
 #[cfg(test)]
 mod slow_source;
 #[cfg(test)]
 mod steps_counted;
+#[cfg(test)]
+mod texts;
 #[cfg(test)]
 mod trivial;
 #[cfg(test)]

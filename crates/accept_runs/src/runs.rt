@@ -4,10 +4,10 @@ ghost use Rattle.std.specs.Prelude.{◌≡◌, map};
 ghost use Rattle.tuples.specs.View.{guard_of};
 
 use crate::cases::{A, C, ROWS, SCHEMA, query_text};
-use crate::worlds::{indexes_of_tables, lent, tables_of};
+use crate::texts::shown;
+use crate::worlds::{run_over, tables_of};
 use access::frame;
 use algebra::planning_list;
-use executor::run;
 use expr::{Code, ColumnId};
 use fixture_stores::{FixtureError, code_of, load, store_of};
 use memory::{Failure, Items};
@@ -19,8 +19,8 @@ use std::test::Fail;
 use store::Store;
 use syntax::parse_query;
 use tables::Table;
-use trailcheck::{Setting, is_admissible};
-use tuples::{Combo, Slot, Work, World};
+use trailcheck::Setting;
+use tuples::{Work, World};
 
 // A row of the test.
 #[derive(Clone, Copy)]
@@ -131,71 +131,6 @@ fn contents<'s>(
     Ok(all)
 }
 
-// ---- combinations as texts
-
-fn push_slot(text: &mut String, slot: Slot) -> Result<(), AllocError> {
-    match slot {
-        Slot::Row(number) => write!(text, "{number}"),
-        Slot::NullRow => text.push_str("null"),
-        Slot::Absent => text.push_str("-"),
-    }
-}
-
-// The numbers of the rows of so many entries.
-fn text_of(
-    alloc: Global,
-    combination: &Combo<Global>,
-    entries: usize,
-) -> Result<String, AllocError> {
-    let mut text = String::new(alloc);
-    for entry in 0..entries {
-        if entry > 0 {
-            text.push_str(".")?;
-        }
-        push_slot(&mut text, combination.row(entry))?;
-    }
-    Ok(text)
-}
-
-fn texts_of(
-    alloc: Global,
-    combinations: &[Combo<Global>],
-    entries: usize,
-) -> Result<Vec<String, Global>, AllocError> {
-    let mut texts = Vec::new(alloc);
-    for combination in combinations {
-        texts.push(text_of(alloc, combination, entries)?)?;
-    }
-    Ok(texts)
-}
-
-fn joined(alloc: Global, texts: &[String]) -> Result<String, AllocError> {
-    let mut all = String::new(alloc);
-    for (i, text) in texts.iter().enumerate() {
-        if i > 0 {
-            all.push_str(" ")?;
-        }
-        all.push_str(text.as_str())?;
-    }
-    Ok(all)
-}
-
-// The combinations as the row has them: in order, or sorted where it has braces.
-fn shown(
-    alloc: Global,
-    combinations: &[Combo<Global>],
-    entries: usize,
-    want: &str,
-) -> Result<String, AllocError> {
-    let mut texts = texts_of(alloc, combinations, entries)?;
-    if !want.starts_with('{') {
-        return joined(alloc, &texts);
-    }
-    texts.sort_unstable_by(|one, other| one.as_str().cmp(other.as_str()));
-    let all = joined(alloc, &texts)?;
-    format!(in alloc; "{{{}}}", all.as_str())
-}
-
 // ---- runs
 
 fn runs_as(
@@ -207,16 +142,9 @@ fn runs_as(
 ) -> Result<(), AllocError>
     requires { map guard_of setting.now.frame ≡ map (λ t. guard_of t.guard.now) world.now.tables.now }
 {
-    let indexes = indexes_of_tables(rt.alloc(), world.tables, setting.indexed.as_slice())?;
-    let lent = lent(rt.alloc(), indexes.as_slice())?;
-    assert!(rt;
-        is_admissible(rt.alloc(), setting, code)?,
-        "{}: not admissible",
-        row.code
-    );
     let mut work = Work::new();
     let wanted = column_of(row.wanted);
-    let found = run(rt.alloc(), world, setting, &lent, code, wanted, &mut work)?;
+    let found = run_over(rt, world, setting, code, wanted, &mut work)?;
     let got = shown(
         rt.alloc(),
         found.as_slice(),

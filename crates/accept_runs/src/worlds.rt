@@ -1,14 +1,18 @@
-//! The tables of a world, and their indexes.
+//! The tables of a world, their indexes, and the run of codes over them.
 
 ghost use Rattle.std.specs.Prelude.{◌≡◌, [], ℕ, IfOk, List, Some, length, map, slice_get, slice_index_or};
 ghost use Rattle.accept_runs.specs.Worlds.{AreOf};
 ghost use Rattle.tuples.specs.View.{guard_of};
 
+use executor::run;
+use expr::{Code, ColumnId};
 use indexes::{IndexRows, indexes_of};
 use memory::Items;
-use std::alloc::{AllocError, Global};
+use std::alloc::{AllocError, AllocGlobal, Global};
+use std::process::Abort;
 use tables::Table;
-use tuples::{Guard, GuardedTable};
+use trailcheck::{Setting, is_admissible};
+use tuples::{Combo, Guard, GuardedTable, Work, World};
 
 /// Each table with its guard.
 pub fn tables_of<'w>(
@@ -59,4 +63,21 @@ pub fn lent(
         all.push(these.as_slice())?;
     }
     Ok(all)
+}
+
+/// The combinations that the run of a code gives, with indexes that are made for it.
+pub fn run_over(
+    rt: &(impl Abort + AllocGlobal),
+    world: &World<'_, Global>,
+    setting: &Setting<Global>,
+    code: &Code<Global>,
+    wanted: Option<ColumnId>,
+    work: &mut Work,
+) -> Result<Items<Combo<Global>, Global>, AllocError>
+    requires { map guard_of setting.now.frame ≡ map (λ t. guard_of t.guard.now) world.now.tables.now }
+{
+    let indexes = indexes_of_tables(rt.alloc(), world.tables, setting.indexed.as_slice())?;
+    let lent = lent(rt.alloc(), indexes.as_slice())?;
+    assert!(rt; is_admissible(rt.alloc(), setting, code)?, "not admissible");
+    run(rt.alloc(), world, setting, &lent, code, wanted, work)
 }

@@ -5,7 +5,7 @@ use Rattle.tuples.specs.View.{guarded_table_of, world_of}
 use Rattle.trailcheck.specs.View.{setting_of}
 use Rattle.executor.specs.Indexed.{AreIndexes}
 use Rattle.accept_runs.proofs.AreThere.{are_there}
-use Rattle.accept_runs.proofs.runs.runs_as.Goals as goal
+use Rattle.accept_runs.proofs.worlds.run_over.Goals as goal
 
 pub run-requires-clause-indexes : goal.run-requires-clause-indexes
 run-requires-clause-indexes g c =

@@ -1,0 +1,104 @@
+//! Every code that a plan may have, over small tables that are drawn from a seed.
+
+ghost use Rattle.std.specs.Prelude.{◌≡◌, map};
+ghost use Rattle.tuples.specs.View.{guard_of};
+
+use crate::drawn_tables::{drawn_tables, no_query};
+use crate::texts::shown;
+use crate::worlds::{run_over, tables_of};
+use expr::Code;
+use fixture_plans::{Drawn, Random, all_codes, draw};
+use memory::Items;
+use operators::run;
+use rewrite::plain_code;
+use std::alloc::{AllocError, AllocGlobal, Global};
+use std::process::Abort;
+use std::test::Fail;
+use tables::Table;
+use trailcheck::Setting;
+use tuples::{Work, World};
+
+const SEED: u64 = 1979;
+
+const PROBLEMS: u64 = 40;
+
+// The combinations of the plain code, by nested loops, in the order of their texts.
+fn plain(
+    alloc: Global,
+    world: &World<'_, Global>,
+    setting: &Setting<Global>,
+) -> Result<String, AllocError> {
+    let code = plain_code(alloc, setting)?;
+    let mut work = Work::new();
+    let found = run(
+        alloc,
+        world,
+        setting.conditions.as_slice(),
+        &code,
+        &mut work,
+    )?;
+    shown(alloc, found.as_slice(), world.tables.len(), "{")
+}
+
+// Each of the codes gives these combinations.
+fn all_give(
+    rt: &(impl Abort + AllocGlobal),
+    world: &World<'_, Global>,
+    setting: &Setting<Global>,
+    codes: &[Code<Global>],
+    want: &str,
+) -> Result<(), AllocError>
+    requires { map guard_of setting.now.frame ≡ map (λ t. guard_of t.guard.now) world.now.tables.now }
+{
+    for code in codes {
+        let mut work = Work::new();
+        let found = run_over(rt, world, setting, code, None, &mut work)?;
+        let got = shown(rt.alloc(), found.as_slice(), world.tables.len(), "{")?;
+        assert_eq!(rt; got.as_str(), want);
+    }
+    Ok(())
+}
+
+// The tables, lent.
+fn lent_tables(
+    alloc: Global,
+    tables: &Vec<Table<Global>>,
+) -> Result<Vec<&Table<Global>, Global>, AllocError> {
+    let mut all = Vec::new(alloc);
+    for table in tables.iter() {
+        all.push(table)?;
+    }
+    Ok(all)
+}
+
+fn gives_the_same(
+    rt: &(impl Abort + AllocGlobal),
+    random: &mut Random,
+    problem: &Drawn,
+) -> Result<(), AllocError> {
+    let setting = &problem.setting;
+    let tables = drawn_tables(rt, random, setting.frame.len() as u64)?;
+    let lent = lent_tables(rt.alloc(), &tables)?;
+    let guarded = tables_of(rt.alloc(), &lent, setting.frame.as_slice())?;
+    let query = no_query(rt.alloc());
+    let world = World {
+        role: "root",
+        query: &query,
+        tables: &guarded,
+    };
+    let codes = all_codes(rt.alloc(), setting)?;
+    let want = plain(rt.alloc(), &world, setting)?;
+    assert!(rt; codes.len() > 0, "no code");
+    all_give(rt, &world, setting, codes.as_slice(), want.as_str())
+}
+
+// 40 problems of one to four entries, whose tables have up to six rows of small numbers and nulls.
+#[test]
+fn every_code_gives_the_combinations_of_nested_loops(rt: HostRuntime) -> Result<(), Fail> {
+    let mut random = Random::new(SEED);
+    for number in 0..PROBLEMS {
+        let problem = draw(rt.alloc(), &mut random, number % 4 + 1)?;
+        gives_the_same(&rt, &mut random, &problem)?;
+    }
+    Ok(())
+}
