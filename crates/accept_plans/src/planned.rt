@@ -3,12 +3,11 @@
 use crate::queries::query_text;
 use crate::rows::fields;
 use crate::verdicts::{made_code, made_setting, verdict_as};
-use access::frame;
 use algebra::Step;
 use expr::Code;
-use fixture_stores::sales;
+use fixture_runs::{run_over, tables_of};
+use fixture_stores::{contents, sales};
 use memory::Items;
-use operators::run;
 use resolve::{Bound, bind};
 use rewrite::{place, plain_code, simplify};
 use row_ast::Query;
@@ -19,7 +18,7 @@ use std::test::Fail;
 use store::Store;
 use syntax::parse_query;
 use trailcheck::{Setting, judge};
-use tuples::{GuardedTable, Work, World};
+use tuples::{Work, World};
 
 // Each line has a role, a query or its name, the code of a plan, and the number of the combinations that it gives; `plain`
 // is the least code of full scans and nested joins.
@@ -97,28 +96,18 @@ fn count(
     bound: &Bound<'_, Global>,
     code: &Code<Global>,
 ) -> Result<usize, AllocError> {
-    let guards = frame(rt.alloc(), store.catalog(), role, bound.entries.as_slice())?;
-    let mut tables = Vec::new(rt.alloc());
-    for (entry, guard) in bound.entries.as_slice().iter().zip(guards.as_slice()) {
-        let Some(rows) = store.contents(entry.table.name()) else {
-            panic!(rt; "no contents");
-        };
-        tables.push(GuardedTable { rows, guard })?;
-    }
+    let rows = contents(rt.alloc(), store, bound.entries.as_slice())?;
+    let tables = tables_of(rt.alloc(), &rows, setting.frame.as_slice())?;
     let world = World {
         role,
         query: &bound.query,
         tables: &tables,
     };
     let mut work = Work::new();
-    let combos = run(
-        rt.alloc(),
-        &world,
-        setting.conditions.as_slice(),
-        code,
-        &mut work,
-    )?;
-    Ok(combos.len())
+    match run_over(rt.alloc(), &world, setting, code, None, &mut work)? {
+        Some(combinations) => Ok(combinations.len()),
+        None => panic!(rt; "not admissible"),
+    }
 }
 
 fn run_bound(

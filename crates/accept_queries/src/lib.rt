@@ -9,7 +9,7 @@ mod arithmetic;
 #[cfg(test)]
 mod faults;
 #[cfg(test)]
-mod joins;
+mod joined_tables;
 #[cfg(test)]
 mod passing;
 #[cfg(test)]

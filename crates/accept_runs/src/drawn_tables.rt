@@ -1,6 +1,5 @@
-//! Tables that are drawn from a seed, and a query of nothing.
+//! Tables that are drawn from a seed.
 
-use expr::BoundQuery;
 use fixture_plans::Random;
 use memory::{Items, Text};
 use std::alloc::{AllocError, AllocGlobal, Global};
@@ -62,18 +61,4 @@ pub fn drawn_tables(
         tables.push(drawn_table(rt, random)?)?;
     }
     Ok(tables)
-}
-
-/// A query without items and conditions.
-pub fn no_query(alloc: Global) -> BoundQuery<Global> {
-    BoundQuery {
-        items: Items::new(alloc),
-        ons: Items::new(alloc),
-        filter: None,
-        group_by: Items::new(alloc),
-        having: None,
-        is_grouped: false,
-        order_by: Items::new(alloc),
-        limit: None,
-    }
 }

@@ -3,14 +3,12 @@
 ghost use Rattle.std.specs.Prelude.{◌≡◌, map};
 ghost use Rattle.tuples.specs.View.{guard_of};
 
-use crate::drawn_tables::{drawn_tables, no_query};
+use crate::drawn_tables::drawn_tables;
+use crate::nested_loops::nested_loops;
 use crate::texts::shown;
-use crate::worlds::{run_over, tables_of};
 use expr::Code;
 use fixture_plans::{Drawn, Random, all_codes, draw};
-use memory::Items;
-use operators::run;
-use rewrite::plain_code;
+use fixture_runs::{no_query, run_over, tables_of};
 use std::alloc::{AllocError, AllocGlobal, Global};
 use std::process::Abort;
 use std::test::Fail;
@@ -22,22 +20,14 @@ const SEED: u64 = 1979;
 
 const PROBLEMS: u64 = 40;
 
-// The combinations of the plain code, by nested loops, in the order of their texts.
-fn plain(
+// The combinations that nested loops find, in the order of their texts.
+fn wanted(
     alloc: Global,
     world: &World<'_, Global>,
     setting: &Setting<Global>,
 ) -> Result<String, AllocError> {
-    let code = plain_code(alloc, setting)?;
-    let mut work = Work::new();
-    let found = run(
-        alloc,
-        world,
-        setting.conditions.as_slice(),
-        &code,
-        &mut work,
-    )?;
-    shown(alloc, found.as_slice(), world.tables.len(), "{")
+    let found = nested_loops(alloc, world, setting.conditions.as_slice())?;
+    shown(alloc, &found, world.tables.len(), "{")
 }
 
 // Each of the codes gives these combinations.
@@ -52,7 +42,9 @@ fn all_give(
 {
     for code in codes {
         let mut work = Work::new();
-        let found = run_over(rt, world, setting, code, None, &mut work)?;
+        let Some(found) = run_over(rt.alloc(), world, setting, code, None, &mut work)? else {
+            panic!(rt; "not admissible");
+        };
         let got = shown(rt.alloc(), found.as_slice(), world.tables.len(), "{")?;
         assert_eq!(rt; got.as_str(), want);
     }
@@ -87,7 +79,7 @@ fn gives_the_same(
         tables: &guarded,
     };
     let codes = all_codes(rt.alloc(), setting)?;
-    let want = plain(rt.alloc(), &world, setting)?;
+    let want = wanted(rt.alloc(), &world, setting)?;
     assert!(rt; codes.len() > 0, "no code");
     all_give(rt, &world, setting, codes.as_slice(), want.as_str())
 }

@@ -9,7 +9,11 @@ mod drawn_tables;
 #[cfg(test)]
 mod every_code;
 #[cfg(test)]
+mod nested_loops;
+#[cfg(test)]
 mod runs;
+#[cfg(test)]
+mod sizes;
 #[cfg(test)]
 mod slow_source;
 #[cfg(test)]
@@ -18,5 +22,3 @@ mod steps_counted;
 mod texts;
 #[cfg(test)]
 mod trivial;
-#[cfg(test)]
-mod worlds;

@@ -5,11 +5,11 @@ ghost use Rattle.tuples.specs.View.{guard_of};
 
 use crate::cases::{A, C, ROWS, SCHEMA, query_text};
 use crate::texts::shown;
-use crate::worlds::{run_over, tables_of};
 use access::frame;
 use algebra::planning_list;
 use expr::{Code, ColumnId};
-use fixture_stores::{FixtureError, code_of, load, store_of};
+use fixture_runs::{run_over, tables_of};
+use fixture_stores::{FixtureError, code_of, contents, load, store_of};
 use memory::{Failure, Items};
 use resolve::{Bound, bind};
 use row_ast::Query;
@@ -18,7 +18,6 @@ use std::process::Abort;
 use std::test::Fail;
 use store::Store;
 use syntax::parse_query;
-use tables::Table;
 use trailcheck::Setting;
 use tuples::{Work, World};
 
@@ -115,22 +114,6 @@ fn setting(
     })
 }
 
-// The contents of each entry's table.
-fn contents<'s>(
-    rt: &(impl Abort + AllocGlobal),
-    store: &'s Store<Global>,
-    bound: &Bound<'_, Global>,
-) -> Result<Vec<&'s Table<Global>, Global>, AllocError> {
-    let mut all = Vec::new(rt.alloc());
-    for entry in bound.entries.as_slice() {
-        match store.contents(entry.table.name()) {
-            Some(table) => all.push(table)?,
-            None => panic!(rt; "no contents"),
-        }
-    }
-    Ok(all)
-}
-
 // ---- runs
 
 fn runs_as(
@@ -144,7 +127,9 @@ fn runs_as(
 {
     let mut work = Work::new();
     let wanted = column_of(row.wanted);
-    let found = run_over(rt, world, setting, code, wanted, &mut work)?;
+    let Some(found) = run_over(rt.alloc(), world, setting, code, wanted, &mut work)? else {
+        panic!(rt; "not admissible");
+    };
     let got = shown(
         rt.alloc(),
         found.as_slice(),
@@ -176,8 +161,8 @@ fn run_bound(
     row: Row<'_>,
 ) -> Result<(), AllocError> {
     let setting = setting(rt.alloc(), store, bound, row)?;
-    let contents = contents(rt, store, bound)?;
-    let tables = tables_of(rt.alloc(), &contents, setting.frame.as_slice())?;
+    let rows = contents(rt.alloc(), store, bound.entries.as_slice())?;
+    let tables = tables_of(rt.alloc(), &rows, setting.frame.as_slice())?;
     let world = World {
         role: row.role,
         query: &bound.query,

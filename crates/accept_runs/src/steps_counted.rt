@@ -10,7 +10,7 @@ use std::test::Fail;
 use tuples::{Combo, Work};
 
 // The rows of an entry, of which each takes a thousand steps.
-fn rows(alloc: Global, entry: usize, count: u64) -> Result<SlowSource<Global>, AllocError> {
+fn rows(alloc: Global, entry: usize, count: u32) -> Result<SlowSource<Global>, AllocError> {
     let mut combinations = Vec::new(alloc);
     let mut lost = Work::new();
     for row in 0..count {
@@ -20,7 +20,7 @@ fn rows(alloc: Global, entry: usize, count: u64) -> Result<SlowSource<Global>, A
 }
 
 // The steps that a join of so many rows takes, all of which have the same key, and no pair of which passes.
-fn steps(alloc: Global, method: Method, left: u64, right: u64) -> Result<u128, AllocError> {
+fn steps(alloc: Global, method: Method, left: u32, right: u32) -> Result<u128, AllocError> {
     let mut work = Work::new();
     let lefts = rows(alloc, 0, left)?;
     let rights = rows(alloc, 1, right)?;
@@ -44,8 +44,8 @@ fn steps(alloc: Global, method: Method, left: u64, right: u64) -> Result<u128, A
 fn takes(
     rt: &(impl Abort + AllocGlobal),
     method: Method,
-    left: u64,
-    right: u64,
+    left: u32,
+    right: u32,
     want: u128,
 ) -> Result<(), AllocError> {
     let got = steps(rt.alloc(), method, left, right)?;

@@ -1,7 +1,10 @@
 pub mod Admitted
+pub mod Few
 pub mod HiddenRows
+pub mod Indexes
 pub mod Judging
 pub mod Planned
+pub mod Statistics
 pub mod Statuses
 pub mod Steps
 pub mod Tables

@@ -12,7 +12,7 @@ use Rattle.resolve.proofs.EntryTables.{binds_tables, given, some_entries}
 use Rattle.replies.specs.Reply.{Reply}
 use Rattle.syntax.specs.Parsing.{parsed_query}
 use Rattle.syntax.specs.declared.error.ParseError.{ParseError}
-use Rattle.analysis.specs.Analysis.{admitted, admitted_query, permitted, query_read, unless_denied, unless_refused}
+use Rattle.analysis.specs.Analysis.{admitted_query, permitted, query_read, unless_denied, unless_refused}
 use Rattle.store.specs.Database.{Database}
 use Rattle.store.specs.Agreement.{Agrees}
 use Rattle.store.proofs.Agreement.{each_contents}
@@ -21,7 +21,7 @@ use Rattle.engine.specs.Held.{HaveContents, HoldsEachTable}
 pub is_there : (cat : Catalog) (e : Entry) (more : List Entry) → AreTables cat (e ∷ more) → is_table cat e.table.name ≡ true
 is_there cat e more h = ap is_some h.0
 
-not_denied : (b b' : Bound) (o : Option RequiredPrivilege) → unless_denied b o ≡ Ok b' → b ≡ b'
+pub not_denied : (b b' : Bound) (o : Option RequiredPrivilege) → unless_denied b o ≡ Ok b' → b ≡ b'
 not_denied b b' None e = cc
 not_denied b b' (Some privilege) e = absurd (cc)
 

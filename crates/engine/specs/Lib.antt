@@ -3,6 +3,7 @@ pub mod Audits
 pub mod Guarded
 pub mod Held
 pub mod Hidden
+pub mod Known
 pub mod Serving
 pub mod Settings
 pub mod View

@@ -1,6 +1,6 @@
 //! Asking.
 
-ghost use Rattle.std.specs.Prelude.{◌≡◌, ◌<◌, ℕ, List, None, Some, IfOk, length};
+ghost use Rattle.std.specs.Prelude.{◌≡◌, ◌<◌, ◌≤◌, ℕ, List, None, Some, IfOk, length, true};
 ghost use Rattle.value.specs.Names.{Name};
 ghost use Rattle.row_ast.specs.View.{query_of};
 ghost use Rattle.expr.specs.View.{bound_items_of};
@@ -15,6 +15,7 @@ ghost use Rattle.engine.specs.Answer as spec;
 ghost use Rattle.engine.specs.Answer.{IsAnswer, admitted_reply, answer_reply, reply_to};
 ghost use Rattle.engine.specs.Held.{HoldsEachTable};
 ghost use Rattle.engine.specs.Serving.{IsReply};
+ghost use Rattle.syntax.specs.Limits.{within_limits};
 
 use crate::answer::answer_rows;
 use analysis::{admit, read_query};
@@ -25,7 +26,7 @@ use resolve::Bound;
 use row_ast::Query;
 use std::alloc::AllocError;
 use store::Store;
-use syntax::law_queries_have_tables;
+use syntax::{law_parsing_is_determined, law_queries_have_tables};
 use value::Refusal;
 
 fn headings<A: Heap>(alloc: A, items: &[BoundItem<A>]) -> Result<Items<Text<A>, A>, AllocError>
@@ -47,6 +48,7 @@ fn answer_bound<A: Heap>(
 ) -> Result<Reply<A>, AllocError>
     requires tables { AreTables store.now.catalog (bound_of bound.now).entries }
     requires from { 0 < length (bound_of bound.now).entries }
+    requires few { length (bound_of bound.now).entries ≤ 8 }
     ensures { IfOk result (λ reply. reply_of reply ≡ answer_reply store.now.catalog (rows_of store.now) role.now (bound_of bound.now)) }
 {
     match answer_rows(alloc, store, role, bound) {
@@ -66,7 +68,8 @@ fn answer_query<A: Heap>(
     role: &str,
     query: &Query<A>,
 ) -> Result<Reply<A>, AllocError>
-    requires { 0 < length (query_of query.now).from }
+    requires from { 0 < length (query_of query.now).from }
+    requires small { within_limits (query_of query.now) ≡ true }
     ensures { IfOk result (λ reply. reply_of reply ≡ admitted_reply store.now.catalog (rows_of store.now) role.now (admitted_query store.now.catalog role.now (query_of query.now))) }
 {
     match admit(alloc, store.catalog(), role, query)? {
@@ -84,6 +87,7 @@ fn answer<A: Heap>(
     ensures { IfOk result (λ reply. reply_of reply ≡ reply_to store.now.catalog (rows_of store.now) role.now text.now) }
 {
     law_queries_have_tables();
+    law_parsing_is_determined();
     match read_query(alloc, store.catalog(), role, text)? {
         Ok(query) => {
             let reply = answer_query(alloc, store, role, &query);

@@ -15,6 +15,7 @@
 mod answer;
 mod asking;
 mod auditing;
+mod known;
 mod setting;
 mod verifying;
 mod writing;

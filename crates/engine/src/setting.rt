@@ -9,6 +9,7 @@ ghost use Rattle.tuples.specs.Guards.{shows};
 ghost use Rattle.tuples.specs.View.{guard_of};
 ghost use Rattle.resolve.specs.View.{bound_of};
 ghost use Rattle.trailcheck.specs.View.{setting_of};
+ghost use Rattle.store.specs.Derived.{indexed_columns};
 ghost use Rattle.engine.specs.Settings as spec;
 
 use access::frame;
@@ -19,15 +20,16 @@ use resolve::Bound;
 use row_objects::Index;
 use scope::Entry;
 use std::alloc::AllocError;
+use store::column_number;
 use trailcheck::Setting;
 
 // The columns of indexes, by their numbers.
 fn indexed_columns<A: Heap>(alloc: A, indexes: &[Index<A>]) -> Result<Items<u64, A>, AllocError>
-    ensures { IfOk result (λ columns. columns ≡ spec.indexed_columns (map (λ i. index_of i) indexes.now)) }
+    ensures { IfOk result (λ columns. columns ≡ indexed_columns (map (λ i. index_of i) indexes.now)) }
 {
     let mut columns = Items::new(alloc);
     for index in indexes {
-        columns.push((index.column as u64).saturating_add(1))?;
+        columns.push(column_number(index.column))?;
     }
     Ok(columns)
 }

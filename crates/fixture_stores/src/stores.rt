@@ -4,8 +4,11 @@ use engine::{serve, verify};
 use memory::{Failure, Heap, boxed};
 use output::Output;
 use row_ast::Statement;
+use scope::Entry;
+use std::alloc::{AllocError, Global};
 use store::{Store, StoreError};
 use syntax::{ParseError, parse_schema};
+use tables::Table;
 use value::Refusal;
 
 /// Three roles, a table of deals that each sees the own of, and a grant for one of them.
@@ -124,4 +127,20 @@ pub fn audited<A: Heap>(
     };
     let status = verify(alloc, store.catalog(), role, text, plan, &mut out);
     (status, out)
+}
+
+/// The contents of the table of each entry.
+pub fn contents<'s>(
+    alloc: Global,
+    store: &'s Store<Global>,
+    entries: &[Entry<'_, Global>],
+) -> Result<Vec<&'s Table<Global>, Global>, AllocError> {
+    let mut all = Vec::new(alloc);
+    for entry in entries {
+        let Some(table) = store.contents(entry.table.name()) else {
+            return Err(AllocError);
+        };
+        all.push(table)?;
+    }
+    Ok(all)
 }

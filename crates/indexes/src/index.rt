@@ -1,9 +1,9 @@
 //! The indexes of a table.
 
-ghost use Rattle.std.specs.Prelude.{◌≡◌, ◌<◌, IfOk, length};
+ghost use Rattle.std.specs.Prelude.{◌≡◌, ◌<◌, IfOk, length, map};
 ghost use Rattle.value.specs.Datum.{cell, datum_of, row_at};
 ghost use Rattle.value.specs.Orders.{datum_cmp};
-ghost use Rattle.indexes.specs.Indexes.{AreIndexes, IsIndex};
+ghost use Rattle.indexes.specs.Indexes.{AreIndexes, IsIndex, IsIndexOn};
 
 use memory::{Heap, Items};
 use std::alloc::AllocError;
@@ -12,9 +12,10 @@ use tables::Table;
 use value::{Val, cmp_values};
 
 // The cell in a column of the row of that number; null beyond the rows and columns of the table.
-fn cell_of<A: Heap>(table: &Table<A>, number: u64, column: usize) -> Val<'_, A>
+fn cell_of<A: Heap>(table: &Table<A>, number: u32, column: usize) -> Val<'_, A>
     ensures { datum_of result ≡ cell (row_at table.now.rows number) column }
 {
+    let number = u64::from(number);
     if number < table.rows() && column < table.columns().len() {
         table.cell(number, column as u64)
     } else {
@@ -23,7 +24,7 @@ fn cell_of<A: Heap>(table: &Table<A>, number: u64, column: usize) -> Val<'_, A>
 }
 
 // The order of the cells of two rows, nulls last.
-fn compare<A: Heap>(table: &Table<A>, column: usize, one: u64, other: u64) -> Ordering
+fn compare<A: Heap>(table: &Table<A>, column: usize, one: u32, other: u32) -> Ordering
     ensures { result ≡ datum_cmp (cell (row_at table.now.rows one) column) (cell (row_at table.now.rows other) column) }
 {
     cmp_values(&cell_of(table, one, column), &cell_of(table, other, column))
@@ -34,11 +35,11 @@ pub fn index_of<A: Heap>(
     alloc: A,
     table: &Table<A>,
     column: usize,
-) -> Result<Items<u64, A>, AllocError>
+) -> Result<Items<u32, A>, AllocError>
     ensures { IfOk result (λ numbers. IsIndex table.now.rows column numbers) }
 {
     let mut numbers = Vec::new(alloc);
-    for number in 0..table.rows() {
+    for number in 0..table.rows() as u32 {
         numbers.push(number)?;
     }
     numbers.sort_unstable_by(|one, other| compare(table, column, *one, *other));
@@ -51,7 +52,19 @@ pub struct IndexRows<A: Heap> {
     /// The number of its column, from 1.
     pub column: u64,
     /// The numbers of the rows.
-    pub numbers: Items<u64, A>,
+    pub numbers: Items<u32, A>,
+}
+
+/// The index of a table on the column of this number, which counts from 1. It fails where memory runs out.
+pub fn index_on<A: Heap>(
+    alloc: A,
+    table: &Table<A>,
+    column: u64,
+) -> Result<IndexRows<A>, AllocError>
+    ensures { IfOk result (λ index. IsIndexOn table.now.rows column index) }
+{
+    let numbers = index_of(alloc, table, column.saturating_sub(1) as usize)?;
+    Ok(IndexRows { column, numbers })
 }
 
 /// The indexes of a table on columns of these numbers, which count from 1. It fails where memory runs out.
@@ -64,11 +77,22 @@ pub fn indexes_of<A: Heap>(
 {
     let mut indexes = Items::new(alloc);
     for column in columns {
-        let numbers = index_of(alloc, table, column.saturating_sub(1) as usize)?;
-        indexes.push(IndexRows {
-            column: *column,
-            numbers,
-        })?;
+        indexes.push(index_on(alloc, table, *column)?)?;
+    }
+    Ok(indexes)
+}
+
+/// The indexes of a table on the columns of others. It fails where memory runs out.
+pub fn remade<A: Heap>(
+    alloc: A,
+    table: &Table<A>,
+    others: &[IndexRows<A>],
+) -> Result<Vec<IndexRows<A>, A>, AllocError>
+    ensures { IfOk result (λ indexes. AreIndexes table.now.rows (map (λ index. index.column) others.now) indexes.items) }
+{
+    let mut indexes = Vec::new(alloc);
+    for other in others {
+        indexes.push(index_on(alloc, table, other.column)?)?;
     }
     Ok(indexes)
 }

@@ -3,4 +3,4 @@
 
 mod index;
 
-pub use index::{IndexRows, index_of, indexes_of};
+pub use index::{IndexRows, index_of, index_on, indexes_of, remade};

@@ -96,11 +96,17 @@ binds_tables cat q b e =
     let found = given (bound_with q) b (entries cat q.from) e in
     subst (AreTables cat) (same_entries found.0 q b found.2) (all_found cat [] (joined [] q.from) found.0 tt found.1)
 
+-- an entry for each table of FROM
+pub as_many_entries : (cat : Catalog) (q : ast.Query) (b : Bound) → bound cat q ≡ Ok b → length b.entries ≡ length (joined [] q.from)
+as_many_entries cat q b e =
+    let found = given (bound_with q) b (entries cat q.from) e in
+    let n = entry_count cat [] (joined [] q.from) found.0 found.1 in
+    let same = ap length (same_entries found.0 q b found.2) in
+    omega arith
+
 -- a query with a table in FROM has an entry
 pub some_entries : (cat : Catalog) (q : ast.Query) (b : Bound) → 0 < length q.from → bound cat q ≡ Ok b → 0 < length b.entries
 some_entries cat q b some e =
-    let found = given (bound_with q) b (entries cat q.from) e in
-    let n = entry_count cat [] (joined [] q.from) found.0 found.1 in
+    let n = as_many_entries cat q b e in
     let m = some_joined q.from some in
-    let same = ap length (same_entries found.0 q b found.2) in
     omega arith

@@ -1,4 +1,5 @@
 pub mod Agreement
-pub mod Counts
+pub mod Derivations
+pub mod Indexes
 pub mod Loads
 pub mod Places

@@ -18,7 +18,7 @@ module _ {E : Type 0} (p : E → Bool) where
       go false h more = let q = more h in omega arith
 
   -- no entry, so that nothing changes and nothing is found
-  none_from : (f : E → E) (es : List E) (k : ℕ) → position_from p k es ≡ None → (first_changed p f es ≡ es) × (find p es ≡ None)
+  pub none_from : (f : E → E) (es : List E) (k : ℕ) → position_from p k es ≡ None → (first_changed p f es ≡ es) × (find p es ≡ None)
   none_from f [] k h = (refl, refl)
   none_from f (e ∷ es) k h = go (p e) h (none_from f es (k + 1))
     where

@@ -1,5 +1,6 @@
 pub mod Agreement
-pub mod Counted
 pub mod Database
+pub mod Derived
 pub mod Loads
+pub mod Statements
 pub mod View

@@ -2,7 +2,7 @@
 use Rattle.std.specs.Prelude.{map}
 use Rattle.tables.specs.Loading.{TableRows}
 use Rattle.value.specs.Names.{Name}
-use Rattle.store.specs.declared.store.Stored.{Stored}
+use Rattle.store.specs.declared.stored.Stored.{Stored}
 use Rattle.store.specs.declared.store.Store.TheInside.{Inside}
 use Rattle.store.specs.Database.{Database}
 

@@ -10,6 +10,8 @@
 
 mod laws;
 mod store;
+mod stored;
 
 pub use laws::law_tables_have_contents;
 pub use store::{Store, StoreError};
+pub use stored::column_number;

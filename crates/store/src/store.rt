@@ -3,10 +3,9 @@
 ghost use Rattle.std.specs.Prelude.{◌≡◌, List, IfOk, IfSome, IsErrOf, OnErr, OnOk, Some, ◌<◌, ◌-◌, None, is_some, length, option_map, slice_get, true};
 ghost use Rattle.std.specs.List.{position_from};
 ghost use Rattle.csv_records.specs.Left.{records_of};
-ghost use Rattle.memory.specs.Gives.{Gives};
 ghost use Rattle.stats.specs.Statistics.{table_stats};
 ghost use Rattle.stats.specs.View.{stats_of};
-ghost use Rattle.tables.specs.Loading.{Fields, StopsAfterGood, UnlessUnread, appended, reported};
+ghost use Rattle.tables.specs.Loading.{Fields, reported};
 ghost use Rattle.tables.specs.declared.TheConstants.{MAX_ROWS};
 ghost use Rattle.value.specs.Columns.{columns_of};
 ghost use Rattle.value.specs.Names.{Name};
@@ -15,14 +14,16 @@ ghost use Rattle.row_ast.specs.View.{statement_of};
 ghost use Rattle.catalog.specs.Catalog.{is_table};
 ghost use Rattle.catalog.specs.Changes.{takes_no_memory, IsChange, IsExactChange};
 ghost use Rattle.store.specs.Agreement.{Agrees};
-ghost use Rattle.store.specs.Counted.{IsCounted, first_rows};
-ghost use Rattle.store.specs.Database.{at_start, changed_database, contents_named, empty_table, is_named};
-ghost use Rattle.store.specs.Loads.{IsLoad, IsLoadFrom, LoadStops, due_rows, store_failure, store_result};
-ghost use Rattle.store.specs.View.{stored_of};
+ghost use Rattle.store.specs.Derived.{HasIndexes};
+ghost use Rattle.store.specs.Database.{at_start, changed_database, contents_named, is_named};
+ghost use Rattle.store.specs.Statements.{new_index_of};
+ghost use Rattle.store.specs.Loads.{IsLoad, IsLoadFrom, LoadStops, store_failure, store_result};
 
+use crate::stored::{Stored, new_table};
 use catalog::Catalog;
 use csv_records::Records;
-use memory::{Failure, Heap, Items, Text};
+use indexes::IndexRows;
+use memory::{Failure, Heap};
 use row_ast::Statement;
 use stats::Stats;
 use std::alloc::AllocError;
@@ -30,18 +31,11 @@ use std::io::Read;
 use std::marker::Model;
 use tables::{LoadError, Table};
 use thiserror::Error;
-use value::{Column, Refusal, copy_columns};
-
-// A table's name and contents, and the statistics of its contents.
-#[derive(Drop)]
-struct Stored<A: Heap> {
-    name: Text<A>,
-    contents: Table<A>,
-    statistics: Stats<A>,
-}
+use value::{Column, Refusal};
 
 /// A catalogue with the contents of its tables: those at each index have the name and the columns of the table at that
-/// index of the catalogue. Beside the contents of each table stand its statistics, which a load makes anew.
+/// index of the catalogue. Beside the contents of each table stand its statistics and
+/// its indexes, one for each of the catalogue, which a load derives anew.
 #[derive(Drop)]
 pub struct Store<A: Heap> {
     alloc: A,
@@ -64,7 +58,7 @@ impl<A: Heap> Model for Store<A> {
 
     ghost view = { database_of };
 
-    ghost use Rattle.store.specs.Counted.{IsHeld};
+    ghost use Rattle.store.specs.Derived.{IsHeld};
 
     ghost invariant = { IsHeld };
 }
@@ -87,86 +81,6 @@ fn store_failure(failure: Failure<LoadError>) -> Failure<StoreError>
     match failure {
         Failure::Error(error) => Failure::Error(StoreError::Data(error)),
         Failure::OutOfMemory => Failure::OutOfMemory,
-    }
-}
-
-// A new table, with no rows.
-fn new_table<A: Heap>(alloc: A, name: &str, columns: &[Column<A>]) -> Result<Stored<A>, AllocError>
-    ensures stored { IfOk result (λ t. stored_of t ≡ (name.now, empty_table (columns_of columns.now))) }
-    ensures counted { IfOk result (λ t. IsCounted t) }
-{
-    let columns = copy_columns(alloc, columns)?;
-    let name = Text::new(alloc, name)?;
-    let contents = Table::new(alloc, columns);
-    let statistics = Stats::of(alloc, &contents)?;
-    Ok(Stored {
-        name,
-        contents,
-        statistics,
-    })
-}
-
-impl<A: Heap> Stored<A> {
-    // Makes the statistics anew, after rows were added; where memory runs out, drops the rows from a number on.
-    fn count_anew(&mut self, alloc: A, before: u64) -> Result<(), AllocError>
-        requires { stats_of self.old.statistics ≡ table_stats (first_rows before self.old.contents) }
-        ensures name { self.new.name ≡ self.old.name }
-        ensures counted { IsCounted self.new }
-        ensures ok { OnOk result (self.new.contents ≡ self.old.contents) }
-        ensures err { OnErr result (self.new.contents ≡ first_rows before self.old.contents) }
-    {
-        match Stats::of(alloc, &self.contents) {
-            Ok(statistics) => {
-                self.statistics = statistics;
-                Ok(())
-            }
-            Err(error) => {
-                self.contents.truncate(before);
-                Err(error)
-            }
-        }
-    }
-
-    // Adds the rows that a reader gives, as the table does.
-    fn append<R: Read + Drop>(&mut self, alloc: A, reader: R) -> Result<(), Failure<LoadError>>
-        requires { IsCounted self.old }
-        ensures name { self.new.name ≡ self.old.name }
-        ensures counted { IsCounted self.new }
-        ensures columns { self.new.contents.columns ≡ self.old.contents.columns }
-        ensures unchanged { OnErr result (self.new.contents ≡ self.old.contents) }
-        ensures exact { IfSome (R.remaining reader) (λ bytes. UnlessUnread result (Gives (λ _. self.new.contents.rows) result (appended self.old.contents.rows (due_rows self.old.contents (records_of bytes))))) }
-        ensures some_records { UnlessUnread result ((recs : List Fields) × Gives (λ _. self.new.contents.rows) result (appended self.old.contents.rows (due_rows self.old.contents recs))) }
-        ensures stops { IfSome (R.remaining reader) (λ bytes. StopsAfterGood self.old.contents.columns (MAX_ROWS - length self.old.contents.rows) (records_of bytes) result) }
-    {
-        let before = self.contents.rows();
-        self.contents.append(reader)?;
-        self.count_anew(alloc, before)?;
-        Ok(())
-    }
-
-    // Adds the rows of records, as the table does.
-    fn append_records<R: Read>(
-        &mut self,
-        alloc: A,
-        records: &mut Records<R>,
-    ) -> Result<(), Failure<LoadError>>
-        requires counted { IsCounted self.old }
-        requires expected { records.old.expected ≡ None }
-        requires given { records.old.given ≡ 0 }
-        requires fresh { records.old.failure ≡ None }
-        ensures name { self.new.name ≡ self.old.name }
-        ensures counted { IsCounted self.new }
-        ensures columns { self.new.contents.columns ≡ self.old.contents.columns }
-        ensures unchanged { OnErr result (self.new.contents ≡ self.old.contents) }
-        ensures exact { records.new.failure ≡ None → IfSome records.old.records (λ recs. Gives (λ _. self.new.contents.rows) result (appended self.old.contents.rows (due_rows self.old.contents recs))) }
-        ensures some_records { records.new.failure ≡ None → (recs : List Fields) × Gives (λ _. self.new.contents.rows) result (appended self.old.contents.rows (due_rows self.old.contents recs)) × OnOk result (length recs ≡ records.new.given) }
-        ensures failed { IfSome records.new.failure (λ why. IsErrOf result (reported why records.new.given)) }
-        ensures stops { IfSome records.old.records (λ recs. StopsAfterGood self.old.contents.columns (MAX_ROWS - length self.old.contents.rows) recs result) }
-    {
-        let before = self.contents.rows();
-        self.contents.append_records(records)?;
-        self.count_anew(alloc, before)?;
-        Ok(())
     }
 }
 
@@ -229,6 +143,33 @@ impl<A: Heap> Store<A> {
         }
     }
 
+    // The index of a CREATE INDEX, of the rows of its table; a refused one makes none.
+    fn add_index(
+        &mut self,
+        actor: &str,
+        statement: &Statement<A>,
+        table: &str,
+        column: &str,
+    ) -> Result<(), Refusal>
+        requires { new_index_of (statement_of statement.now) ≡ Some (table.now, column.now) }
+        ensures { IsChange self.old self.new (changed_database self.old actor.now (statement_of statement.now)) result }
+    {
+        let Some(index) = self.table_index(table) else {
+            return self.catalog.apply(actor, statement);
+        };
+        let before = self.tables[index].indexes.len();
+        match self.tables[index].add_index(self.alloc, column) {
+            Err(_) => Err(Refusal::OutOfMemory),
+            Ok(()) => match self.catalog.apply(actor, statement) {
+                Ok(()) => Ok(()),
+                Err(code) => {
+                    self.tables[index].truncate_indexes(before);
+                    Err(code)
+                }
+            },
+        }
+    }
+
     /// Applies a schema statement of an actor; a new table has no rows. It is refused by the first of its checks that
     /// fails, as `Refusal::DuplicateTable` (42P07) where a table of that name is there, or where memory runs out
     /// (53200), and a refused statement changes nothing. A schema text is applied by `store.change("root",
@@ -240,6 +181,9 @@ impl<A: Heap> Store<A> {
         match statement {
             Statement::CreateTable { name, columns } => {
                 self.add_table(actor, statement, name.as_str(), columns.as_slice())
+            }
+            Statement::CreateIndex { table, column, .. } => {
+                self.add_index(actor, statement, table.as_str(), column.as_str())
             }
             _ => self.catalog.apply(actor, statement),
         }
@@ -271,6 +215,15 @@ impl<A: Heap> Store<A> {
     {
         let index = self.table_index(name).unwrap();
         &self.tables[index].statistics
+    }
+
+    /// The indexes of a table of the catalogue: the numbers of its rows in the order of each column that has an index.
+    pub fn indexes(&self, name: &str) -> &[IndexRows<A>]
+        requires { is_table self.now.catalog name.now ≡ true }
+        ensures { HasIndexes self.now name.now result.now }
+    {
+        let index = self.table_index(name).unwrap();
+        &self.tables[index].indexes
     }
 
     /// The name of the table at an index, in order of creation.

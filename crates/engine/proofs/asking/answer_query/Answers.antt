@@ -2,6 +2,7 @@ use Rattle.std.proofs.Common.{sym, ap, ◌∙◌}
 use Rattle.row_ast.specs.View.{query_of}
 use Rattle.resolve.specs.View.{bound_of}
 use Rattle.analysis.specs.View.{admitted_of}
+use Rattle.engine.proofs.Few.{admitted_few}
 use Rattle.engine.proofs.Tables.{admitted_entries, admitted_tables}
 use Rattle.engine.proofs.asking.answer_query.Goals as goal
 
@@ -18,4 +19,9 @@ answer_bound-requires-clause-tables g c =
 pub answer_bound-requires-clause-from : goal.answer_bound-requires-clause-from
 answer_bound-requires-clause-from g c =
     let admitted = (rw c.catalog.ensures.catalog at c.in_ok-bound.ensures) in
-    admitted_entries c.args.store.now.catalog c.args.role.now (query_of c.args.query.now) (bound_of c.in-Ok.bound) c.requires (sym admitted ∙ ap admitted_of c.in-Ok.is)
+    admitted_entries c.args.store.now.catalog c.args.role.now (query_of c.args.query.now) (bound_of c.in-Ok.bound) c.requires.from (sym admitted ∙ ap admitted_of c.in-Ok.is)
+
+pub answer_bound-requires-clause-few : goal.answer_bound-requires-clause-few
+answer_bound-requires-clause-few g c =
+    let admitted = (rw c.catalog.ensures.catalog at c.in_ok-bound.ensures) in
+    admitted_few c.args.store.now.catalog c.args.role.now (query_of c.args.query.now) (bound_of c.in-Ok.bound) c.requires.small (sym admitted ∙ ap admitted_of c.in-Ok.is)

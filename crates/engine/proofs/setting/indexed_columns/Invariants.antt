@@ -1,6 +1,6 @@
 use Rattle.std.proofs.Common.{◌≡◌, ◌++◌, drop, map}
 use Rattle.row_objects.specs.View.{index_of}
-use Rattle.engine.specs.Settings.{indexed_columns}
+use Rattle.store.specs.Derived.{indexed_columns}
 use Rattle.engine.proofs.setting.indexed_columns.Given as goal
 
 abbrev pub invariant-loop-index : goal.invariant-loop-index

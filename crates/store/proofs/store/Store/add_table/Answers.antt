@@ -4,9 +4,10 @@ use Rattle.value.specs.declared.refusal.Refusal.TheVariants.{OutOfMemory}
 use Rattle.row_ast.specs.View.{statement_of}
 use Rattle.catalog.specs.Changes.{changed}
 use Rattle.store.specs.View.{stored_of}
-use Rattle.store.specs.Counted.{IsCounted}
+use Rattle.store.specs.Derived.{IsDerived}
 use Rattle.store.proofs.Agreement.{new_agrees}
-use Rattle.store.proofs.Counts.{still_held}
+use Rattle.store.proofs.Derivations.{still_held}
+use Rattle.store.proofs.Indexes.{indexes_added}
 use Rattle.store.proofs.Loads.{same_database, still_refused, taken_back}
 use Rattle.store.proofs.store.Store.add_table.Goals as goal
 
@@ -31,5 +32,6 @@ pub invariant_of-self-in-Ok-apply : goal.invariant_of-self-in-Ok-apply
 invariant_of-self-in-Ok-apply g c =
     let pushed : c.push.new.self.items ≡ c.self.inside.tables.items ++ c.in-Ok.table ∷ [] = search rules in record {
       agrees = new_agrees (λ t. stored_of t) c.self.inside.tables.items _ c.in-Ok.table c.self.inside.catalog _ c.args.actor.now c.args.name.now (statement_of c.args.statement.now) _ pushed c.in-Ok.ensures.stored c.requires c.in-Ok-apply.ensures.change c.self.invariant.agrees;
-      counted = All-same (λ t. IsCounted t) _ _ pushed (All-push (λ t. IsCounted t) c.self.inside.tables.items c.in-Ok.table c.self.invariant.counted c.in-Ok.ensures.counted);
+      derived = All-same (λ t. IsDerived t) _ _ pushed (All-push (λ t. IsDerived t) c.self.inside.tables.items c.in-Ok.table c.self.invariant.derived c.in-Ok.ensures.derived);
+      indexed = indexes_added c.self.inside.tables.items c.push.new.self.items c.in-Ok.table c.self.inside.catalog _ c.args.actor.now c.args.name.now (statement_of c.args.statement.now) _ pushed c.in-Ok.ensures.indexes c.requires c.in-Ok-apply.ensures.change c.self.invariant.indexed;
     }

@@ -2,9 +2,9 @@ use Rattle.std.proofs.Common.{Result, Ok, Err, OnErr, ap, ap₂, refl, ◌∙◌
 use Rattle.std.proofs.lemmas.List.Elements.{All-set}
 use Rattle.std.proofs.Math.Seq.{map-set_same}
 use Rattle.store.specs.View.{stored_of}
-use Rattle.store.specs.Counted.{IsCounted}
+use Rattle.store.specs.Derived.{IsDerived, kept_columns}
 use Rattle.store.proofs.Agreement.{columns_kept}
-use Rattle.store.proofs.Counts.{counted_at, entry_of, index_within}
+use Rattle.store.proofs.Derivations.{derived_at, entry_of, index_within}
 use Rattle.store.proofs.Loads.{loaded_from, same_database}
 use Rattle.store.proofs.store.Store.append_at.Goals as goal
 
@@ -13,12 +13,13 @@ on_err (Ok x) P Q f h = tt
 on_err (Err e) P Q f h = f h
 
 pub append-requires : goal.append-requires
-append-requires g c = counted_at c.self.inside.tables.items c.args.index c.index_mut.result.now (index_within c.self.inside c.args.self.now c.args.index c.self.view_is c.requires) c.index_mut.ensures.value c.self.invariant.counted
+append-requires g c = derived_at c.self.inside.tables.items c.args.index c.index_mut.result.now (index_within c.self.inside c.args.self.now c.args.index c.self.view_is c.requires) c.index_mut.ensures.value c.self.invariant.derived
 
 pub invariant_of-self : goal.invariant_of-self
 invariant_of-self g c = record {
   agrees = columns_kept (λ e. stored_of e) c.self.inside.tables.items c.args.index c.index_mut.result.now c.append.new.self c.index_mut.ensures.value c.append.ensures.name c.append.ensures.columns ∙ c.self.invariant.agrees;
-  counted = All-set (λ e. IsCounted e) c.self.inside.tables.items c.args.index c.append.new.self c.append.ensures.counted c.self.invariant.counted;
+  derived = All-set (λ e. IsDerived e) c.self.inside.tables.items c.args.index c.append.new.self c.append.ensures.derived c.self.invariant.derived;
+  indexed = map-set_same (λ e. kept_columns e.indexes.items) c.self.inside.tables.items c.args.index c.append.new.self c.index_mut.result.now (c.append.ensures.indexes ∙ ap (λ e. kept_columns e.indexes.items) c.index_mut.ensures.value) ∙ c.self.invariant.indexed;
 }
 
 pub returns-clause-unchanged : goal.returns-clause-unchanged

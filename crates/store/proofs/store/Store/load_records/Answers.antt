@@ -4,9 +4,9 @@ use Rattle.std.proofs.Math.Seq.{map-set_same}
 use Rattle.store.specs.Database.{is_named}
 use Rattle.store.specs.View.{stored_of}
 use Rattle.store.proofs.Places.{none_found}
-use Rattle.store.specs.Counted.{IsCounted}
+use Rattle.store.specs.Derived.{IsDerived, kept_columns}
 use Rattle.store.proofs.Agreement.{columns_kept}
-use Rattle.store.proofs.Counts.{counted_at, entry_of, index_within}
+use Rattle.store.proofs.Derivations.{derived_at, entry_of, index_within}
 use Rattle.store.proofs.Loads.{IfSome-all, IfSome-map, rows_loaded, fault_reported, same_database, stops_loaded}
 use Rattle.store.proofs.store.Store.load_records.Goals as goal
 use Rattle.store.proofs.store.Store.load_records.Goals.{in-Ok, in-Err}
@@ -48,14 +48,15 @@ returns-clause-stops g c =
       | in-Err w ↦ rw (← c.self.view_is, w.result-is, w.store_failure.ensures) (IfSome-map c.args.records.now.records _ _ (λ recs h. stops_loaded (λ e. stored_of e) c.args.table.now c.index_mut.result.now entries c.in-Some.i at c.index_mut.ensures.value recs (Err _) h) (rw w.in-Err.is at c.append_records.ensures.stops))
     ]
 
-pub append_records-requires-clause-counted : goal.append_records-requires-clause-counted
-append_records-requires-clause-counted g c =
-    counted_at c.self.inside.tables.items c.in-Some.i c.index_mut.result.now (index_within c.self.inside c.args.self.now c.in-Some.i c.self.view_is c.in-Some.ensures.within) c.index_mut.ensures.value c.self.invariant.counted
+pub append_records-requires-clause-derived : goal.append_records-requires-clause-derived
+append_records-requires-clause-derived g c =
+    derived_at c.self.inside.tables.items c.in-Some.i c.index_mut.result.now (index_within c.self.inside c.args.self.now c.in-Some.i c.self.view_is c.in-Some.ensures.within) c.index_mut.ensures.value c.self.invariant.derived
 
 pub invariant_of-self : goal.invariant_of-self
 invariant_of-self g c = record {
   agrees = columns_kept (λ e. stored_of e) c.self.inside.tables.items c.in-Some.i c.index_mut.result.now c.append_records.new.self c.index_mut.ensures.value c.append_records.ensures.name c.append_records.ensures.columns ∙ c.self.invariant.agrees;
-  counted = All-set (λ e. IsCounted e) c.self.inside.tables.items c.in-Some.i c.append_records.new.self c.append_records.ensures.counted c.self.invariant.counted;
+  derived = All-set (λ e. IsDerived e) c.self.inside.tables.items c.in-Some.i c.append_records.new.self c.append_records.ensures.derived c.self.invariant.derived;
+  indexed = map-set_same (λ e. kept_columns e.indexes.items) c.self.inside.tables.items c.in-Some.i c.append_records.new.self c.index_mut.result.now (c.append_records.ensures.indexes ∙ ap (λ e. kept_columns e.indexes.items) c.index_mut.ensures.value) ∙ c.self.invariant.indexed;
 }
 
 pub returns-clause-unchanged : goal.returns-clause-unchanged

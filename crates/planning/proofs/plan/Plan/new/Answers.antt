@@ -1,0 +1,35 @@
+use Rattle.std.proofs.Common.{◌≡◌, ◌≤◌, ◌∙◌, ◌++◌, true, ap, length, map, subst, sym}
+use Rattle.std.proofs.lemmas.List.{length-map}
+use Rattle.expr.specs.View.{bound_query_of, code_of}
+use Rattle.stats.specs.View.{stats_of}
+use Rattle.tuples.specs.View.{guard_of}
+use Rattle.row_terms.specs.Written.{written}
+use Rattle.trailcheck.specs.Admissible.{is_admissible}
+use Rattle.trailcheck.specs.Verdicts.{verdict}
+use Rattle.trailcheck.specs.View.{setting_of}
+use Rattle.trailcheck.specs.declared.verdict.Verdict.TheVariants.{Accepted}
+use Rattle.rewrite.specs.Laws.{most_entries, most_plan_steps}
+use Rattle.rewrite.specs.Placing.{placing}
+use Rattle.joindp.specs.Best.{IsLeast, Problem, estimates}
+use Rattle.joindp.specs.Cost as joindp
+use Rattle.planning.proofs.plan.Plan.new.Goals as goal
+
+pub invariant_of-result : goal.invariant_of-result
+invariant_of-result g c =
+    let q = bound_query_of c.args.query.now in
+    let at = setting_of c.args.setting.now in
+    let code = code_of c.in_ok-code.code in
+    let cost = c.in_ok-code.cost in
+    let found = c.in_ok-code.ensures in
+    let same = c.in_ok-problem.ensures ∙ ap (λ w. let p : Problem = record { setting = at; statistics = map (λ s. stats_of s.now) c.args.statistics.now; wanted = w } in p) c.wanted_column.ensures in
+    let admissible = subst (λ (p : Problem). is_admissible p.setting code ≡ true) same found.admissible in
+    let steps = c.in_ok-trail.ensures ∙ ap (λ l. l ++ placing at code) c.in_ok-simplified.ensures.trail in
+    let few : length at.frame ≤ most_entries = subst (λ n. n ≤ most_entries) (sym (length-map c.args.setting.now.frame (λ x. guard_of x))) c.requires.entries in
+    let laws = c.law_plans_are_accepted.ensures in
+    record {
+      admissible = admissible;
+      cost = subst (λ (p : Problem). cost ≡ joindp.cost (estimates p) code) same found.cost;
+      least = subst (λ (p : Problem). IsLeast p cost code) same found.least;
+      accepted = subst (λ l. verdict at (written (length at.frame) q) l code ≡ Accepted) (sym steps) (laws.accepted at q code c.requires.conditions few c.requires.conjuncts admissible);
+      short = subst (λ l. length l ≤ most_plan_steps) (sym steps) (laws.short at q code c.requires.conditions few c.requires.conjuncts admissible);
+    }

@@ -1,0 +1,105 @@
+//! The plan of a query.
+
+ghost use Rattle.std.specs.Prelude.{◌≡◌, ◌≤◌, IfOk, length, map};
+ghost use Rattle.expr.specs.Conjuncts.{movable_conjuncts};
+ghost use Rattle.expr.specs.View.{bound_query_of, code_of};
+ghost use Rattle.stats.specs.View.{stats_of};
+ghost use Rattle.algebra.specs.PlanningList.{planning_list};
+ghost use Rattle.algebra.specs.View.{step_of};
+ghost use Rattle.trailcheck.specs.View.{setting_of};
+ghost use Rattle.rewrite.specs.Laws.{most_conjuncts, most_entries};
+ghost use Rattle.planning.specs.Plans.{IsPlan};
+ghost use Rattle.planning.specs.Wanted as wanted;
+
+use crate::wanted::wanted_column;
+use algebra::Step;
+use expr::{BoundQuery, Code};
+use joindp::{Problem, search};
+use memory::{Heap, Items};
+use rewrite::{law_plans_are_accepted, place, simplify};
+use stats::Stats;
+use std::alloc::AllocError;
+use std::marker::Model;
+use trailcheck::Setting;
+
+/// The plan of a query: of the codes that it may have the least by cost, and the steps by which the checker accepts it.
+#[derive(Drop)]
+pub struct Plan<'p, A: Heap> {
+    query: &'p BoundQuery<A>,
+    setting: &'p Setting<A>,
+    statistics: &'p [&'p Stats<A>],
+    code: Code<A>,
+    cost: u128,
+    trail: Items<Step<A>, A>,
+}
+
+impl<'p, A: Heap> Model for Plan<'p, A> {
+    ghost use Rattle.planning.specs.Plans as spec;
+
+    ghost Value = { spec.Plan };
+
+    ghost use Rattle.std.specs.Prelude.{ℕ};
+    ghost use Rattle.std.specs.Coded.{codes, coded_ℕ};
+    ghost use Rattle.expr.specs.declared.movable_expr.MovableExpr as movable_expr;
+
+    ghost coded = { Prim.hlevel (codes, movable_expr.the_code ℕ coded_ℕ) };
+
+    ghost use Rattle.planning.specs.View.{plan_of};
+
+    ghost view = { plan_of };
+
+    ghost invariant = { λ p. spec.IsPlan (plan_of p) };
+}
+
+impl<'p, A: Heap> Plan<'p, A> {
+    /// The plan of a query under a setting with its planning list, by the statistics of each entry. It fails where memory runs out.
+    pub fn new(
+        alloc: A,
+        query: &'p BoundQuery<A>,
+        setting: &'p Setting<A>,
+        statistics: &'p [&'p Stats<A>],
+    ) -> Result<Plan<'p, A>, AllocError>
+        requires conditions { (setting_of setting.now).conditions ≡ planning_list (bound_query_of query.now) }
+        requires each { length statistics.now ≡ length setting.now.frame }
+        requires entries { length setting.now.frame ≤ most_entries }
+        requires conjuncts { length (movable_conjuncts (bound_query_of query.now)) ≤ most_conjuncts }
+        ensures query { IfOk result (λ p. p.query ≡ bound_query_of query.now) }
+        ensures problem { IfOk result (λ p. p.problem ≡ record { setting = setting_of setting.now; statistics = map (λ s. stats_of s.now) statistics.now; wanted = wanted.wanted_column (bound_query_of query.now) }) }
+    {
+        law_plans_are_accepted();
+        let problem = Problem::new(alloc, setting, statistics, wanted_column(query))?;
+        let (code, cost) = search(alloc, &problem)?;
+        let simplified = simplify(alloc, query)?;
+        let trail = place(alloc, setting, simplified.trail, &code)?;
+        Ok(Plan {
+            query,
+            setting,
+            statistics,
+            code,
+            cost,
+            trail,
+        })
+    }
+
+    /// The code: the least.
+    pub fn code(&self) -> &Code<A>
+        ensures code { code_of result.now ≡ self.now.code }
+        ensures plan { IsPlan self.now }
+    {
+        &self.code
+    }
+
+    /// The cost of the code, in steps of work.
+    pub fn cost(&self) -> u128
+        ensures { result ≡ self.now.cost }
+    {
+        self.cost
+    }
+
+    /// The steps from the written term of the query to the shape of the code.
+    pub fn trail(&self) -> &[Step<A>]
+        ensures { map (λ s. step_of s) result.now ≡ self.now.trail }
+    {
+        self.trail.as_slice()
+    }
+}
