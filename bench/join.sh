@@ -1,18 +1,28 @@
 #!/usr/bin/env bash
-# Measures how long `rowplan` takes for a join of two tables on a key, beside sqlite3 with and without its indexes.
-# usage: bench/join.sh [ROWS [RUNS]], with 1000 rows a table and 3 runs where nothing is said.
-# `rt` must be on the path. The program is proved and built first, if it is not yet.
+# Measures how long a join of two tables on a key takes by each method of the executor, beside sqlite3 with the index that it makes
+# itself and without. run_times makes the tables in memory and runs one code; sqlite3 imports the same tables into memory. `none` and
+# `import alone` join nothing, so the time of a join is the difference. Of at most 10000 rows both also run nested loops. `rowplan` is
+# asked too, which loads the tables, joins them by the least code and writes all rows.
+# usage: bench/join.sh [ROWS [RUNS]], with 100000 rows a table and 5 runs where nothing is said.
+# `rt` must be on the path. The programs are proved and built first, if they are not yet.
 set -eu
-rows=${1:-1000}
-runs=${2:-3}
+rows=${1:-100000}
+runs=${2:-5}
 . "$(dirname "$0")/measure.sh"
+run_times=$top/crates/run_times/out/run_times
+(cd "$top/crates/run_times" && rt run -- hash 100) > "$work/built"
+methods='hash merge merge-indexed'
+[ "$rows" -gt 10000 ] || methods="$methods nested"
+
 # The keys 1 to n, each once, in another order in each table: multiples of a number that has no divisor in common with n.
 make_table() {
-    awk -v n="$1" -v step="$2" -v name="$3" 'BEGIN {
-        print "id," name
-        for (i = 1; i <= n; i++) printf "%d,%s\n", (i * step) % n + 1, name i % 7
+    awk -v n="$1" -v step="$2" -v heading="$3" -v letter="$4" 'BEGIN {
+        print "id," heading
+        for (i = 1; i <= n; i++) printf "%d,%s\n", (i * step) % n + 1, letter i % 7
     }'
 }
+make_table "$rows" 7919 owner o > "$work/a.csv"
+make_table "$rows" 104729 name n > "$work/b.csv"
 
 # The policy of the first table shows the role `reader` every row, so that each is tested; `root` bypasses it.
 cat > "$work/schema.sql" <<'SQL'
@@ -25,8 +35,8 @@ GRANT SELECT ON a TO reader;
 GRANT SELECT ON b TO reader;
 SQL
 build
-make_table "$rows" 7919 owner > "$work/a.csv"
-make_table "$rows" 104729 name > "$work/b.csv"
+
+# The commands of sqlite3: the import alone, and with the join.
 if command -v sqlite3 > /dev/null; then
     cat > "$work/import.sql" <<SQL
 CREATE TABLE a (id INTEGER, owner TEXT);
@@ -34,23 +44,40 @@ CREATE TABLE b (id INTEGER, name TEXT);
 .import --csv --skip 1 $work/a.csv a
 .import --csv --skip 1 $work/b.csv b
 SQL
-    cp "$work/import.sql" "$work/plain.sql"
-    echo 'PRAGMA automatic_index = OFF;' >> "$work/plain.sql"
-    for file in import plain; do
-        echo 'SELECT a.id, b.name FROM a, b WHERE a.id = b.id ORDER BY 1, 2;' >> "$work/$file.sql"
-    done
+    count='SELECT count(*) FROM a, b WHERE a.id = b.id;'
+    { cat "$work/import.sql" && echo "$count"; } > "$work/indexed.sql"
+    { cat "$work/import.sql" && echo 'PRAGMA automatic_index = OFF;' && echo "$count"; } > "$work/nested.sql"
 fi
+
+# Fails unless the join that was measured last found each row of a once, of which it printed the number.
+found_all() {
+    read -r found _ < "$work/out"
+    [ "$found" = "$rows" ]
+}
+sqlite() {
+    measure "sqlite3, $1" sqlite3 -init "$work/$2.sql" :memory: .quit
+}
 ask() {
     measure "$1" "$rowplan" query --schema "$work/schema.sql" --dir "$work" --role "$2" "$3"
     [ "$(wc -l < "$work/out")" = $((rows + 1)) ]
 }
 echo "$rows rows in each of two tables"
-for run in $(seq "$runs"); do
+for _ in $(seq "$runs"); do
+    measure 'run_times, none' "$run_times" none "$rows"
+    for method in $methods; do
+        measure "run_times, $method" "$run_times" "$method" "$rows"
+        found_all
+    done
+    if [ -f "$work/import.sql" ]; then
+        sqlite 'import alone' import
+        sqlite 'with an index of its own' indexed
+        found_all
+        if [ "$rows" -le 10000 ]; then
+            sqlite 'by nested loops' nested
+            found_all
+        fi
+    fi
     ask 'rowplan, as root' root 'SELECT a.id, b.name FROM a, b WHERE a.id = b.id'
     ask 'rowplan, under a policy' reader 'SELECT a.id, b.name FROM a JOIN b ON a.id = b.id'
     ask 'rowplan, and a fragile condition' reader 'SELECT a.id, b.name FROM a JOIN b ON a.id = b.id WHERE a.id + b.id > 0'
-    if [ -f "$work/import.sql" ]; then
-        measure 'sqlite3, with an index of its own' sqlite3 -init "$work/import.sql" :memory: .quit
-        measure 'sqlite3, by nested loops' sqlite3 -init "$work/plain.sql" :memory: .quit
-    fi
 done
