@@ -2,11 +2,9 @@
 use Rattle.std.specs.Prelude.{◌≡◌, ◌⊎◌, ℕ, List, [], ◌∷◌, ◌++◌, map, Option, None, Some, Ok, Err, slice_get, ⊤}
 use Rattle.memory.specs.declared.failure.Failure as memory
 use Rattle.memory.specs.declared.failure.Failure.TheVariants as failure
-use Rattle.value.specs.Columns.{Column}
 use Rattle.tables.specs.Loading.{TableRows}
-use Rattle.tables.specs.declared.LoadError.{LoadError}
-use Rattle.tables.specs.declared.LoadError.TheVariants as load
 use Rattle.value.specs.Names.{Name}
+use Rattle.load_errors.specs.LoadErrors.{column_name}
 use Rattle.store.specs.declared.store.StoreError.TheVariants.{Data}
 use Rattle.store.specs.Database.{columns_in}
 use Rattle.store.specs.Loads.{IsLoadFrom}
@@ -16,18 +14,6 @@ use Rattle.setup.specs.declared.error.SetupError.TheVariants as fault
 -- the names of the tables, in order of creation
 abbrev pub names_of : List (Name × TableRows) → List Name
 names_of contents = map (λ entry. entry.0) contents
-
-abbrev pub name_at : Option Column → Name
-name_at None = []
-name_at (Some column) = column.name
-
--- the name of the column of an error; empty for an error of no column
-abbrev pub column_name : List Column → LoadError → Name
-column_name columns load.Header = []
-column_name columns (load.Reader row) = []
-column_name columns (load.Cell row index) = name_at (slice_get columns index)
-column_name columns (load.NotNull row index) = name_at (slice_get columns index)
-column_name columns load.TooMany = []
 
 -- each table in turn has the rows of its file, whose bytes may be known
 abbrev pub AreLoaded : (Name → Option (List ℕ)) → List Name → List (Name × TableRows) → List (Name × TableRows) → Type 0

@@ -1,19 +1,19 @@
 //! The rows of tables, from the files of a folder.
 
-ghost use Rattle.std.specs.Prelude.{◌≡◌, ◌<◌, ℕ, List, length, None, Option, Ok, IfErr, IfOk, OnErr, OnOk, slice_get, true};
-ghost use Rattle.value.specs.Columns.{columns_of};
+ghost use Rattle.std.specs.Prelude.{◌≡◌, ◌<◌, ℕ, List, length, None, Option, Ok, IfErr, IfOk, OnErr, OnOk, true};
 ghost use Rattle.catalog.specs.Catalog.{is_table};
+ghost use Rattle.load_errors.specs.LoadErrors.{column_name};
 ghost use Rattle.store.specs.Database.{columns_in};
 ghost use Rattle.store.specs.Loads.{IsLoadFrom};
-ghost use Rattle.setup.specs.Loads.{AreLoaded, IsErrorAt, IsErrorOf, IsLoadedAt, IsOfFile, IsRowFault, Knows, StopsAtTable, column_name, name_at, names_of};
+ghost use Rattle.setup.specs.Loads.{AreLoaded, IsErrorAt, IsErrorOf, IsLoadedAt, IsOfFile, IsRowFault, Knows, StopsAtTable, names_of};
 
 use crate::error::SetupError;
+use load_errors::column_name;
 use memory::{Failure, Heap, Text};
 use std::alloc::AllocError;
 use std::io::Read;
 use store::Store;
 use tables::LoadError;
-use value::Column;
 
 /// The files of tables.
 pub trait Folder<A: Heap> {
@@ -30,27 +30,6 @@ pub trait Folder<A: Heap> {
     fn open(&self, alloc: A, table: &str) -> Result<Self::File, Failure<SetupError<A>>>
         ensures bytes { IfOk result (λ file. Knows (bytes self.now table.now) (Self.File.remaining file)) }
         ensures fault { IfErr result (λ f. IsOfFile (path self.now table.now) f) };
-}
-
-fn name_at<A: Heap>(columns: &[Column<A>], index: u64) -> &str
-    ensures { result.now ≡ name_at (slice_get (columns_of columns.now) index) }
-{
-    match columns.get(index as usize) {
-        Some(column) => column.name.as_str(),
-        None => "",
-    }
-}
-
-// The name of the column of an error.
-fn column_name<A: Heap>(columns: &[Column<A>], error: LoadError) -> &str
-    ensures { result.now ≡ column_name (columns_of columns.now) error }
-{
-    match error {
-        LoadError::Cell { row: _, column } | LoadError::NotNull { row: _, column } => {
-            name_at(columns, column)
-        }
-        LoadError::Header | LoadError::Reader { .. } | LoadError::TooMany => "",
-    }
 }
 
 fn data_fault<A: Heap>(

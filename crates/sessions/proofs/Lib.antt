@@ -1,0 +1,3 @@
+pub mod Keys
+pub mod Loads
+pub mod Steps

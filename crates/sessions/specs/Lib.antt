@@ -1,0 +1,5 @@
+pub mod Events
+pub mod Reply
+pub mod State
+pub mod Taking
+pub mod View
