@@ -34,3 +34,10 @@ measure() {
     fi
     printf '%-34s %8s s wall %8s s user %8s s sys %8d KB at most\n' "$label" "$wall" "$user" "$sys" "$peak"
 }
+
+# The processor time of a command, in seconds. Status 4 is a denial.
+processor() {
+    local TIMEFORMAT='%3U %3S'
+    { time "$@" > "$work/out" 2> "$work/errors"; } 2> "$work/time" || [ $? = 4 ]
+    tail -n 1 "$work/time" | awk '{ printf "%.3f\n", $1 + $2 }'
+}

@@ -1,7 +1,9 @@
 //! Each request for memory refused in turn.
 
 use crate::stores::made;
-use fixture_stores::{DEALS, FixtureError, SCHEMA, audited, deals, load, served, store_of};
+use fixture_stores::{
+    DEALS, FixtureError, SCHEMA, audited, deals, explained, load, served, store_of,
+};
 use memory::{Failure, Heap};
 use metered::Metered;
 use output::Output;
@@ -12,44 +14,58 @@ use value::Refusal;
 
 const TEXT: &str = "SELECT id FROM deal WHERE id IN (1, 2) AND NOT owner = 'bob'";
 
-// A request of alice: a query, or a plan of it that is audited; what is written, and the status.
+// What is asked of a query: its rows, its plan, or the audit of a plan.
+#[derive(Clone, Copy)]
+enum Asked {
+    Rows,
+    Plan,
+    Audit(&'static str),
+}
+
+// A request of alice: a query, and what is asked of it; what is written, and the status.
 #[derive(Clone, Copy)]
 struct Request {
     text: &'static str,
-    plan: Option<&'static str>,
+    asked: Asked,
     written: &'static str,
     status: u8,
 }
 
-// Queries of one table, of a join with a cast and a fragile condition, of a fault, and of groups in an order; and an audit.
-static REQUESTS: [Request; 5] = [
+// Queries of one table, of a join with a cast and a fragile condition, of a fault, and of groups in an order; a plan, and an audit.
+static REQUESTS: [Request; 6] = [
     Request {
         text: TEXT,
-        plan: None,
+        asked: Asked::Rows,
         written: "id\n1\n2\n",
         status: 0,
     },
     Request {
         text: "SELECT CAST(d.id AS text) AS t, e.id + 1 AS n FROM deal d JOIN deal e ON d.id = e.id WHERE e.id * 1 > 0",
-        plan: None,
+        asked: Asked::Rows,
         written: "t,n\n1,2\n2,3\n",
         status: 0,
     },
     Request {
         text: "SELECT 1 / (d.id - 1) FROM deal d, deal e WHERE d.id = e.id",
-        plan: None,
+        asked: Asked::Rows,
         written: "fault 22012 at 9\n",
         status: 5,
     },
     Request {
         text: "SELECT owner, count(*), max(owner), sum(id) + 1 AS n FROM deal GROUP BY owner HAVING min(id) > 0 ORDER BY n DESC LIMIT 2",
-        plan: None,
+        asked: Asked::Rows,
         written: "owner,count,max,n\nalice,2,alice,4\n",
         status: 0,
     },
     Request {
+        text: "SELECT id FROM deal WHERE id = 3 ORDER BY id",
+        asked: Asked::Plan,
+        written: "cost 1700\nfilter 1 (deal.id = 3)\nfirst deal full\nsort deal.id\ntrail\n13 .\n14 .\n8 .\n",
+        status: 0,
+    },
+    Request {
         text: "SELECT id FROM deal WHERE id = 3",
-        plan: Some("cost 5\nfilter 1 (deal.id = 3)\nfirst deal full\ntrail\n8 .\n"),
+        asked: Asked::Audit("cost 5\nfilter 1 (deal.id = 3)\nfirst deal full\ntrail\n8 .\n"),
         written: "accepted\n",
         status: 0,
     },
@@ -84,9 +100,10 @@ struct Tried {
 
 // The status and the bytes of a request.
 fn answered<A: Heap>(alloc: A, store: &Store<A>, asked: Request) -> (u8, Output<Vec<u8>>) {
-    match asked.plan {
-        Some(plan) => audited(alloc, store, "alice", asked.text, plan.as_bytes()),
-        None => served(alloc, store, "alice", asked.text),
+    match asked.asked {
+        Asked::Rows => served(alloc, store, "alice", asked.text),
+        Asked::Plan => explained(alloc, store, "alice", asked.text),
+        Asked::Audit(plan) => audited(alloc, store, "alice", asked.text, plan.as_bytes()),
     }
 }
 
@@ -129,7 +146,7 @@ fn reply_or_refusal_of_memory(rt: &(impl Abort + AllocGlobal), asked: Request) {
         refused = n;
     }
     assert!(rt; refused > 5, "{refused}");
-    assert!(rt; refused < 200, "{refused}");
+    assert!(rt; refused < 400, "{refused}");
 }
 
 // The failure of a refused request where a store is made.

@@ -20,7 +20,7 @@ pub enum QueryText<'a> {
     File(&'a str),
 }
 
-/// The arguments of `rowplan query`.
+/// The arguments of `rowplan query` and `rowplan explain`.
 #[derive(Clone, Copy)]
 pub struct QueryArguments<'a> {
     /// The path of the schema text, or `-` for standard input.
@@ -53,6 +53,8 @@ pub struct VerifyArguments<'a> {
 pub enum Request<'a> {
     /// The reply to a query.
     Query(QueryArguments<'a>),
+    /// The plan of a query.
+    Explain(QueryArguments<'a>),
     /// The audit of a plan of a query.
     Verify(VerifyArguments<'a>),
     /// The codes of refusals and faults with their meaning.
@@ -129,6 +131,13 @@ fn query_command<'a>(alloc: Global) -> Result<Command<'a>, AllocError> {
         .args(words)
 }
 
+fn explain_command<'a>(alloc: Global) -> Result<Command<'a>, AllocError> {
+    let words = query_words(alloc)?;
+    Command::new(alloc, "explain")
+        .about("Writes the plan by which a role's query is answered")
+        .args(words)
+}
+
 fn verify_command<'a>(alloc: Global) -> Result<Command<'a>, AllocError> {
     let words = verify_words(alloc)?;
     Command::new(alloc, "verify")
@@ -138,6 +147,7 @@ fn verify_command<'a>(alloc: Global) -> Result<Command<'a>, AllocError> {
 
 fn command<'a>(alloc: Global) -> Result<Command<'a>, AllocError> {
     let query = query_command(alloc)?;
+    let explain = explain_command(alloc)?;
     let verify = verify_command(alloc)?;
     let codes = "Lists the codes of refusals and faults with their meaning";
     let program = Command::new(alloc, "rowplan")
@@ -146,6 +156,7 @@ fn command<'a>(alloc: Global) -> Result<Command<'a>, AllocError> {
         .subcommand_required(true)
         .after_help(EXAMPLE)
         .subcommand(query)?
+        .subcommand(explain)?
         .subcommand(verify)?;
     program.subcommand(Command::new(alloc, "codes").about(codes))
 }
@@ -205,7 +216,8 @@ fn is_input(text: QueryText<'_>) -> bool {
 // True where the request would read standard input twice.
 fn is_input_twice(request: &Request<'_>) -> bool {
     match request {
-        Request::Query(query) => query.schema == "-" && is_input(query.text),
+        Request::Query(query) | Request::Explain(query) => query.schema == "-"
+            && is_input(query.text),
         Request::Verify(audit) => {
             let schema = audit.schema == "-";
             let plan = audit.plan == "-";
@@ -223,6 +235,12 @@ fn request_of<'a>(matches: &ArgMatches<'a>) -> Option<Request<'a>> {
     if let Some(found) = matches.subcommand_matches("verify") {
         return match verify_arguments(found) {
             Some(arguments) => Some(Request::Verify(arguments)),
+            None => None,
+        };
+    }
+    if let Some(found) = matches.subcommand_matches("explain") {
+        return match query_arguments(found) {
+            Some(arguments) => Some(Request::Explain(arguments)),
             None => None,
         };
     }

@@ -1,5 +1,7 @@
 pub mod Admitted
+pub mod ExplainedTexts
 pub mod Few
+pub mod FewConjuncts
 pub mod HiddenRows
 pub mod Indexes
 pub mod Judging

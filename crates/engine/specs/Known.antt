@@ -6,10 +6,6 @@ use Rattle.tuples.specs.Guards as guards
 use Rattle.tuples.specs.Guards.{Guard}
 use Rattle.stats.specs.Statistics.{Stats, Unknown, table_stats}
 use Rattle.store.specs.Database.{Database, contents_named}
-use Rattle.expr.specs.Codes.{Code}
-use Rattle.trailcheck.specs.Settings.{Setting}
-use Rattle.joindp.specs.Best.{IsLeast, Problem, estimates}
-use Rattle.joindp.specs.Cost.{cost}
 
 abbrev pub stats_held : Option Stats → Stats
 stats_held None = Unknown
@@ -30,13 +26,3 @@ abbrev pub known_statistics : Database → List Entry → List Guard → List St
 known_statistics database [] guards = []
 known_statistics database (e ∷ entries) [] = []
 known_statistics database (e ∷ entries) (g ∷ guards) = known_behind g (statistics_in database e.table.name) ∷ known_statistics database entries guards
-
--- ---- the code
-
--- the codes of a query whose rows are wanted in no order
-abbrev pub unordered : Setting → List Stats → Problem
-unordered at statistics = record { setting = at; statistics = statistics; wanted = None }
-
--- no code that a plan may have comes before it, by cost and then by its numbers
-abbrev pub IsLeastCode : Setting → List Stats → Code → Type 0
-IsLeastCode at statistics code = IsLeast (unordered at statistics) (cost (estimates (unordered at statistics)) code) code

@@ -1,5 +1,6 @@
 pub mod Answer
 pub mod Audits
+pub mod Explained
 pub mod Guarded
 pub mod Held
 pub mod Hidden

@@ -3,7 +3,9 @@
 ghost use Rattle.std.specs.Prelude.{◌≡◌, ◌<◌, ◌≤◌, ℕ, List, None, Some, IfOk, length, true};
 ghost use Rattle.value.specs.Names.{Name};
 ghost use Rattle.row_ast.specs.View.{query_of};
+ghost use Rattle.expr.specs.Conjuncts.{movable_conjuncts};
 ghost use Rattle.expr.specs.View.{bound_items_of};
+ghost use Rattle.rewrite.specs.Laws.{most_conjuncts, most_entries};
 ghost use Rattle.resolve.specs.EntryTables.{AreTables};
 ghost use Rattle.resolve.specs.View.{bound_of};
 ghost use Rattle.catalog.specs.Catalog.{Catalog};
@@ -48,7 +50,8 @@ fn answer_bound<A: Heap>(
 ) -> Result<Reply<A>, AllocError>
     requires tables { AreTables store.now.catalog (bound_of bound.now).entries }
     requires from { 0 < length (bound_of bound.now).entries }
-    requires few { length (bound_of bound.now).entries ≤ 8 }
+    requires few { length (bound_of bound.now).entries ≤ most_entries }
+    requires conjuncts { length (movable_conjuncts (bound_of bound.now).query) ≤ most_conjuncts }
     ensures { IfOk result (λ reply. reply_of reply ≡ answer_reply store.now.catalog (rows_of store.now) role.now (bound_of bound.now)) }
 {
     match answer_rows(alloc, store, role, bound) {

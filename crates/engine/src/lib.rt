@@ -15,6 +15,7 @@
 mod answer;
 mod asking;
 mod auditing;
+mod explaining;
 mod known;
 mod setting;
 mod verifying;
@@ -22,6 +23,8 @@ mod writing;
 
 pub use analysis::refusal;
 pub use asking::{ask, law_each_table_is_held, law_refusals_read_no_row};
+pub use explaining::{explain, law_known_statistics};
+pub use planning::Plan;
 pub use store::{Store, StoreError};
 pub use verifying::verify;
 pub use writing::{law_hidden_rows, serve};

@@ -17,6 +17,6 @@ pub use rows::{Asked, Mismatch, answered};
 pub use sales_store::{SALES, SALES_DEALS, SALES_REGIONS, sales};
 pub use scripts::run_script;
 pub use stores::{
-    DEALS, FLAGS, FixtureError, OPEN, SCHEMA, apply, audited, contents, deals, load, served,
-    store_of,
+    DEALS, FLAGS, FixtureError, OPEN, SCHEMA, apply, audited, contents, deals, explained, load,
+    served, store_of,
 };

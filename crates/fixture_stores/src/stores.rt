@@ -1,6 +1,6 @@
 //! The store of the worked rows, and the making and asking of stores.
 
-use engine::{serve, verify};
+use engine::{explain, serve, verify};
 use memory::{Failure, Heap, boxed};
 use output::Output;
 use row_ast::Statement;
@@ -110,6 +110,21 @@ pub fn served<A: Heap>(
         failed: 0,
     };
     let status = serve(alloc, store, role, text, &mut out);
+    (status, out)
+}
+
+/// The status of what explains a role's text, and the bytes that were written.
+pub fn explained<A: Heap>(
+    alloc: A,
+    store: &Store<A>,
+    role: &str,
+    text: &str,
+) -> (u8, Output<Vec<u8>>) {
+    let mut out = Output {
+        inner: Vec::new(alloc.global()),
+        failed: 0,
+    };
+    let status = explain(alloc, store, role, text, &mut out);
     (status, out)
 }
 

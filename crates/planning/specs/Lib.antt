@@ -1,3 +1,5 @@
+pub mod Best
+pub mod LastSort
 pub mod Plans
 pub mod View
 pub mod Wanted

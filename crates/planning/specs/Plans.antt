@@ -1,5 +1,5 @@
 -- The plan of a query.
-use Rattle.std.specs.Prelude.{◌≡◌, ◌≤◌, ℕ, true, List, length}
+use Rattle.std.specs.Prelude.{◌≡◌, ◌≤◌, ℕ, true, List, ◌++◌, length, Some}
 use Rattle.expr.specs.BoundQuery.{BoundQuery}
 use Rattle.expr.specs.Codes.{Code}
 use Rattle.row_terms.specs.Written.{written}
@@ -8,8 +8,11 @@ use Rattle.trailcheck.specs.Admissible.{is_admissible}
 use Rattle.trailcheck.specs.Verdicts.{verdict}
 use Rattle.trailcheck.specs.declared.verdict.Verdict.TheVariants.{Accepted}
 use Rattle.rewrite.specs.Laws.{most_plan_steps}
-use Rattle.joindp.specs.Best.{IsLeast, Problem, estimates}
+use Rattle.rewrite.specs.Placing.{placing}
+use Rattle.rewrite.specs.Simplifying.{simplifying}
+use Rattle.joindp.specs.Best.{Problem, estimates}
 use Rattle.joindp.specs.Cost as joindp
+use Rattle.planning.specs.Best.{best}
 
 -- what a query is planned with, and its code with its cost and trail
 pub record Plan : Type 0 where
@@ -19,10 +22,11 @@ pub record Plan : Type 0 where
   pub code : Code
   pub trail : List Step
 
--- the code is the least of those that a plan may have, and the checker accepts the trail
+-- the code is the best of those that a plan may have, and the checker accepts the trail, which query, setting and code settle
 pub record IsPlan (p : Plan) : Type 0 where
   pub admissible : is_admissible p.problem.setting p.code ≡ true
   pub cost : p.cost ≡ joindp.cost (estimates p.problem) p.code
-  pub least : IsLeast p.problem p.cost p.code
+  pub best : best p.problem ≡ Some p.code
+  pub steps : p.trail ≡ simplifying p.query ++ placing p.problem.setting p.code
   pub accepted : verdict p.problem.setting (written (length p.problem.setting.frame) p.query) p.trail p.code ≡ Accepted
   pub short : length p.trail ≤ most_plan_steps

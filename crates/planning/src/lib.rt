@@ -1,8 +1,9 @@
-//! The plan of a query: its least code, and the trail by which the checker accepts it.
+//! The plan of a query: its best code, and the trail by which the checker accepts it.
 #![tactic(auto)]
 
+mod last_sort;
 mod plan;
 mod wanted;
 
-pub use plan::Plan;
+pub use plan::{Plan, law_least_is_best};
 pub use wanted::wanted_column;

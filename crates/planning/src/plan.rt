@@ -8,12 +8,15 @@ ghost use Rattle.algebra.specs.PlanningList.{planning_list};
 ghost use Rattle.algebra.specs.View.{step_of};
 ghost use Rattle.trailcheck.specs.View.{setting_of};
 ghost use Rattle.rewrite.specs.Laws.{most_conjuncts, most_entries};
+ghost use Rattle.planning.specs.Best.{LeastIsBest};
+ghost use Rattle.planning.specs.LastSort as sorting;
 ghost use Rattle.planning.specs.Plans.{IsPlan};
 ghost use Rattle.planning.specs.Wanted as wanted;
 
+use crate::last_sort::last_sort;
 use crate::wanted::wanted_column;
 use algebra::Step;
-use expr::{BoundQuery, Code};
+use expr::{BoundQuery, Code, ColumnId};
 use joindp::{Problem, search};
 use memory::{Heap, Items};
 use rewrite::{law_plans_are_accepted, place, simplify};
@@ -22,7 +25,13 @@ use std::alloc::AllocError;
 use std::marker::Model;
 use trailcheck::Setting;
 
-/// The plan of a query: of the codes that it may have the least by cost, and the steps by which the checker accepts it.
+/// A code before which none comes, by cost and then by its numbers, is the best of all that a plan may have.
+#[tactic(auto, using(crate::proofs::Bests::least_is_best))]
+pub fn law_least_is_best()
+    ensures { LeastIsBest }
+{}
+
+/// The plan of a query: of the codes that it may have the best by cost, and the steps by which the checker accepts it.
 #[derive(Drop)]
 pub struct Plan<'p, A: Heap> {
     query: &'p BoundQuery<A>,
@@ -67,6 +76,7 @@ impl<'p, A: Heap> Plan<'p, A> {
         ensures problem { IfOk result (λ p. p.problem ≡ record { setting = setting_of setting.now; statistics = map (λ s. stats_of s.now) statistics.now; wanted = wanted.wanted_column (bound_query_of query.now) }) }
     {
         law_plans_are_accepted();
+        law_least_is_best();
         let problem = Problem::new(alloc, setting, statistics, wanted_column(query))?;
         let (code, cost) = search(alloc, &problem)?;
         let simplified = simplify(alloc, query)?;
@@ -81,7 +91,7 @@ impl<'p, A: Heap> Plan<'p, A> {
         })
     }
 
-    /// The code: the least.
+    /// The code: the best.
     pub fn code(&self) -> &Code<A>
         ensures code { code_of result.now ≡ self.now.code }
         ensures plan { IsPlan self.now }
@@ -91,7 +101,8 @@ impl<'p, A: Heap> Plan<'p, A> {
 
     /// The cost of the code, in steps of work.
     pub fn cost(&self) -> u128
-        ensures { result ≡ self.now.cost }
+        ensures cost { result ≡ self.now.cost }
+        ensures plan { IsPlan self.now }
     {
         self.cost
     }
@@ -101,5 +112,20 @@ impl<'p, A: Heap> Plan<'p, A> {
         ensures { map (λ s. step_of s) result.now ≡ self.now.trail }
     {
         self.trail.as_slice()
+    }
+
+    /// The column by which the combinations of the code are sorted in the end: the wanted one, unless they come in its order.
+    pub fn last_sort(&self) -> Option<ColumnId>
+        ensures { result ≡ sorting.last_sort self.now.problem self.now.code }
+    {
+        last_sort(self.setting, &self.code, wanted_column(self.query))
+    }
+
+    /// The code and the trail, moved out.
+    pub fn into_parts(self) -> (Code<A>, Items<Step<A>, A>)
+        ensures code { code_of result.0 ≡ self.entry.code }
+        ensures trail { map (λ s. step_of s) result.1 ≡ self.entry.trail }
+    {
+        (self.code, self.trail)
     }
 }

@@ -6,7 +6,7 @@ mod files;
 
 use command_line::{QueryArguments, QueryText, Request, VerifyArguments, read_arguments};
 use diagnostics::codes_text;
-use engine::verify;
+use engine::{explain, verify};
 use failure::{ProgramError, print_error};
 use files::{Directory, read_bytes, read_text};
 use memory::Failure;
@@ -43,12 +43,20 @@ fn query_text(
     }
 }
 
-// Writes the reply to standard output, the diagnostics of a refusal to standard error where they are asked for, and
-// returns the status of the reply.
+// What is asked of a query: its rows, or its plan.
+#[derive(Clone, Copy)]
+enum Asked {
+    Rows,
+    Plan,
+}
+
+// Writes the reply or the plan to standard output, the diagnostics of a refusal to standard error where they are asked for,
+// and returns the status.
 fn write_reply(
     rt: &HostRuntime,
     alloc: Global,
     store: &Store<Global>,
+    asked: Asked,
     arguments: &Arguments<'_>,
     explains: bool,
 ) -> u8 {
@@ -56,7 +64,10 @@ fn write_reply(
         inner: io::writer(rt),
         failed: 0,
     };
-    let status = reply(alloc, store, arguments, &mut out);
+    let status = match asked {
+        Asked::Rows => reply(alloc, store, arguments, &mut out),
+        Asked::Plan => explain(alloc, store, arguments.role, arguments.text, &mut out),
+    };
     if explains && (status == 3 || status == 4 || status == 6) {
         let mut error = Output {
             inner: rt.stderr(),
@@ -67,11 +78,12 @@ fn write_reply(
     status
 }
 
-// Answers the query over a store, and returns the status of the reply.
+// Answers or explains the query over a store, and returns the status.
 fn answer(
     rt: &HostRuntime,
     alloc: Global,
     store: &Store<Global>,
+    asked: Asked,
     words: &QueryArguments<'_>,
 ) -> Result<u8, Failure<SetupError<Global>>> {
     let text = query_text(rt, alloc, words.text)?;
@@ -81,17 +93,18 @@ fn answer(
         role: words.role,
         text: text.as_str(),
     };
-    Ok(write_reply(rt, alloc, store, &arguments, words.explain_refusal))
+    Ok(write_reply(rt, alloc, store, asked, &arguments, words.explain_refusal))
 }
 
-// Makes the store and answers the query, and returns the status of the reply.
+// Makes the store and answers or explains the query, and returns the status.
 fn query(
     rt: &HostRuntime,
     alloc: Global,
+    asked: Asked,
     words: &QueryArguments<'_>,
 ) -> Result<u8, Failure<SetupError<Global>>> {
     let store = store_of(rt, alloc, words)?;
-    answer(rt, alloc, &store, words)
+    answer(rt, alloc, &store, asked, words)
 }
 
 // Audits the plan, and returns the status of the audit.
@@ -156,7 +169,8 @@ fn run(rt: &HostRuntime) -> Result<u8, ProgramError> {
     let words = command_words(rt, alloc)?;
     let texts = texts_of(alloc, words.as_slice())?;
     match read_arguments(alloc, texts.as_slice())? {
-        Request::Query(arguments) => Ok(query(rt, alloc, &arguments)?),
+        Request::Query(arguments) => Ok(query(rt, alloc, Asked::Rows, &arguments)?),
+        Request::Explain(arguments) => Ok(query(rt, alloc, Asked::Plan, &arguments)?),
         Request::Verify(arguments) => Ok(audit(rt, alloc, &arguments)?),
         Request::Codes => Ok(codes(rt, alloc)?),
     }

@@ -3,6 +3,7 @@ use Rattle.row_ast.specs.View.{query_of}
 use Rattle.resolve.specs.View.{bound_of}
 use Rattle.analysis.specs.View.{admitted_of}
 use Rattle.engine.proofs.Few.{admitted_few}
+use Rattle.engine.proofs.FewConjuncts.{admitted_conjuncts}
 use Rattle.engine.proofs.Tables.{admitted_entries, admitted_tables}
 use Rattle.engine.proofs.asking.answer_query.Goals as goal
 
@@ -25,3 +26,8 @@ pub answer_bound-requires-clause-few : goal.answer_bound-requires-clause-few
 answer_bound-requires-clause-few g c =
     let admitted = (rw c.catalog.ensures.catalog at c.in_ok-bound.ensures) in
     admitted_few c.args.store.now.catalog c.args.role.now (query_of c.args.query.now) (bound_of c.in-Ok.bound) c.requires.small (sym admitted ∙ ap admitted_of c.in-Ok.is)
+
+pub answer_bound-requires-clause-conjuncts : goal.answer_bound-requires-clause-conjuncts
+answer_bound-requires-clause-conjuncts g c =
+    let admitted = (rw c.catalog.ensures.catalog at c.in_ok-bound.ensures) in
+    admitted_conjuncts c.args.store.now.catalog c.args.role.now (query_of c.args.query.now) (bound_of c.in-Ok.bound) c.requires.small (sym admitted ∙ ap admitted_of c.in-Ok.is)

@@ -12,6 +12,7 @@ use Rattle.rewrite.specs.Laws.{most_entries, most_plan_steps}
 use Rattle.rewrite.specs.Placing.{placing}
 use Rattle.joindp.specs.Best.{IsLeast, Problem, estimates}
 use Rattle.joindp.specs.Cost as joindp
+use Rattle.planning.specs.Wanted.{wanted_column}
 use Rattle.planning.proofs.plan.Plan.new.Goals as goal
 
 pub invariant_of-result : goal.invariant_of-result
@@ -22,14 +23,18 @@ invariant_of-result g c =
     let cost = c.in_ok-code.cost in
     let found = c.in_ok-code.ensures in
     let same = c.in_ok-problem.ensures ∙ ap (λ w. let p : Problem = record { setting = at; statistics = map (λ s. stats_of s.now) c.args.statistics.now; wanted = w } in p) c.wanted_column.ensures in
+    let problem : Problem = record { setting = at; statistics = map (λ s. stats_of s.now) c.args.statistics.now; wanted = wanted_column q } in
     let admissible = subst (λ (p : Problem). is_admissible p.setting code ≡ true) same found.admissible in
+    let known = subst (λ (p : Problem). cost ≡ joindp.cost (estimates p) code) same found.cost in
+    let least = subst (λ (p : Problem). IsLeast p cost code) same found.least in
     let steps = c.in_ok-trail.ensures ∙ ap (λ l. l ++ placing at code) c.in_ok-simplified.ensures.trail in
     let few : length at.frame ≤ most_entries = subst (λ n. n ≤ most_entries) (sym (length-map c.args.setting.now.frame (λ x. guard_of x))) c.requires.entries in
     let laws = c.law_plans_are_accepted.ensures in
     record {
       admissible = admissible;
-      cost = subst (λ (p : Problem). cost ≡ joindp.cost (estimates p) code) same found.cost;
-      least = subst (λ (p : Problem). IsLeast p cost code) same found.least;
+      cost = known;
+      best = c.law_least_is_best.ensures problem code admissible (subst (λ n. IsLeast problem n code) known least);
+      steps = steps;
       accepted = subst (λ l. verdict at (written (length at.frame) q) l code ≡ Accepted) (sym steps) (laws.accepted at q code c.requires.conditions few c.requires.conjuncts admissible);
       short = subst (λ l. length l ≤ most_plan_steps) (sym steps) (laws.short at q code c.requires.conditions few c.requires.conjuncts admissible);
     }

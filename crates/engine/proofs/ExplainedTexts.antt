@@ -1,0 +1,106 @@
+-- What explains a text: it depends on no statistics but those of the tables of which the role sees every row, and is the text of the
+-- best plan.
+use Rattle.std.proofs.Common.{◌≡◌, ◌∙◌, ℕ, suc, List, [], ◌∷◌, ◌++◌, map, Option, Some, option_map, Result, Ok, Err, refl, sym, subst, ap, ap₂, arith}
+use Rattle.std.specs.List.{All}
+use Rattle.value.specs.Names.{Name}
+use Rattle.expr.specs.Bound.{BoundExpr}
+use Rattle.expr.specs.BoundQuery.{BoundQuery}
+use Rattle.scope.specs.Entry.{Entry}
+use Rattle.catalog.specs.Catalog.{Catalog}
+use Rattle.access.specs.Guards.{frame, guard}
+use Rattle.tuples.specs.Guards as guards
+use Rattle.tuples.specs.Guards.{Guard}
+use Rattle.stats.specs.Statistics.{Stats}
+use Rattle.algebra.specs.PlanningList.{planning_list}
+use Rattle.algebra.specs.Steps.{Step}
+use Rattle.rewrite.specs.Placing.{placing}
+use Rattle.rewrite.specs.Simplifying.{simplifying}
+use Rattle.trailcheck.specs.Settings.{Setting}
+use Rattle.joindp.specs.Best.{Problem, estimates}
+use Rattle.joindp.specs.Cost.{cost}
+use Rattle.planning.specs.Best.{best}
+use Rattle.planning.specs.LastSort.{last_sort}
+use Rattle.planning.specs.Plans as planning
+use Rattle.planning.specs.Plans.{IsPlan}
+use Rattle.planning.specs.Wanted.{wanted_column}
+use Rattle.plan_texts.specs.declared.plan.SortColumn.{SortColumn}
+use Rattle.plan_texts.specs.Plans.{Plan, PlanEntry}
+use Rattle.plan_texts.specs.PlanTexts.{plan_text}
+use Rattle.bound_plans.specs.Entries.{plan_entries}
+use Rattle.bound_plans.specs.Named.{named}
+use Rattle.resolve.specs.Resolved.{Bound}
+use Rattle.replies.specs.Reply.{Reply, no_memory}
+use Rattle.replies.specs.ReplyText.{reply_text}
+use Rattle.analysis.specs.Analysis.{admitted}
+use Rattle.store.specs.Database.{Database}
+use Rattle.engine.specs.Explained.{KnowsSame, best_text, explained, explained_query, explained_status, explained_text, known, plan_with, problem, sort_column, text_if_found}
+use Rattle.engine.specs.Known.{known_behind, known_statistics, statistics_in}
+use Rattle.engine.specs.Settings.{setting}
+use Rattle.engine.proofs.Statuses.{only_no_memory}
+
+-- the statistics gathered by entries and guards are those known of each entry's table
+pub known_of_each : (cat : Catalog) (role : Name) (database : Database) (es : List Entry) → known_statistics database es (frame cat role es) ≡ map (λ e. known cat role (statistics_in database) e.table) es
+known_of_each cat role database [] = refl
+known_of_each cat role database (e ∷ es) = ap (λ ss. known cat role (statistics_in database) e.table ∷ ss) (known_of_each cat role database es)
+
+known_same : (g : Guard) (one other : Stats) → (g ≡ guards.All → one ≡ other) → known_behind g one ≡ known_behind g other
+known_same guards.All one other h = h refl
+known_same guards.None one other h = refl
+known_same (guards.Expr e) one other h = refl
+
+module _ (cat : Catalog) (role : Name) (one other : Name → Stats) where
+  abbrev AreSame : List Entry → Type 0
+  AreSame es = All (λ e. guard cat role e.table ≡ guards.All → one e.table.name ≡ other e.table.name) es
+
+  each_same : (es : List Entry) → AreSame es → map (λ e. known cat role one e.table) es ≡ map (λ e. known cat role other e.table) es
+  each_same [] h = refl
+  each_same (e ∷ es) h =
+      ap₂ (λ s ss. s ∷ ss) (known_same (guard cat role e.table) (one e.table.name) (other e.table.name) (h 0 e (omega arith))) (each_same es (λ k d within. h (suc k) d (omega (arith, within))))
+
+  same_query : (r : Result Bound Reply) → ((b : Bound) → r ≡ Ok b → AreSame b.entries) → explained_query cat (known cat role one) role r ≡ explained_query cat (known cat role other) role r
+  same_query (Err refusal) h = refl
+  same_query (Ok b) h = ap (λ ss. Ok (best_text cat role b ss)) (each_same b.entries (h b refl))
+
+pub same_explained : (cat : Catalog) (role : Name) (text : List ℕ) (one other : Name → Stats) → KnowsSame cat role text one other → explained cat (known cat role one) role text ≡ explained cat (known cat role other) role text
+same_explained cat role text one other h = same_query cat role one other (admitted cat role text) h
+
+-- ---- the text of the best plan
+
+module _ (cat : Catalog) (role : Name) (b : Bound) (stats : List Stats) (p : planning.Plan) (is : IsPlan p) (query : p.query ≡ b.query) (from : p.problem ≡ problem cat role b stats) where
+  abbrev named_plan : (cost : ℕ) → Option SortColumn → List Step → Plan
+  named_plan cost sort steps = record { cost = cost; filters = map (named b.entries) (planning_list b.query); code = p.code; sort = sort; trail = steps }
+
+  is_plan_with : named_plan p.cost (option_map sort_column (last_sort p.problem p.code)) p.trail ≡ plan_with cat role b stats p.code
+  is_plan_with =
+      let c = is.cost ∙ ap (λ x. cost (estimates x) p.code) from in
+      let s = ap (λ x. option_map sort_column (last_sort x p.code)) from in
+      let t = is.steps ∙ ap₂ (λ q x. simplifying q ++ placing x.setting p.code) query from in
+      ap₂ (λ c s. named_plan c s p.trail) c s ∙ ap (named_plan (cost (estimates (problem cat role b stats)) p.code) (option_map sort_column (last_sort (problem cat role b stats) p.code))) t
+
+  -- the text of a plan of the problem is that of the best one
+  pub is_best_text : plan_text (plan_entries b.entries) (named_plan p.cost (option_map sort_column (last_sort p.problem p.code)) p.trail) ≡ best_text cat role b stats
+  is_best_text =
+      let found = subst (λ x. best x ≡ Some p.code) from is.best in
+      ap (plan_text (plan_entries b.entries)) is_plan_with ∙ sym (ap (λ o. text_if_found b.entries (option_map (plan_with cat role b stats) o)) found)
+
+  -- the same of entries, conditions and names that are those of the query
+  pub written_best : (entries : List Entry) (conditions : List BoundExpr) (names : List PlanEntry) (q : Plan) → entries ≡ b.entries → conditions ≡ planning_list b.query → names ≡ plan_entries b.entries
+      → q ≡ record { cost = p.cost; filters = map (named entries) conditions; code = p.code; sort = option_map sort_column (last_sort p.problem p.code); trail = p.trail } → plan_text names q ≡ best_text cat role b stats
+  written_best entries conditions names q of_entries of_conditions of_names is_q =
+      ap₂ plan_text of_names
+      (is_q ∙ ap₂ (λ es cs. let x : Plan = record { cost = p.cost; filters = map (named es) cs; code = p.code; sort = option_map sort_column (last_sort p.problem p.code); trail = p.trail } in x) of_entries of_conditions)
+      ∙ is_best_text
+
+-- what a plan is made from
+pub problem_is : (cat : Catalog) (role : Name) (b : Bound) (stats : List Stats) (at : Setting) (ss : List Stats) (q : BoundQuery) (x : Problem) → x ≡ record { setting = at; statistics = ss; wanted = wanted_column q }
+    → at ≡ setting cat role b → ss ≡ stats → q ≡ b.query → x ≡ problem cat role b stats
+problem_is cat role b stats at ss q x is of_setting of_statistics of_query =
+    is ∙ ap₂ (λ at ss. let y : Problem = record { setting = at; statistics = ss; wanted = wanted_column q } in y) of_setting of_statistics
+    ∙ ap (λ q. let y : Problem = record { setting = setting cat role b; statistics = stats; wanted = wanted_column q } in y) of_query
+
+-- ---- where memory runs out
+
+-- the one text with that status is that of the reply
+pub only_memory : (due : Result (List ℕ) Reply) → explained_status due ≡ 7 → explained_text due ≡ reply_text no_memory
+only_memory (Ok text) e = absurd (cc)
+only_memory (Err refusal) e = ap reply_text (only_no_memory refusal e)

@@ -1,0 +1,239 @@
+-- A query within the limits has at most 64 conjuncts, and as many when it is bound.
+use Rattle.std.proofs.Common.{◌≡◌, ℕ, ◌+◌, ◌≤◌, Bool, true, false, ◌&&◌, cond, List, [], ◌∷◌, ◌++◌, length, length-append, map, Option, Some, None, Result, Ok, Err, refl, sym, ap, subst, ◌∙◌, arith}
+use Rattle.std.specs.List.{flat_map, sum, sum_by}
+use Rattle.std.proofs.lemmas.Bool.{leb-true}
+use Rattle.std.proofs.lemmas.List.Concat.{length-flat_map}
+use Rattle.std.proofs.lemmas.List.Sums.{count_by-le-length, length-filter, sum-map, sum_by-append, sum_by-cons, sum_by_push}
+use Rattle.memory.specs.Results.{and_then}
+use Rattle.memory.proofs.Cases.{ok_is}
+use Rattle.value.specs.declared.refusal.Refusal.TheVariants as r
+use Rattle.value.specs.Names.{Name}
+use Rattle.row_ast.specs.Ast as ast
+use Rattle.expr.specs.declared.bound.ColumnId.{ColumnId}
+use Rattle.expr.specs.Bound as bound
+use Rattle.expr.specs.Bound.{BoundExpr, bound_arms_of, bound_exprs_of}
+use Rattle.expr.specs.BoundQuery.{BoundItem, BoundQuery}
+use Rattle.expr.specs.Conjuncts.{conjuncts, conjuncts_in, conjuncts_of, members, movable_conjuncts}
+use Rattle.expr.specs.Movable.{movable}
+use Rattle.row_objects.specs.Objects.{Table}
+use Rattle.scope.specs.declared.error.BindError.{BindError}
+use Rattle.scope.specs.declared.lookup.Scope.{Scope}
+use Rattle.scope.specs.Entry.{Entry, fault}
+use Rattle.scope.specs.Lookup.{everywhere, find_column, on_scope}
+use Rattle.scope.specs.BoundExprs.{bound_arms, bound_expr, bound_members, bound_otherwise}
+use Rattle.syntax.specs.Limits as limits
+use Rattle.syntax.specs.Limits.{filter_members, from_members, join_members, within_limits}
+use Rattle.catalog.specs.Catalog.{Catalog}
+use Rattle.resolve.specs.Entries.{JoinedTable, alias_of, entries, entries_in, entry_in, first_table, found_entry, is_used, joined, joined_by, with_item}
+use Rattle.resolve.specs.BoundQueries.{bound_condition, bound_ons, bound_parts, bound_query}
+use Rattle.resolve.specs.OrderBy.{output_keys}
+use Rattle.resolve.specs.Resolved.{Bound, bound, bound_with, checked, ordered, unless_fault, with_order}
+use Rattle.resolve.proofs.EntryTables.{given}
+use Rattle.analysis.specs.Analysis.{admitted_query, permitted}
+use Rattle.engine.proofs.Tables.{not_denied}
+
+-- ---- an AND is bound as an AND of as many members, and any other expression as one that is no AND
+
+abbrev IsOne : Result BoundExpr BindError → Type 0
+IsOne r = (x : BoundExpr) → r ≡ Ok x → length (conjuncts_of x) ≡ 1
+
+is_one : (y : BoundExpr) → length (conjuncts_of y) ≡ 1 → IsOne (Ok y)
+is_one y one x e = subst (λ (y : BoundExpr). length (conjuncts_of y) ≡ 1) (ok_is y x e) one
+
+one_after : {X : Type 0} (r : Result X BindError) (f : X → Result BoundExpr BindError) → ((y : X) → IsOne (f y)) → IsOne (and_then r f)
+one_after r f one x e = let step = given f x r e in one step.0 x step.2
+
+as_many : (xs : List BoundExpr) → length (members (bound_exprs_of xs)) ≡ length xs
+as_many [] = refl
+as_many (x ∷ xs) = let n = as_many xs in omega arith
+
+module _ (es : List Entry) (scope : Scope) where
+  members_bound : (known : List BoundExpr) (ms : ast.Exprs) (xs : List BoundExpr) → bound_members es scope known ms ≡ Ok xs → length xs ≡ length known + length (ast.list_of ms)
+  members_bound known ast.no_expr xs e = let n = ap length (ok_is known xs e) in omega arith
+  members_bound known (ast.one_expr m ms) xs e =
+      let step = given (λ x. bound_members es scope (known ++ x ∷ []) ms) xs (bound_expr es scope m) e in
+      let n = members_bound (known ++ step.0 ∷ []) ms xs step.2 in
+      let k = length-append known (step.0 ∷ []) in
+      omega arith
+
+  and_bound : (offset : ℕ) (ms : ast.Exprs) (x : BoundExpr) → bound_expr es scope (ast.And offset ms) ≡ Ok x → length (conjuncts_of x) ≡ length (ast.list_of ms)
+  and_bound offset ms x e =
+      let step = given (λ xs. Ok (bound.And offset (bound_exprs_of xs))) x (bound_members es scope [] ms) e in
+      let same = ap (λ x. length (conjuncts_of x)) (ok_is (bound.And offset (bound_exprs_of step.0)) x step.2) in
+      let n = members_bound [] ms step.0 step.1 in
+      let k = as_many step.0 in
+      omega arith
+
+  expr_bound : (e : ast.Expr) (x : BoundExpr) → bound_expr es scope e ≡ Ok x → length (conjuncts_of x) ≡ length (ast.and_members e)
+  expr_bound (ast.Column c) = one_after (find_column es scope c) _ (λ id. is_one (bound.Column id) refl)
+  expr_bound (ast.Literal d) = is_one (bound.Literal d) refl
+  expr_bound ast.CurrentUser = is_one bound.CurrentUser refl
+  expr_bound (ast.Negate n e) = one_after (bound_expr es scope e) _ (λ x. is_one (bound.Negate n x) refl)
+  expr_bound (ast.Arithmetic op n e f) = one_after (bound_expr es scope e) _ (λ x. one_after (bound_expr es scope f) _ (λ y. is_one (bound.Arithmetic op n x y) refl))
+  expr_bound (ast.Comparison op n e f) = one_after (bound_expr es scope e) _ (λ x. one_after (bound_expr es scope f) _ (λ y. is_one (bound.Comparison op n x y) refl))
+  expr_bound (ast.Between negated n e low high) =
+      one_after (bound_expr es scope e) _ (λ x. one_after (bound_expr es scope low) _ (λ y. one_after (bound_expr es scope high) _ (λ z. is_one (bound.Between negated n x y z) refl)))
+  expr_bound (ast.In negated n values e) = one_after (bound_expr es scope e) _ (λ x. is_one (bound.In negated n values x) refl)
+  expr_bound (ast.IsNull negated n e) = one_after (bound_expr es scope e) _ (λ x. is_one (bound.IsNull negated n x) refl)
+  expr_bound (ast.Not n e) = one_after (bound_expr es scope e) _ (λ x. is_one (bound.Not n x) refl)
+  expr_bound (ast.And n ms) = and_bound n ms
+  expr_bound (ast.Or n ms) = one_after (bound_members es scope [] ms) _ (λ xs. is_one (bound.Or n (bound_exprs_of xs)) refl)
+  expr_bound (ast.Cast n to e) = one_after (bound_expr es scope e) _ (λ x. is_one (bound.Cast n to x) refl)
+  expr_bound (ast.Case n as_ o) = one_after (bound_arms es scope [] as_) _ (λ xs. one_after (bound_otherwise es scope o) _ (λ y. is_one (bound.Case n (bound_arms_of xs) y) refl))
+  expr_bound (ast.CountStar n) = is_one (bound.CountStar n) refl
+  expr_bound (ast.Call f n e) = one_after (bound_expr es scope e) _ (λ x. is_one (bound.Call f n x) refl)
+
+  condition_bound : (o : Option ast.Condition) (x : Option BoundExpr) → bound_condition es scope o ≡ Ok x → length (conjuncts_in x) ≡ filter_members o
+  condition_bound None x e = sym (ap (λ x. length (conjuncts_in x)) (ok_is None x e))
+  condition_bound (Some c) x e =
+      let step = given (λ y. Ok (Some y)) x (bound_expr es scope c.predicate) e in
+      sym (ap (λ x. length (conjuncts_in x)) (ok_is (Some step.0) x step.2)) ∙ expr_bound c.predicate step.0 step.1
+
+-- ---- the ONs of the entries
+
+abbrev count_in : Option BoundExpr → ℕ
+count_in x = length (conjuncts_in x)
+
+abbrev entry_members : Entry → ℕ
+entry_members e = filter_members e.on
+
+ons_bound : (es : List Entry) (number : ℕ) (known : List (Option BoundExpr)) (more : List Entry) (ons : List (Option BoundExpr))
+    → bound_ons es number known more ≡ Ok ons → sum_by count_in ons ≡ sum_by count_in known + sum_by entry_members more
+ons_bound es number known [] ons e = let n = ap (sum_by count_in) (ok_is known ons e) in omega arith
+ons_bound es number known (y ∷ more) ons e =
+    let step = given (λ x. bound_ons es (number + 1) (known ++ x ∷ []) more) ons (bound_condition es (on_scope number y) y.on) e in
+    let n = ons_bound es (number + 1) (known ++ step.0 ∷ []) more ons step.2 in
+    let k = sum_by_push count_in known step.0 in
+    let m = condition_bound es (on_scope number y) y.on step.0 step.1 in
+    let s = sum_by-cons entry_members y more in
+    omega arith
+
+-- ---- the entries have the ONs of the tables of FROM
+
+abbrev table_members : JoinedTable → ℕ
+table_members j = filter_members j.on
+
+keeps_on : (before : List Entry) (j : JoinedTable) (e : Entry) (o : Option Table) → found_entry before j o ≡ Ok e → j.on ≡ e.on
+keeps_on before j e None h = absurd (cc)
+keeps_on before j e (Some t) h = go (is_used (alias_of j.table) before) h
+  where
+    go : (b : Bool) → cond b (Err (fault r.DuplicateAlias j.table.offset)) (Ok record { table = t; alias = alias_of j.table; first = j.first; on = j.on }) ≡ Ok e → j.on ≡ e.on
+    go true h = absurd (cc)
+    go false h = cc
+
+entries_found : (cat : Catalog) (before : List Entry) (js : List JoinedTable) (es : List Entry)
+    → entries_in cat before js ≡ Ok es → sum_by entry_members es ≡ sum_by entry_members before + sum_by table_members js
+entries_found cat before [] es e = let n = ap (sum_by entry_members) (ok_is before es e) in omega arith
+entries_found cat before (j ∷ more) es e =
+    let step = given (λ e. entries_in cat (before ++ e ∷ []) more) es (entry_in cat before j) e in
+    let n = entries_found cat (before ++ step.0 ∷ []) more es step.2 in
+    let k = sum_by_push entry_members before step.0 in
+    let m = ap filter_members (keeps_on before j step.0 _ step.1) in
+    let s = sum_by-cons table_members j more in
+    omega arith
+
+join_kept : (first : ℕ) (j : ast.Join) → table_members (joined_by first j) ≡ join_members j
+join_kept first (ast.Inner table c) = refl
+join_kept first (ast.Cross table) = refl
+
+joins_kept : (first : ℕ) (js : List ast.Join) → sum_by table_members (map (joined_by first) js) ≡ sum_by join_members js
+joins_kept first [] = refl
+joins_kept first (j ∷ js) =
+    let n = joins_kept first js in
+    let m = join_kept first j in
+    let k = sum_by-cons table_members (joined_by first j) (map (joined_by first) js) in
+    let s = sum_by-cons join_members j js in
+    omega arith
+
+abbrev item_members : ast.FromItem → ℕ
+item_members f = sum (map join_members f.joins)
+
+items_joined : (before : List JoinedTable) (from : List ast.FromItem) → sum_by table_members (joined before from) ≡ sum_by table_members before + from_members from
+items_joined before [] = omega arith
+items_joined before (f ∷ more) =
+    let first = first_table (length before) f.first in
+    let rest : sum_by table_members (joined before (f ∷ more)) ≡ sum_by table_members (with_item before f) + from_members more = items_joined (with_item before f) more in
+    let s = sum_by-cons item_members f more in
+    let t = sum-map item_members (f ∷ more) in
+    let u = sum-map item_members more in
+    let k = sum_by-append table_members (before ++ first ∷ []) (map (joined_by (length before)) f.joins) in
+    let l = sum_by_push table_members before first in
+    let m = joins_kept (length before) f.joins in
+    let n = sum-map join_members f.joins in
+    omega arith
+
+-- ---- the query
+
+parts_kept : (grouped : Bool) (limit : Option ℕ) (items : Result (List BoundItem) BindError) (ons : Result (List (Option BoundExpr)) BindError)
+    (filter : Result (Option BoundExpr) BindError) (group_by : Result (List ColumnId) BindError) (having : Result (Option BoundExpr) BindError) (b : BoundQuery)
+    → bound_parts grouped limit items ons filter group_by having ≡ Ok b → (ons ≡ Ok b.ons) × (filter ≡ Ok b.filter)
+parts_kept grouped limit (Err fault) ons filter group_by having b e = absurd (cc)
+parts_kept grouped limit (Ok items) (Err fault) filter group_by having b e = absurd (cc)
+parts_kept grouped limit (Ok items) (Ok ons) (Err fault) group_by having b e = absurd (cc)
+parts_kept grouped limit (Ok items) (Ok ons) (Ok filter) (Err fault) having b e = absurd (cc)
+parts_kept grouped limit (Ok items) (Ok ons) (Ok filter) (Ok group_by) (Err fault) b e = absurd (cc)
+parts_kept grouped limit (Ok items) (Ok ons) (Ok filter) (Ok group_by) (Ok having) b e =
+    let same = ok_is (record { items = items; ons = ons; filter = filter; group_by = group_by; having = having; is_grouped = grouped; order_by = []; limit = limit }) b e in
+    (ap (λ b. Ok b.ons) same, ap (λ b. Ok b.filter) same)
+
+query_bound : (es : List Entry) (q : ast.Query) (b : BoundQuery) → bound_query es q ≡ Ok b → length (conjuncts b) ≡ sum_by entry_members es + filter_members q.filter
+query_bound es q b e =
+    let parts = parts_kept _ _ _ _ _ _ _ b e in
+    let n = ons_bound es 0 [] es b.ons parts.0 in
+    let m = condition_bound es (everywhere es) q.filter b.filter parts.1 in
+    let k = length-append (flat_map conjuncts_in b.ons) (conjuncts_in b.filter) in
+    let l = length-flat_map conjuncts_in b.ons in
+    omega arith
+
+-- the checks and ORDER BY keep the conjuncts
+
+not_faulty : {X E : Type 0} (o : Option E) (x y : X) → unless_fault o x ≡ Ok y → x ≡ y
+not_faulty None x y e = ok_is x y e
+not_faulty (Some fault) x y e = absurd (cc)
+
+checked_kept : (es : List Entry) (q : ast.Query) (c : BoundQuery) (b : Bound) → checked es q c ≡ Ok b → length (conjuncts c) ≡ length (conjuncts b.query)
+checked_kept es q c b e =
+    let types = given (ordered es q) b (unless_fault _ c) e in
+    let keys = given (λ keys. Ok record { entries = es; query = with_order types.0 keys }) b (output_keys types.0.items [] q.order_by) types.2 in
+    ap (λ c. length (conjuncts c)) (not_faulty _ c types.0 types.1) ∙ ap (λ b. length (conjuncts b.query)) (ok_is (record { entries = es; query = with_order types.0 keys.0 }) b keys.2)
+
+as_many_conjuncts : (cat : Catalog) (q : ast.Query) (b : Bound) → bound cat q ≡ Ok b → length (conjuncts b.query) ≡ limits.conjuncts q
+as_many_conjuncts cat q b e =
+    let found = given (bound_with q) b (entries cat q.from) e in
+    let columns = given (checked found.0 q) b (bound_query found.0 q) found.2 in
+    let n = checked_kept found.0 q columns.0 b columns.2 in
+    let m = query_bound found.0 q columns.0 columns.1 in
+    let k = entries_found cat [] (joined [] q.from) found.0 found.1 in
+    let l = items_joined [] q.from in
+    omega arith
+
+-- ---- those that are movable
+
+few_movable : (q : BoundQuery) → length (movable_conjuncts q) ≤ length (conjuncts q)
+few_movable q =
+    let n = length-filter movable (conjuncts q) in
+    let m = count_by-le-length movable (conjuncts q) in
+    omega arith
+
+first_holds : (a b : Bool) → (a && b) ≡ true → a ≡ true
+first_holds true b e = refl
+first_holds false b e = e
+
+second_holds : (a b : Bool) → (a && b) ≡ true → b ≡ true
+second_holds true b e = e
+second_holds false b e = absurd (cc)
+
+few_conjuncts : (q : ast.Query) → within_limits q ≡ true → limits.conjuncts q ≤ 64
+few_conjuncts q small = leb-true (limits.conjuncts q) 64 (second_holds _ _ (first_holds _ _ small))
+
+permitted_conjuncts : (cat : Catalog) (role : Name) (q : ast.Query) (b : Bound) (r : Result Bound BindError)
+    → limits.conjuncts q ≤ 64 → bound cat q ≡ r → permitted cat role r ≡ Ok b → length (movable_conjuncts b.query) ≤ 64
+permitted_conjuncts cat role q b (Err fault) few is e = absurd (cc)
+permitted_conjuncts cat role q b (Ok b') few is e =
+    let n = as_many_conjuncts cat q b' is in
+    let m = few_movable b'.query in
+    subst (λ (b : Bound). length (movable_conjuncts b.query) ≤ 64) (not_denied b' b _ e) (omega arith)
+
+pub admitted_conjuncts : (cat : Catalog) (role : Name) (q : ast.Query) (b : Bound)
+    → within_limits q ≡ true → admitted_query cat role q ≡ Ok b → length (movable_conjuncts b.query) ≤ 64
+admitted_conjuncts cat role q b small e = permitted_conjuncts cat role q b (bound cat q) (few_conjuncts q small) refl e

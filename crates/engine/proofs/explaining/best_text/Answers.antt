@@ -1,0 +1,51 @@
+use Rattle.std.proofs.Common.{◌≡◌, ◌∙◌, [], ap, length, map, sym, arith}
+use Rattle.std.proofs.lemmas.List.{length-map}
+use Rattle.std.proofs.lemmas.Result.{IfOk-weaker}
+use Rattle.expr.specs.View.{bound_query_of}
+use Rattle.scope.specs.View.{entries_of, entry_of}
+use Rattle.tuples.specs.View.{guard_of}
+use Rattle.stats.specs.View.{stats_of}
+use Rattle.trailcheck.specs.View.{setting_of}
+use Rattle.plan_texts.specs.View.{plan_entry_of, plan_of}
+use Rattle.bound_plans.specs.Entries.{plan_entries}
+use Rattle.resolve.specs.View.{bound_of}
+use Rattle.engine.specs.Explained.{best_text, known}
+use Rattle.engine.specs.Known.{known_statistics, statistics_in}
+use Rattle.engine.proofs.ExplainedTexts.{known_of_each, problem_is, written_best}
+use Rattle.engine.proofs.Statistics.{as_many}
+use Rattle.engine.proofs.Steps.{as_long}
+use Rattle.engine.proofs.explaining.best_text.Goals as goal
+
+pub new-requires-clause-each : goal.new-requires-clause-each
+new-requires-clause-each g c =
+    let gathered = (rw (c.as_slice-entries.ensures, c.as_slice-frame.ensures) at c.in_ok-statistics.ensures) in
+    ap length c.deref-2.ensures.value
+    ∙ sym (length-map c.in_ok-statistics.statistics.items (λ s. stats_of s.now))
+    ∙ ap length gathered
+    ∙ as_many (λ e. entry_of e) guard_of c.args.store.now c.args.bound.now.entries c.in_ok-setting.setting.frame (as_long _ _ _ _ (c.in_ok-setting.ensures.shows []))
+
+pub new-requires-clause-entries : goal.new-requires-clause-entries
+new-requires-clause-entries g c =
+    let same = as_long _ _ _ _ (c.in_ok-setting.ensures.shows []) in
+    let as_many = length-map c.args.bound.now.entries (λ e. entry_of e) in
+    let few = c.requires.few in
+    omega (arith, same, as_many, few)
+
+pub returns : goal.returns
+returns g c =
+    let database = c.args.store.now in
+    let cat = database.catalog in
+    let role = c.args.role.now in
+    let b = bound_of c.args.bound.now in
+    let stats = map (λ e. known cat role (statistics_in database) e.table) b.entries in
+    let found = c.in_ok-found.found in
+    let set = (rw c.catalog.ensures.catalog at c.in_ok-setting.ensures.value) in
+    let gathered = (rw (c.as_slice-entries.ensures, c.as_slice-frame.ensures) at c.in_ok-statistics.ensures) in
+    let statistics = ap (map (λ s. stats_of s.now)) c.deref-2.ensures.value ∙ gathered ∙ ap (λ s. known_statistics database b.entries s.frame) set ∙ known_of_each cat role database b.entries in
+    let query = ap bound_query_of c.deref.ensures in
+    let from = problem_is cat role b stats (setting_of c.in_ok-setting.setting) (map (λ s. stats_of s.now) c.deref-2.result.now) (bound_query_of c.deref.result.now) found.problem c.in_ok-found.ensures.problem set statistics query in
+    let names = ap (map plan_entry_of) c.as_slice-2.ensures ∙ c.in_ok-names.ensures ∙ ap (λ es. plan_entries (entries_of es)) c.as_slice-entries.ensures in
+    IfOk-weaker c.write_plan.result _ (λ v. v.items ≡ best_text cat role b stats)
+    (λ v h. h ∙ written_best cat role b stats found c.in_ok-plan.ensures.plan (c.in_ok-found.ensures.query ∙ query) from (entries_of c.as_slice-entries.result.now) c.as_slice.result.now (map plan_entry_of c.as_slice-2.result.now) (plan_of c.in_ok-plan.plan)
+    (ap entries_of c.as_slice-entries.ensures) (c.as_slice.ensures ∙ ap (λ s. s.conditions) set) names c.in_ok-plan.ensures.value)
+    c.write_plan.ensures

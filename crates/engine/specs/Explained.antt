@@ -1,0 +1,101 @@
+-- The plan of a role's query, and its text.
+use Rattle.std.specs.Prelude.{◌≡◌, ◌<◌, ℕ, List, [], ◌++◌, map, Option, Some, None, option_map, Result, Ok, Err}
+use Rattle.std.specs.List.{All}
+use Rattle.value.specs.Names.{Name}
+use Rattle.expr.specs.Codes.{Code}
+use Rattle.expr.specs.declared.bound.ColumnId.{ColumnId}
+use Rattle.row_objects.specs.Objects.{Table}
+use Rattle.scope.specs.Entry.{Entry}
+use Rattle.catalog.specs.Catalog.{Catalog}
+use Rattle.access.specs.Guards.{guard}
+use Rattle.tuples.specs.Guards as guards
+use Rattle.stats.specs.Statistics.{Stats}
+use Rattle.algebra.specs.PlanningList.{planning_list}
+use Rattle.algebra.specs.Steps.{Step}
+use Rattle.rewrite.specs.Placing.{placing}
+use Rattle.rewrite.specs.Simplifying.{simplifying}
+use Rattle.joindp.specs.Best.{Problem, estimates}
+use Rattle.joindp.specs.Cost.{cost}
+use Rattle.planning.specs.Best.{best}
+use Rattle.planning.specs.LastSort.{last_sort}
+use Rattle.planning.specs.Wanted.{wanted_column}
+use Rattle.plan_texts.specs.declared.plan.SortColumn.{SortColumn}
+use Rattle.plan_texts.specs.Plans.{Plan}
+use Rattle.plan_texts.specs.PlanTexts.{plan_text}
+use Rattle.bound_plans.specs.Entries.{plan_entries}
+use Rattle.bound_plans.specs.Named.{named}
+use Rattle.resolve.specs.Resolved.{Bound}
+use Rattle.replies.specs.Reply.{Reply, reply_status}
+use Rattle.replies.specs.ReplyText.{reply_text}
+use Rattle.store.specs.Derived.{column_number}
+use Rattle.analysis.specs.Analysis.{admitted}
+use Rattle.engine.specs.Known.{known_behind}
+use Rattle.engine.specs.Settings.{setting}
+
+-- ---- the plan
+
+-- what the codes of a query's plans are made from, and what they are weighed by
+abbrev pub problem : Catalog → Name → Bound → List Stats → Problem
+problem cat role b statistics = record { setting = setting cat role b; statistics = statistics; wanted = wanted_column b.query }
+
+-- the steps by which the checker accepts a code
+abbrev pub trail : Catalog → Name → Bound → Code → List Step
+trail cat role b code = simplifying b.query ++ placing (setting cat role b) code
+
+-- a column by its numbers, from 1
+abbrev pub sort_column : ColumnId → SortColumn
+sort_column id = record { entry = column_number id.entry; column = column_number id.column }
+
+-- the plan with that code
+abbrev pub plan_with : Catalog → Name → Bound → List Stats → Code → Plan
+plan_with cat role b statistics code = record {
+  cost = cost (estimates (problem cat role b statistics)) code;
+  filters = map (named b.entries) (planning_list b.query);
+  code = code;
+  sort = option_map sort_column (last_sort (problem cat role b statistics) code);
+  trail = trail cat role b code;
+}
+
+-- the plan with the best code
+abbrev pub best_plan : Catalog → Name → Bound → List Stats → Option Plan
+best_plan cat role b statistics = option_map (plan_with cat role b statistics) (best (problem cat role b statistics))
+
+-- its text; there is always a best code
+abbrev pub text_if_found : List Entry → Option Plan → List ℕ
+text_if_found entries None = []
+text_if_found entries (Some p) = plan_text (plan_entries entries) p
+
+abbrev pub best_text : Catalog → Name → Bound → List Stats → List ℕ
+best_text cat role b statistics = text_if_found b.entries (best_plan cat role b statistics)
+
+-- ---- what explains a text
+
+abbrev pub explained_query : Catalog → (Table → Stats) → Name → Result Bound Reply → Result (List ℕ) Reply
+explained_query cat statistics role (Err refusal) = Err refusal
+explained_query cat statistics role (Ok b) = Ok (best_text cat role b (map (λ e. statistics e.table) b.entries))
+
+-- the text of the best plan of a role's text, by the statistics of the tables; or its refusal or denial
+abbrev pub explained : Catalog → (Table → Stats) → Name → (text : List ℕ) → Result (List ℕ) Reply
+explained cat statistics role text = explained_query cat statistics role (admitted cat role text)
+
+abbrev pub explained_text : Result (List ℕ) Reply → List ℕ
+explained_text (Ok text) = text
+explained_text (Err refusal) = reply_text refusal
+
+abbrev pub explained_status : Result (List ℕ) Reply → ℕ
+explained_status (Ok text) = 0
+explained_status (Err refusal) = reply_status refusal
+
+-- ---- what of the tables it depends on
+
+-- the statistics that a role's plans are made with: none of a table of which a row may be hidden from it
+abbrev pub known : Catalog → Name → (Name → Stats) → Table → Stats
+known cat role statistics t = known_behind (guard cat role t) (statistics t.name)
+
+-- if the text is admitted, both have the same statistics of each of its tables of which the role sees every row
+abbrev pub KnowsSame : Catalog → Name → (text : List ℕ) → (one other : Name → Stats) → Type 0
+KnowsSame cat role text one other = (b : Bound) → admitted cat role text ≡ Ok b → All (λ e. guard cat role e.table ≡ guards.All → one e.table.name ≡ other e.table.name) b.entries
+
+-- these bytes and this status are what explains a text
+abbrev pub IsExplanation : (text : List ℕ) → (status : ℕ) → Result (List ℕ) Reply → Type 0
+IsExplanation text status due = (text ≡ explained_text due) × (status ≡ explained_status due) × (status < 8)

@@ -1,0 +1,231 @@
+//! Explaining: the text of the plan by which a query is answered.
+
+ghost use Rattle.std.specs.Prelude.{◌≡◌, ◌≢◌, ◌⊎◌, ◌<◌, ◌≤◌, ℕ, List, IfOk, length, map, option_map, true};
+ghost use Rattle.std.specs.Io.KnownBytes.{Appends};
+ghost use Rattle.value.specs.Names.{Name};
+ghost use Rattle.row_ast.specs.View.{expr_of, query_of};
+ghost use Rattle.expr.specs.Conjuncts.{movable_conjuncts};
+ghost use Rattle.scope.specs.View.{entries_of};
+ghost use Rattle.catalog.specs.Catalog.{Catalog};
+ghost use Rattle.stats.specs.Statistics as stats;
+ghost use Rattle.trailcheck.specs.View.{setting_of};
+ghost use Rattle.rewrite.specs.Laws.{most_conjuncts, most_entries};
+ghost use Rattle.planning.specs.LastSort.{last_sort};
+ghost use Rattle.planning.specs.Plans.{IsPlan};
+ghost use Rattle.plan_texts.specs.View.{plan_of};
+ghost use Rattle.bound_plans.specs.Named.{named};
+ghost use Rattle.resolve.specs.EntryTables.{AreTables};
+ghost use Rattle.resolve.specs.View.{bound_of};
+ghost use Rattle.syntax.specs.Limits.{within_limits};
+ghost use Rattle.output.specs.Taken.{Begins, one_more};
+ghost use Rattle.replies.specs.Reply.{no_memory, reply_status};
+ghost use Rattle.replies.specs.ReplyText.{reply_text};
+ghost use Rattle.replies.specs.View.{reply_of};
+ghost use Rattle.analysis.specs.Analysis.{admitted_query};
+ghost use Rattle.store.specs.Database.{Database};
+ghost use Rattle.engine.specs.Explained as spec;
+ghost use Rattle.engine.specs.Explained.{KnowsSame, explained, explained_query, explained_status, explained_text, known};
+ghost use Rattle.engine.specs.Known.{statistics_in};
+ghost use Rattle.engine.specs.Serving.{IsExplained};
+
+use crate::known::known_statistics;
+use crate::setting::setting;
+use crate::writing::send;
+use analysis::{admit, read_query};
+use bound_plans::{named, plan_entries};
+use expr::{ColumnId, MovableExpr};
+use memory::{Heap, Items};
+use output::Out;
+use plan_texts::{SortColumn, write_plan};
+use planning::Plan;
+use replies::{Reply, reply_status, reply_text};
+use resolve::Bound;
+use row_ast::{Expr, Query};
+use scope::Entry;
+use stats::Stats;
+use std::alloc::AllocError;
+use store::{Store, column_number};
+use syntax::law_parsing_is_determined;
+
+// The trees of conditions, each column by the alias of its entry.
+fn named_conditions<A: Heap>(
+    alloc: A,
+    entries: &[Entry<'_, A>],
+    conditions: &[MovableExpr<A>],
+) -> Result<Items<Expr<A>, A>, AllocError>
+    ensures { IfOk result (λ all. map expr_of all ≡ map (named (entries_of entries.now)) conditions.now) }
+{
+    let mut all = Items::new(alloc);
+    for condition in conditions {
+        let tree = named(alloc, entries, condition.expression())?;
+        all.push(Box::into_inner(tree))?;
+    }
+    Ok(all)
+}
+
+// A column by its numbers, from 1.
+fn sort_column(id: ColumnId) -> SortColumn
+    ensures { result ≡ spec.sort_column id }
+{
+    SortColumn {
+        entry: column_number(id.entry),
+        column: column_number(id.column),
+    }
+}
+
+// The column of the last sort of a plan, if it has one.
+fn last_sort<A: Heap>(plan: &Plan<'_, A>) -> Option<SortColumn>
+    ensures { result ≡ option_map spec.sort_column (last_sort plan.now.problem plan.now.code) }
+{
+    match plan.last_sort() {
+        Some(id) => Some(sort_column(id)),
+        None => None,
+    }
+}
+
+// A plan as its text has it, its filters the conditions.
+fn plan_with<A: Heap>(
+    alloc: A,
+    entries: &[Entry<'_, A>],
+    conditions: &[MovableExpr<A>],
+    plan: Plan<'_, A>,
+) -> Result<plan_texts::Plan<A>, AllocError>
+    ensures value { IfOk result (λ p. plan_of p ≡ record { cost = plan.entry.cost; filters = map (named (entries_of entries.now)) conditions.now; code = plan.entry.code; sort = option_map spec.sort_column (last_sort plan.entry.problem plan.entry.code); trail = plan.entry.trail }) }
+    ensures plan { IfOk result (λ _. IsPlan plan.entry) }
+{
+    let filters = named_conditions(alloc, entries, conditions)?;
+    let cost = plan.cost();
+    let sort = last_sort(&plan);
+    let (code, trail) = plan.into_parts();
+    Ok(plan_texts::Plan {
+        cost,
+        filters,
+        code,
+        sort,
+        trail,
+    })
+}
+
+// The text of the plan of a role's bound query.
+fn best_text<A: Heap>(
+    alloc: A,
+    store: &Store<A>,
+    role: &str,
+    bound: &Bound<'_, A>,
+) -> Result<Vec<u8, A>, AllocError>
+    requires tables { AreTables store.now.catalog (bound_of bound.now).entries }
+    requires few { length (bound_of bound.now).entries ≤ most_entries }
+    requires conjuncts { length (movable_conjuncts (bound_of bound.now).query) ≤ most_conjuncts }
+    ensures { IfOk result (λ text. text.items ≡ spec.best_text store.now.catalog role.now (bound_of bound.now) (map (λ e. known store.now.catalog role.now (statistics_in store.now) e.table) (bound_of bound.now).entries)) }
+{
+    let entries = bound.entries.as_slice();
+    let setting = setting(alloc, store.catalog(), role, bound)?;
+    let frame = setting.frame.as_slice();
+    let unknown = Stats::unknown();
+    let statistics = known_statistics(alloc, store, entries, frame, &unknown)?;
+    let found = Plan::new(alloc, &bound.query, &setting, &statistics)?;
+    let plan = plan_with(alloc, entries, setting.conditions.as_slice(), found)?;
+    let names = plan_entries(alloc, entries)?;
+    write_plan(alloc, names.as_slice(), &plan)
+}
+
+// The text of a refusal or denial, and its status.
+fn refused<A: Heap>(alloc: A, reply: &Reply<A>) -> Result<(Vec<u8, A>, u8), AllocError>
+    ensures { IfOk result (λ r. (r.0.items ≡ reply_text (reply_of reply.now)) × (r.1 ≡ reply_status (reply_of reply.now)) × (r.1 < 8)) }
+{
+    Ok((reply_text(alloc, reply)?, reply_status(reply)))
+}
+
+// The text of a query's plan and status 0; or the text of its refusal or denial, and the status of that.
+fn explained_query<A: Heap>(
+    alloc: A,
+    store: &Store<A>,
+    role: &str,
+    query: &Query<A>,
+) -> Result<(Vec<u8, A>, u8), AllocError>
+    requires { within_limits (query_of query.now) ≡ true }
+    ensures { IfOk result (λ r. spec.IsExplanation r.0.items r.1 (explained_query store.now.catalog (known store.now.catalog role.now (statistics_in store.now)) role.now (admitted_query store.now.catalog role.now (query_of query.now)))) }
+{
+    match admit(alloc, store.catalog(), role, query)? {
+        Ok(bound) => Ok((best_text(alloc, store, role, &bound)?, 0)),
+        Err(reply) => refused(alloc, &reply),
+    }
+}
+
+// The same of a text.
+fn explained<A: Heap>(
+    alloc: A,
+    store: &Store<A>,
+    role: &str,
+    text: &str,
+) -> Result<(Vec<u8, A>, u8), AllocError>
+    ensures { IfOk result (λ r. spec.IsExplanation r.0.items r.1 (explained store.now.catalog (known store.now.catalog role.now (statistics_in store.now)) role.now text.now)) }
+{
+    law_parsing_is_determined();
+    match read_query(alloc, store.catalog(), role, text)? {
+        Ok(query) => {
+            let explained = explained_query(alloc, store, role, &query);
+            drop(query);
+            explained
+        }
+        Err(reply) => refused(alloc, &reply),
+    }
+}
+
+// Writes what explains a role's text, or one line where memory runs out.
+fn write_explained<A: Heap, W: Out>(
+    alloc: A,
+    store: &Store<A>,
+    role: &str,
+    text: &str,
+    out: &mut W,
+) -> u8
+    ensures answered { result ≢ 7 → result ≢ 8 → IsExplained (W.taken out.old) (W.taken out.new) result (explained store.now.catalog (known store.now.catalog role.now (statistics_in store.now)) role.now text.now) }
+    ensures memory { result ≡ 7 → Appends (W.taken out.old) (W.taken out.new) (reply_text no_memory) }
+    ensures failed { result ≡ 8 → W.failures out.new ≡ one_more (W.failures out.old) }
+    ensures fine { result ≢ 8 → W.failures out.new ≡ W.failures out.old }
+    ensures beginning { result ≡ 8 →
+        Begins (W.taken out.old) (W.taken out.new) (explained_text (explained store.now.catalog (known store.now.catalog role.now (statistics_in store.now)) role.now text.now))
+        ⊎ Begins (W.taken out.old) (W.taken out.new) (reply_text no_memory) }
+{
+    match explained(alloc, store, role, text) {
+        Ok((bytes, status)) => send(out, &bytes, status),
+        Err(_) => send(out, b"refused 53200\n".as_slice(), 7),
+    }
+}
+
+/// Writes the text of the plan by which a role's query is answered (PostgreSQL: EXPLAIN), and gives its status: 0 a plan,
+/// with its estimated cost in steps of work, the planning list, the code, a last sort and the trail that `verify` accepts; else the
+/// refusal or denial of the text with its status, as `serve`; 7 out of memory, 8 a writer that failed. No row is read: of the
+/// tables of which the role sees every row it reads the statistics, of the others nothing. Nothing is written before the text is
+/// whole, and the writer is not flushed.
+pub fn explain<A: Heap, W: Out>(
+    alloc: A,
+    store: &Store<A>,
+    role: &str,
+    text: &str,
+    out: &mut W,
+) -> u8
+    // The whole text of the plan, of the refusal or of the denial, and its status.
+    ensures answered { result ≢ 7 → result ≢ 8 → IsExplained (W.taken out.old) (W.taken out.new) result (explained store.now.catalog (known store.now.catalog role.now (statistics_in store.now)) role.now text.now) }
+    // Memory ran out: one line, and nothing of the text.
+    ensures memory { result ≡ 7 → Appends (W.taken out.old) (W.taken out.new) (reply_text no_memory) }
+    // The writer failed in this call, and a beginning of either went out.
+    ensures failed { result ≡ 8 → W.failures out.new ≡ one_more (W.failures out.old) }
+    ensures fine { result ≢ 8 → W.failures out.new ≡ W.failures out.old }
+    ensures beginning { result ≡ 8 →
+        Begins (W.taken out.old) (W.taken out.new) (explained_text (explained store.now.catalog (known store.now.catalog role.now (statistics_in store.now)) role.now text.now))
+        ⊎ Begins (W.taken out.old) (W.taken out.new) (reply_text no_memory) }
+    // A database whose tables of which the role sees every row have the same statistics makes no difference.
+    ensures hidden { (other : Database) → KnowsSame store.now.catalog role.now text.now (statistics_in store.now) (statistics_in other) → result ≢ 7 → result ≢ 8 →
+        IsExplained (W.taken out.old) (W.taken out.new) result (explained store.now.catalog (known store.now.catalog role.now (statistics_in other)) role.now text.now) }
+{
+    write_explained(alloc, store, role, text, out)
+}
+
+/// What explains a text is the same whatever rows are hidden from the role: two databases that have the same statistics of each
+/// of the text's tables of which the role sees every row give the same plan, and so equal bytes and statuses.
+#[tactic(auto, using(crate::proofs::ExplainedTexts::same_explained))]
+pub fn law_known_statistics()
+    ensures { (cat : Catalog) (role : Name) (text : List ℕ) (one other : Name → stats.Stats) → KnowsSame cat role text one other → explained cat (known cat role one) role text ≡ explained cat (known cat role other) role text }
+{}

@@ -1,0 +1,134 @@
+-- The codes that a plan may have are listed, and one before which none comes is the best of them.
+use Rattle.std.proofs.Common.{◌≡◌, ℕ, zero, suc, ◌≤◌, inl, inr, Bool, true, false, not, ◌&&◌, ◌==◌, nat_le, List, [], ◌∷◌, ◌++◌, length, map, Option, Some, None, slice_get, Ordering, Less, Equal, Greater, refl, ap, ◌∙◌, arith}
+use Rattle.std.specs.Cmp.{IsTotalOrder}
+use Rattle.std.specs.List.{flat_map}
+use Rattle.std.specs.Ordering.{nat_cmp, ordering_reverse, ordering_then}
+use Rattle.std.proofs.lemmas.Bool.{and_parts, both_ways, eqb-true, leb-true, not-true}
+use Rattle.std.proofs.lemmas.Cmp.{nat_cmp_total, nat_list_cmp_total, on_total, then_total}
+use Rattle.std.proofs.lemmas.Map.Lookups.{exact_bytes}
+use Rattle.std.proofs.lemmas.Option.{slice_get_within}
+use Rattle.expr.specs.declared.code.Access.{Access}
+use Rattle.expr.specs.declared.code.Access.TheVariants.{Full, Index, Range}
+use Rattle.expr.specs.declared.code.Method.{Method}
+use Rattle.expr.specs.declared.code.Method.TheVariants.{Nested, Hash, Merge}
+use Rattle.expr.specs.declared.code.CodeStep.{CodeStep}
+use Rattle.expr.specs.Bound.{BoundExpr}
+use Rattle.expr.specs.Codes.{Code, Empty, Steps, code_cmp, code_numbers}
+use Rattle.bags.proofs.Members.{Each}
+use Rattle.trailcheck.specs.Admissible.{are_allowed_steps, bounds, condition_at, equates, is_admissible, is_allowed_access, is_allowed_method, is_allowed_step, is_connected, is_indexed, is_listed, is_next, is_refuted, is_some_and}
+use Rattle.trailcheck.specs.Entries.{is_among}
+use Rattle.trailcheck.specs.Settings.{Setting}
+use Rattle.trailcheck.specs.Shapes.{entry_index}
+use Rattle.joindp.specs.Best.{Problem, estimates}
+use Rattle.joindp.specs.Cost.{cost}
+use Rattle.joindp.proofs.Followed.{IsIn}
+use Rattle.planning.specs.Best.{LeastIsBest, accesses, accesses_by, best, by_cost, codes, condition_numbers, entry_numbers, lists_of, methods, step_of, steps}
+use Rattle.planning.proofs.Members.{in_any, in_filter, in_flat_map, in_lists, in_map, in_range, in_slice, least_found, passes_filter}
+use Rattle.planning.proofs.Numbers.{same_steps}
+
+-- ---- every code that a plan may have is listed
+
+module _ (at : Setting) where
+  -- a number under which there is a condition
+  condition_in : (test : BoundExpr → Bool) (number : ℕ) → is_some_and test (condition_at at number) ≡ true → IsIn (condition_numbers at) number
+  condition_in test zero h = absurd (cc)
+  condition_in test (suc k) h = go (slice_get at.conditions k) refl h
+    where
+      go : (o : Option BoundExpr) → slice_get at.conditions k ≡ o → is_some_and test o ≡ true → IsIn (condition_numbers at) (suc k)
+      go None e passes = absurd (cc)
+      go (Some x) e passes = let within = slice_get_within at.conditions k x e in in_range 1 (length at.conditions) (suc k) (omega arith) (omega arith)
+
+  columns_of : (column : ℕ) (o : Option (List ℕ)) → is_listed column o ≡ true → (columns : List ℕ) × (o ≡ Some columns) × IsIn columns column
+  columns_of column None h = absurd (cc)
+  columns_of column (Some columns) h = (columns, refl, in_any columns column h)
+
+  -- an access by an index on a column of the entry
+  indexed_in : (entry column : ℕ) → is_indexed at entry column ≡ true → (access : Access) → IsIn (accesses_by at column) access → IsIn (accesses at) access
+  indexed_in entry column h access k =
+      let c = columns_of column (slice_get at.indexed entry) h in
+      inr (in_flat_map (λ columns. flat_map (accesses_by at) columns) at.indexed c.0 access (in_slice at.indexed entry c.0 c.1) (in_flat_map (accesses_by at) c.0 column access c.2 k))
+
+  access_in : (entry : ℕ) (access : Access) → is_allowed_access at entry access ≡ true → IsIn (accesses at) access
+  access_in entry Full h = inl refl
+  access_in entry (Index column) h = indexed_in entry column h (Index column) (inl refl)
+  access_in entry (Range column bound) h =
+      let parts = and_parts (is_indexed at entry column) (is_some_and (bounds entry column) (condition_at at bound)) h in
+      indexed_in entry column parts.0 (Range column bound) (inr (in_map (Range column) (condition_numbers at) bound (condition_in (bounds entry column) bound parts.1)))
+
+  joining_in : (number : ℕ) (method : Method) → IsIn (condition_numbers at) number → IsIn (Hash number ∷ Merge number ∷ []) method → IsIn (methods at) method
+  joining_in number method h k = inr (in_flat_map (λ (n : ℕ). Hash n ∷ Merge n ∷ []) (condition_numbers at) number method h k)
+
+  method_in : (placed : List ℕ) (entry : ℕ) (method : Method) → is_allowed_method at placed entry method ≡ true → IsIn (methods at) method
+  method_in placed entry Nested h = inl refl
+  method_in placed entry (Hash conjunct) h = joining_in conjunct (Hash conjunct) (condition_in (equates placed entry) conjunct h) (inl refl)
+  method_in placed entry (Merge conjunct) h = joining_in conjunct (Merge conjunct) (condition_in (equates placed entry) conjunct h) (inr (inl refl))
+
+  step_listed : (s : CodeStep) → IsIn (entry_numbers at) s.entry → IsIn (accesses at) s.access → IsIn (methods at) s.method → IsIn (steps at) s
+  step_listed s entry access method =
+      in_flat_map (λ (e : ℕ). flat_map (λ (a : Access). map (step_of e a) (methods at)) (accesses at)) (entry_numbers at) s.entry s entry
+      (in_flat_map (λ (a : Access). map (step_of s.entry a) (methods at)) (accesses at) s.access s access (in_map (step_of s.entry s.access) (methods at) s.method method))
+
+  step_in : (placed : List ℕ) (s : CodeStep) → is_allowed_step at placed s ≡ true → IsIn (steps at) s
+  step_in placed s h =
+      let i : ℕ = entry_index s in
+      let whole = and_parts (is_next at placed s && is_connected at placed i) (is_allowed_access at i s.access && is_allowed_method at placed i s.method) h in
+      let next = and_parts (is_next at placed s) (is_connected at placed i) whole.0 in
+      let place = and_parts (nat_le 1 s.entry && nat_le s.entry (length at.frame)) (not (is_among placed i)) next.0 in
+      let range = and_parts (nat_le 1 s.entry) (nat_le s.entry (length at.frame)) place.0 in
+      let way = and_parts (is_allowed_access at i s.access) (is_allowed_method at placed i s.method) whole.1 in
+      let last : s.entry ≤ length at.frame = leb-true s.entry (length at.frame) range.1 in
+      step_listed s (in_range 1 (length at.frame) s.entry (leb-true 1 s.entry range.0) (omega arith)) (access_in i s.access way.0) (method_in placed i s.method way.1)
+
+  steps_in : (placed : List ℕ) (ss : List CodeStep) → are_allowed_steps at placed ss ≡ true → Each (IsIn (steps at)) ss
+  steps_in placed [] h = tt
+  steps_in placed (s ∷ ss) h =
+      let parts = and_parts (is_allowed_step at placed s) (are_allowed_steps at (placed ++ entry_index s ∷ []) ss) h in
+      (step_in placed s parts.0, steps_in (placed ++ entry_index s ∷ []) ss parts.1)
+
+  listed : (code : Code) → is_admissible at code ≡ true → IsIn (Empty ∷ map Steps (lists_of (length at.frame) (steps at))) code
+  listed Empty h = inl refl
+  listed (Steps ss) h =
+      let rest = (and_parts (not (is_refuted at)) ((length ss == length at.frame) && are_allowed_steps at [] ss) h).1 in
+      let parts = and_parts (length ss == length at.frame) (are_allowed_steps at [] ss) rest in
+      let many = eqb-true (length ss) (length at.frame) parts.0 in
+      inr (in_map Steps (lists_of (length at.frame) (steps at)) ss (in_lists (length at.frame) (steps at) ss many (steps_in [] ss parts.1)))
+
+  code_in : (code : Code) → is_admissible at code ≡ true → IsIn (codes at) code
+  code_in code h = in_filter (is_admissible at) (Empty ∷ map Steps (lists_of (length at.frame) (steps at))) code (listed code h) h
+
+  -- ---- codes that a plan may have, with the same numbers, are the same
+
+  not_refuted : (ss : List CodeStep) → is_admissible at (Steps ss) ≡ true → is_refuted at ≡ false
+  not_refuted ss h = not-true (is_refuted at) (and_parts (not (is_refuted at)) ((length ss == length at.frame) && are_allowed_steps at [] ss) h).0
+
+  same_code : (code other : Code) → is_admissible at code ≡ true → is_admissible at other ≡ true → code_numbers code ≡ code_numbers other → code ≡ other
+  same_code Empty Empty h k e = refl
+  same_code Empty (Steps ts) h k e = absurd (both_ways (is_refuted at) (not_refuted ts k) h)
+  same_code (Steps ss) Empty h k e = absurd (both_ways (is_refuted at) (not_refuted ss h) k)
+  same_code (Steps ss) (Steps ts) h k e = ap Steps (same_steps ss ts e)
+
+-- ---- the order of codes
+
+second_equal : (o r : Ordering) → ordering_then o r ≡ Equal → r ≡ Equal
+second_equal Less r e = absurd (cc)
+second_equal Equal r e = e
+second_equal Greater r e = absurd (cc)
+
+module _ (p : Problem) where
+  by_cost_total : IsTotalOrder (by_cost p)
+  by_cost_total = then_total (on_total (cost (estimates p)) nat_cmp_total) (on_total code_numbers nat_list_cmp_total)
+
+  turned : (code other : Code) → by_cost p code other ≡ Greater → by_cost p other code ≡ Less
+  turned code other e = let total = by_cost_total in total.antisymm other code ∙ ap ordering_reverse e
+
+  same_numbers : (code other : Code) → by_cost p code other ≡ Equal → code_numbers code ≡ code_numbers other
+  same_numbers code other e = exact_bytes (code_numbers code) (code_numbers other) (second_equal (nat_cmp (cost (estimates p) code) (cost (estimates p) other)) (code_cmp code other) e)
+
+-- ---- the best
+
+pub least_is_best : LeastIsBest
+unfolding best
+least_is_best p code may least =
+    let at : Setting = p.setting in
+    let may_be : (other : Code) → IsIn (codes at) other → is_admissible at other ≡ true = passes_filter (is_admissible at) (Empty ∷ map Steps (lists_of (length at.frame) (steps at))) in
+    least_found (by_cost p) (turned p) code (codes at) (code_in at code may) (λ other h. least other (may_be other h)) (λ other h e. same_code at other code (may_be other h) may (same_numbers p other code e))

@@ -1,0 +1,64 @@
+-- The best code of a query: of all that a plan may have, the least by cost, and then by its numbers.
+use Rattle.std.specs.Prelude.{◌≡◌, ℕ, zero, suc, true, List, [], ◌∷◌, length, map, flat_map, filter, Option, Some}
+use Rattle.std.specs.List.{range_with_len}
+use Rattle.std.specs.declared.cmp.Ordering.{Ordering}
+use Rattle.bags.specs.Least.{least}
+use Rattle.expr.specs.declared.code.Access.{Access}
+use Rattle.expr.specs.declared.code.Access.TheVariants.{Full, Index, Range}
+use Rattle.expr.specs.declared.code.Method.{Method}
+use Rattle.expr.specs.declared.code.Method.TheVariants.{Nested, Hash, Merge}
+use Rattle.expr.specs.declared.code.CodeStep.{CodeStep}
+use Rattle.expr.specs.Codes.{Code, Empty, Steps}
+use Rattle.trailcheck.specs.Admissible.{is_admissible}
+use Rattle.trailcheck.specs.Settings.{Setting}
+use Rattle.joindp.specs.Best.{IsLeast, Problem, estimates, plan_cmp}
+use Rattle.joindp.specs.Cost.{cost}
+
+-- all lists of so many members of a list
+abbrev pub lists_of : {X : Type 0} → (count : ℕ) → List X → List (List X)
+lists_of zero xs = [] ∷ []
+lists_of (suc count) xs = flat_map (λ x. map (λ ys. x ∷ ys) (lists_of count xs)) xs
+
+abbrev pub step_of : (entry : ℕ) → Access → Method → CodeStep
+step_of entry access method = record { entry = entry; access = access; method = method }
+
+module _ (at : Setting) where
+  -- the numbers of the conditions, and of the entries
+  abbrev pub condition_numbers : List ℕ
+  condition_numbers = range_with_len 1 (length at.conditions)
+
+  abbrev pub entry_numbers : List ℕ
+  entry_numbers = range_with_len 1 (length at.frame)
+
+  -- all rows; by an index on a column, whole or bounded by a condition
+  abbrev pub accesses_by : (column : ℕ) → List Access
+  accesses_by column = Index column ∷ map (Range column) condition_numbers
+
+  abbrev pub accesses : List Access
+  accesses = Full ∷ flat_map (λ columns. flat_map accesses_by columns) at.indexed
+
+  -- nested loops; a hash table or a merge on a condition
+  abbrev pub methods : List Method
+  methods = Nested ∷ flat_map (λ number. Hash number ∷ Merge number ∷ []) condition_numbers
+
+  -- each entry by each access and each method
+  abbrev pub steps : List CodeStep
+  steps = flat_map (λ entry. flat_map (λ access. map (step_of entry access) methods) accesses) entry_numbers
+
+  -- the codes that a plan may have: no rows, or a step for each entry
+  abbrev pub codes : List Code
+  codes = filter (is_admissible at) (Empty ∷ map Steps (lists_of (length at.frame) steps))
+
+-- codes by cost, and then by their numbers
+abbrev pub by_cost : Problem → Code → Code → Ordering
+by_cost p code other = plan_cmp (cost (estimates p) code) code (cost (estimates p) other) other
+
+-- the best of them
+unfoldable pub best : Problem → Option Code
+best p = least (by_cost p) (codes p.setting)
+
+-- ---- laws
+
+-- a code before which none comes is the best
+abbrev pub LeastIsBest : Type 0
+LeastIsBest = (p : Problem) (code : Code) → is_admissible p.setting code ≡ true → IsLeast p (cost (estimates p) code) code → best p ≡ Some code
