@@ -22,7 +22,7 @@ module _ (s : State) (name : Name) (bytes : List ℕ) (room : s.loads < most_cou
   -- the first error of the rows
   first : (e : LoadError) (given : Reply) → given ≡ data_refusal s name e → (table : Name × TableRows) × (find (is_named name) s.database.tables ≡ Some table) × (due_rows table.1 (records_of bytes) ≡ Err e)
       → IsTaken (load s name bytes) s s given
-  first e given is h = rw (h.1, below, h.2) (is, refl)
+  first e given is h = rw (below, h.1, h.2) (is, refl)
 
   -- that error, or a row that was not read
   refused : (e : LoadError) (given : Reply) → given ≡ data_refusal s name e → IsLoadFrom (Some bytes) s.database.tables s.database.tables name (Err (failure.Error (store.Data e)))

@@ -179,10 +179,10 @@ loaded_state s name (Err e) = Err (data_refusal s name e)
 
 abbrev pub load_into : State → Name → List ℕ → Option (Name × TableRows) → Result Step Reply
 load_into s name bytes None = Err (refused_by r.UndefinedTable)
-load_into s name bytes (Some table) =
-    if nat_le most_counted s.loads then Err (refused_by r.ProgramLimitExceeded)
-    else loaded_state s name (due_rows table.1 (records_of bytes))
+load_into s name bytes (Some table) = loaded_state s name (due_rows table.1 (records_of bytes))
 
 -- all rows of the bytes come to the table's, or none
 abbrev pub load : State → Name → List ℕ → Result Step Reply
-load s name bytes = load_into s name bytes (find (is_named name) s.database.tables)
+load s name bytes =
+    if nat_le most_counted s.loads then Err (refused_by r.ProgramLimitExceeded)
+    else load_into s name bytes (find (is_named name) s.database.tables)

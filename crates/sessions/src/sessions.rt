@@ -385,16 +385,16 @@ impl<A: Heap> Sessions<A> {
         apply_text(self.alloc, &mut self.store, role, text)
     }
 
-    /// Adds the rows of comma-separated bytes to a table, or none. It is refused where there is no such table (42P01), where
-    /// numbers of loads run out (54000), or by the first error of the rows.
+    /// Adds the rows of comma-separated bytes to a table, or none. It is refused where numbers of loads run out (54000), where
+    /// there is no such table (42P01), or by the first error of the rows.
     pub fn load(&mut self, table: &str, bytes: &[u8]) -> Result<Reply<A>, AllocError>
         ensures { TakesLoad self.old self.new table.now bytes.now result }
     {
-        if self.store.contents(table).is_none() {
-            return Ok(refused_by(Refusal::UndefinedTable));
-        }
         if self.loads == u64::MAX {
             return Ok(refused_by(Refusal::ProgramLimitExceeded));
+        }
+        if self.store.contents(table).is_none() {
+            return Ok(refused_by(Refusal::UndefinedTable));
         }
         match self.store.append(table, bytes) {
             Ok(()) => {
