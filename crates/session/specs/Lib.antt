@@ -1,0 +1,4 @@
+pub mod Event
+pub mod Machine
+pub mod Taking
+pub mod View

@@ -1,0 +1,18 @@
+//! Sessions of several roles over one store, one event after the other.
+//!
+//! ```text
+//! let mut core = Core::new(alloc, store);
+//! let role = Text::new(alloc, "alice")?;
+//! core.step(Event::Login { role });                       // Reply::Session { number: 0 }
+//! let text = Text::new(alloc, "SELECT id FROM deal")?;
+//! core.step(Event::Ask { session: 0, text });             // Reply::Engine, with the rows that alice sees
+//! ```
+#![tactic(auto)]
+
+mod asking;
+mod core;
+mod event;
+
+pub use core::{Core, law_runs_are_the_machines};
+pub use event::Event;
+pub use sessions::Reply;
