@@ -5,11 +5,11 @@
 #[cfg(test)]
 mod code_order;
 #[cfg(test)]
+mod conditions;
+#[cfg(test)]
 mod plan_reading;
 #[cfg(test)]
 mod planned;
-#[cfg(test)]
-mod planning;
 #[cfg(test)]
 mod queries;
 #[cfg(test)]

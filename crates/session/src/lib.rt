@@ -10,9 +10,9 @@
 #![tactic(auto)]
 
 mod asking;
-mod core;
 mod event;
+mod machine;
 
-pub use core::{Core, law_runs_are_the_machines};
 pub use event::Event;
+pub use machine::{Core, law_runs_are_the_machines};
 pub use sessions::Reply;

@@ -3,7 +3,7 @@ use Rattle.replies.specs.View.{reply_of}
 use Rattle.sessions.specs.Events.{keep}
 use Rattle.sessions.specs.Taking.{Takes}
 use Rattle.session.proofs.Cursors.{cursor_made}
-use Rattle.session.proofs.core.Core.declare.Goals as goal
+use Rattle.session.proofs.machine.Core.declare.Goals as goal
 
 pub returns-in-Ok : goal.returns-in-Ok
 returns-in-Ok g c =

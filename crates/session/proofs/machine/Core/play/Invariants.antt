@@ -5,7 +5,7 @@ use Rattle.sessions.specs.View.{reply_of}
 use Rattle.sessions.specs.State.{State}
 use Rattle.session.specs.Machine.{IsRun}
 use Rattle.session.specs.View.{event_of}
-use Rattle.session.proofs.core.Core.play.Given as goal
+use Rattle.session.proofs.machine.Core.play.Given as goal
 
 -- each run of what is left goes on from what came
 abbrev pub invariant-loop-event : goal.invariant-loop-event
