@@ -9,7 +9,7 @@ use std::alloc::{AllocError, Global};
 const VERSION: &str = "0.1.0";
 
 const EXAMPLE: &str =
-    "Example, at the top of the repository:\n  rowplan query --schema examples/sales/schema.sql --dir examples/sales --role alice 'SELECT count(*) AS deals FROM deal'\n\nExit status: 0 answer or accepted plan, 2 command line, 3 refused text or plan, 4 denial, 5 fault, 6 schema, rows or unknown role, 7 memory, 8 input or output";
+    "Example, at the top of the repository:\n  rowplan query --schema examples/sales/schema.sql --dir examples/sales --role alice 'SELECT count(*) AS deals FROM deal'\n\nExit status: 0 answer, plan or whole script, 2 command line, 3 refused text, plan or line, 4 denial, 5 fault, 6 schema, rows or unknown role, 7 memory, 8 input or output";
 
 /// The source of the text of a query.
 #[derive(Clone, Copy)]
@@ -48,6 +48,19 @@ pub struct VerifyArguments<'a> {
     pub text: QueryText<'a>,
 }
 
+/// The arguments of `rowplan session`.
+#[derive(Clone, Copy)]
+pub struct SessionArguments<'a> {
+    /// The path of the schema text, or `-` for standard input.
+    pub schema: &'a str,
+    /// The folder of the files of the tables.
+    pub dir: &'a str,
+    /// The path of the script, or `-` for standard input.
+    pub script: &'a str,
+    /// True where a line with its number of bytes comes before each reply.
+    pub frames: bool,
+}
+
 /// The request of a command line.
 #[derive(Clone, Copy)]
 pub enum Request<'a> {
@@ -57,6 +70,8 @@ pub enum Request<'a> {
     Explain(QueryArguments<'a>),
     /// The audit of a plan of a query.
     Verify(VerifyArguments<'a>),
+    /// The replies to the events of a script.
+    Session(SessionArguments<'a>),
     /// The codes of refusals and faults with their meaning.
     Codes,
 }
@@ -114,6 +129,27 @@ fn verify_words<'a>(alloc: Global) -> Result<Vec<Arg<'a>>, AllocError> {
     Ok(Vec::from_array(alloc, words)?)
 }
 
+// The arguments that the options of a script of sessions are read from.
+fn session_words<'a>(alloc: Global) -> Result<Vec<Arg<'a>>, AllocError> {
+    let schema = "The schema text, or - for standard input";
+    let dir = "The folder with a file T.csv for each table T";
+    let frames = "Writes before each reply a line with its number of bytes";
+    let script = "A file with an event a line, or - for standard input, of which each line is answered before the next is read";
+    let words = [
+        option(alloc, "schema", "FILE", schema).required(true),
+        option(alloc, "dir", "DIR", dir).required(true),
+        Arg::new(alloc, "frames")
+            .long("frames")
+            .help(frames)
+            .action(ArgAction::SetTrue),
+        Arg::new(alloc, "SCRIPT")
+            .help(script)
+            .action(ArgAction::Set)
+            .required(true),
+    ];
+    Ok(Vec::from_array(alloc, words)?)
+}
+
 fn explain_refusal<'a>(alloc: Global) -> Arg<'a> {
     Arg::new(alloc, "explain-refusal")
         .long("explain-refusal")
@@ -145,10 +181,18 @@ fn verify_command<'a>(alloc: Global) -> Result<Command<'a>, AllocError> {
         .args(words)
 }
 
+fn session_command<'a>(alloc: Global) -> Result<Command<'a>, AllocError> {
+    let words = session_words(alloc)?;
+    Command::new(alloc, "session")
+        .about("Writes the replies to the events of a script of sessions")
+        .args(words)
+}
+
 fn command<'a>(alloc: Global) -> Result<Command<'a>, AllocError> {
     let query = query_command(alloc)?;
     let explain = explain_command(alloc)?;
     let verify = verify_command(alloc)?;
+    let session = session_command(alloc)?;
     let codes = "Lists the codes of refusals and faults with their meaning";
     let program = Command::new(alloc, "rowplan")
         .version(VERSION)
@@ -157,7 +201,8 @@ fn command<'a>(alloc: Global) -> Result<Command<'a>, AllocError> {
         .after_help(EXAMPLE)
         .subcommand(query)?
         .subcommand(explain)?
-        .subcommand(verify)?;
+        .subcommand(verify)?
+        .subcommand(session)?;
     program.subcommand(Command::new(alloc, "codes").about(codes))
 }
 
@@ -205,6 +250,22 @@ fn verify_arguments<'a>(found: &ArgMatches<'a>) -> Option<VerifyArguments<'a>> {
     })
 }
 
+// The required arguments of a script, or memory ran out.
+fn session_arguments<'a>(found: &ArgMatches<'a>) -> Option<SessionArguments<'a>> {
+    let (Some(schema), Some(dir)) = (found.get_str("schema"), found.get_str("dir")) else {
+        return None;
+    };
+    let Some(script) = found.get_str("SCRIPT") else {
+        return None;
+    };
+    Some(SessionArguments {
+        schema,
+        dir,
+        script,
+        frames: found.get_flag("frames"),
+    })
+}
+
 // True where the query is read from standard input.
 fn is_input(text: QueryText<'_>) -> bool {
     match text {
@@ -223,6 +284,7 @@ fn is_input_twice(request: &Request<'_>) -> bool {
             let plan = audit.plan == "-";
             (schema && plan) || ((schema || plan) && is_input(audit.text))
         }
+        Request::Session(script) => script.schema == "-" && script.script == "-",
         Request::Codes => false,
     }
 }
@@ -235,6 +297,12 @@ fn request_of<'a>(matches: &ArgMatches<'a>) -> Option<Request<'a>> {
     if let Some(found) = matches.subcommand_matches("verify") {
         return match verify_arguments(found) {
             Some(arguments) => Some(Request::Verify(arguments)),
+            None => None,
+        };
+    }
+    if let Some(found) = matches.subcommand_matches("session") {
+        return match session_arguments(found) {
+            Some(arguments) => Some(Request::Session(arguments)),
             None => None,
         };
     }
@@ -264,7 +332,7 @@ fn accepted<'a>(
     if is_input_twice(&request) {
         let error = command.error(
             ErrorKind::ArgumentConflict,
-            "standard input can be one of the schema, the plan and the query",
+            "standard input can be one of the schema, the plan, the query and the script",
         )?;
         return Err(CommandLineError::Usage(error));
     }

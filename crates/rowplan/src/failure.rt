@@ -11,8 +11,12 @@ use std::alloc::{AllocError, Global};
 pub enum ProgramError {
     /// The command line has no request.
     CommandLine(CommandLineError),
-    /// There is no store.
+    /// There is no store, or a file of a script cannot be read.
     Setup(Failure<SetupError<Global>>),
+    /// The line of a script with this number, from 1, is no event.
+    Line(u64),
+    /// A reply was not written.
+    Output,
 }
 
 impl From<AllocError> for ProgramError {
@@ -57,5 +61,10 @@ pub fn print_error(rt: &HostRuntime, error: &ProgramError) -> u8 {
             report_failure(rt, &Failure::OutOfMemory)
         }
         ProgramError::Setup(failure) => report_failure(rt, failure),
+        ProgramError::Line(number) => {
+            let _ = eprintln!(rt; "line {number}");
+            3
+        }
+        ProgramError::Output => 8,
     }
 }

@@ -12,8 +12,8 @@ use std::io::{ErrorKind, Read};
 use std::rt::Files;
 use std::{fs, io};
 
-// The failure of a file of that path that cannot be read.
-fn unreadable(alloc: Global, path: &str, error: &io::Error) -> Failure<SetupError<Global>>
+/// The failure of a file of that path that cannot be read.
+pub fn unreadable(alloc: Global, path: &str, error: &io::Error) -> Failure<SetupError<Global>>
     ensures { IsOfFile path.now result }
 {
     match error.kind() {

@@ -3,30 +3,36 @@
 
 mod failure;
 mod files;
+mod script;
 
-use command_line::{QueryArguments, QueryText, Request, VerifyArguments, read_arguments};
+use command_line::{
+    QueryArguments, QueryText, Request, SessionArguments, VerifyArguments, read_arguments,
+};
 use diagnostics::codes_text;
 use engine::{explain, verify};
 use failure::{ProgramError, print_error};
 use files::{Directory, read_bytes, read_text};
 use memory::Failure;
 use output::{Output, write_whole};
+use script::{answer_input, answer_text};
+use session::Core;
 use setup::{Arguments, SetupError, explain_refusal, open_store, reply, store_of_schema};
 use std::alloc::{AllocError, Global};
 use std::process::ExitCode;
 use std::{env, io};
 use store::Store;
 
-// The store of the schema and of the folder that the arguments name.
+// The store of a schema and of the files of a folder.
 fn store_of(
     rt: &HostRuntime,
     alloc: Global,
-    words: &QueryArguments<'_>,
+    schema: &str,
+    dir: &str,
 ) -> Result<Store<Global>, Failure<SetupError<Global>>> {
-    let schema = read_text(rt, alloc, words.schema)?;
+    let schema = read_text(rt, alloc, schema)?;
     let folder = Directory {
         files: rt,
-        path: words.dir,
+        path: dir,
     };
     open_store(alloc, schema.as_str(), &folder)
 }
@@ -103,8 +109,23 @@ fn query(
     asked: Asked,
     words: &QueryArguments<'_>,
 ) -> Result<u8, Failure<SetupError<Global>>> {
-    let store = store_of(rt, alloc, words)?;
+    let store = store_of(rt, alloc, words.schema, words.dir)?;
     answer(rt, alloc, &store, asked, words)
+}
+
+// Takes the events of a script, and writes the reply to each.
+fn session(
+    rt: &HostRuntime,
+    alloc: Global,
+    words: &SessionArguments<'_>,
+) -> Result<(), ProgramError> {
+    let store = store_of(rt, alloc, words.schema, words.dir)?;
+    let mut core = Core::new(alloc, store);
+    if words.script == "-" {
+        return answer_input(rt, alloc, &mut core, words.frames);
+    }
+    let script = read_text(rt, alloc, words.script)?;
+    answer_text(rt, alloc, &mut core, script.as_str(), words.frames)
 }
 
 // Audits the plan, and returns the status of the audit.
@@ -172,6 +193,10 @@ fn run(rt: &HostRuntime) -> Result<u8, ProgramError> {
         Request::Query(arguments) => Ok(query(rt, alloc, Asked::Rows, &arguments)?),
         Request::Explain(arguments) => Ok(query(rt, alloc, Asked::Plan, &arguments)?),
         Request::Verify(arguments) => Ok(audit(rt, alloc, &arguments)?),
+        Request::Session(arguments) => {
+            session(rt, alloc, &arguments)?;
+            Ok(0)
+        }
         Request::Codes => Ok(codes(rt, alloc)?),
     }
 }

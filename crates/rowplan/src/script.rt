@@ -1,0 +1,110 @@
+//! The events of a script of sessions, and the replies to them.
+
+use crate::failure::ProgramError;
+use crate::files::unreadable;
+use memory::Failure;
+use output::{Output, write_whole};
+use session::{Core, Event};
+use session_scripts::{ScriptLine, read_line, reply_text};
+use setup::SetupError;
+use std::alloc::Global;
+use std::io::{BufRead, BufReader, Write};
+use std::{fs, io};
+
+// The event of a line: the bytes of a load are those of its file.
+fn event_of(
+    rt: &HostRuntime,
+    alloc: Global,
+    line: ScriptLine<Global>,
+) -> Result<Event<Global>, Failure<SetupError<Global>>> {
+    match line {
+        ScriptLine::Event { event } => Ok(event),
+        ScriptLine::Load { table, path } => match fs::read(rt, path.as_str()) {
+            Ok(bytes) => Ok(Event::Load { table, bytes }),
+            Err(error) => Err(unreadable(alloc, path.as_str(), &error)),
+        },
+    }
+}
+
+// Writes a reply to standard output at once, where frames are asked for after a line with its number of bytes.
+fn write_reply(
+    rt: &HostRuntime,
+    alloc: Global,
+    reply: &[u8],
+    frames: bool,
+) -> Result<(), ProgramError> {
+    let mut text = Vec::new(alloc);
+    if frames {
+        write!(text, "{}\n", reply.len())?;
+    }
+    text.extend_from_slice(reply)?;
+    let mut out = Output {
+        inner: io::writer(rt),
+        failed: 0,
+    };
+    match write_whole(&mut out, &text) {
+        Ok(()) => out.inner.flush().map_err(|_| ProgramError::Output),
+        Err(_) => Err(ProgramError::Output),
+    }
+}
+
+// Takes the event of the line of a number, and writes the reply.
+fn answer_line(
+    rt: &HostRuntime,
+    alloc: Global,
+    core: &mut Core<Global>,
+    number: u64,
+    line: &str,
+    frames: bool,
+) -> Result<(), ProgramError> {
+    let Some(line) = read_line(alloc, line)? else {
+        return Err(ProgramError::Line(number));
+    };
+    let event = event_of(rt, alloc, line)?;
+    let text = reply_text(alloc, core.step(event))?;
+    write_reply(rt, alloc, &text, frames)
+}
+
+// A line without its LF.
+fn without_end(line: &str) -> &str {
+    line.strip_suffix('\n').unwrap_or(line)
+}
+
+/// Takes the events of a script, in order, and writes the reply to each. A line that is no event, a file that cannot be read and a
+/// reply that is not written end it.
+pub fn answer_text(
+    rt: &HostRuntime,
+    alloc: Global,
+    core: &mut Core<Global>,
+    script: &str,
+    frames: bool,
+) -> Result<(), ProgramError> {
+    let mut number = 0u64;
+    for line in script.split_inclusive('\n') {
+        number = number.saturating_add(1);
+        answer_line(rt, alloc, core, number, without_end(line), frames)?;
+    }
+    Ok(())
+}
+
+/// The same of the lines of standard input: each is answered before the next is read.
+pub fn answer_input(
+    rt: &HostRuntime,
+    alloc: Global,
+    core: &mut Core<Global>,
+    frames: bool,
+) -> Result<(), ProgramError> {
+    let mut input = match BufReader::new(alloc, rt.stdin()) {
+        Ok(input) => input,
+        Err(error) => return Err(ProgramError::Setup(unreadable(alloc, "-", &error))),
+    };
+    for number in 1..u64::MAX {
+        let mut line = String::new(alloc);
+        match input.read_line(&mut line) {
+            Ok(0) => return Ok(()),
+            Ok(_) => answer_line(rt, alloc, core, number, without_end(line.as_str()), frames)?,
+            Err(error) => return Err(ProgramError::Setup(unreadable(alloc, "-", &error))),
+        }
+    }
+    Ok(())
+}
