@@ -1,0 +1,41 @@
+//! The texts of replies to events.
+
+use memory::{Failure, Heap, push_number, push_str};
+use sessions::Reply;
+use setup::SetupError;
+use std::alloc::AllocError;
+
+fn done_text<A: Heap>(alloc: A) -> Result<Vec<u8, A>, AllocError> {
+    let mut text = Vec::new(alloc);
+    push_str(&mut text, "ok\n")?;
+    Ok(text)
+}
+
+fn session_text<A: Heap>(alloc: A, number: u64) -> Result<Vec<u8, A>, AllocError> {
+    let mut text = Vec::new(alloc);
+    push_str(&mut text, "session ")?;
+    push_number(&mut text, number)?;
+    push_str(&mut text, "\n")?;
+    Ok(text)
+}
+
+/// The text of the reply to an event, with LF after each line.
+pub fn reply_text<A: Heap>(alloc: A, reply: Reply<A>) -> Result<Vec<u8, A>, AllocError> {
+    match reply {
+        Reply::Engine { reply } => replies::reply_text(alloc, &reply),
+        Reply::Done => done_text(alloc),
+        Reply::Session { number } => session_text(alloc, number),
+        Reply::Data {
+            table,
+            column,
+            error,
+        } => setup::line_of(
+            alloc,
+            &Failure::Error(SetupError::Data {
+                table,
+                column,
+                error,
+            }),
+        ),
+    }
+}
