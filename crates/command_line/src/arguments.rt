@@ -134,7 +134,8 @@ fn session_words<'a>(alloc: Global) -> Result<Vec<Arg<'a>>, AllocError> {
     let schema = "The schema text, or - for standard input";
     let dir = "The folder with a file T.csv for each table T";
     let frames = "Writes before each reply a line with its number of bytes";
-    let script = "A file with an event a line, or - for standard input, of which each line is answered before the next is read";
+    let script =
+        "A file with an event a line, or - for standard input, of which each line is answered before the next is read";
     let words = [
         option(alloc, "schema", "FILE", schema).required(true),
         option(alloc, "dir", "DIR", dir).required(true),

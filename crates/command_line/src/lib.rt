@@ -4,5 +4,7 @@
 mod arguments;
 mod error;
 
-pub use arguments::{QueryArguments, QueryText, Request, VerifyArguments, read_arguments};
+pub use arguments::{
+    QueryArguments, QueryText, Request, SessionArguments, VerifyArguments, read_arguments,
+};
 pub use error::CommandLineError;

@@ -2,7 +2,7 @@
 
 use crate::failure::ProgramError;
 use crate::files::unreadable;
-use memory::Failure;
+use memory::{Failure, push_number, push_str};
 use output::{Output, write_whole};
 use session::{Core, Event};
 use session_scripts::{ScriptLine, read_line, reply_text};
@@ -35,7 +35,8 @@ fn write_reply(
 ) -> Result<(), ProgramError> {
     let mut text = Vec::new(alloc);
     if frames {
-        write!(text, "{}\n", reply.len())?;
+        push_number(&mut text, reply.len() as u64)?;
+        push_str(&mut text, "\n")?;
     }
     text.extend_from_slice(reply)?;
     let mut out = Output {

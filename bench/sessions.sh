@@ -1,0 +1,37 @@
+#!/usr/bin/env bash
+# Measures how long `rowplan session` takes for so many events of 200 sessions over the tables of examples/sales: each session logs in,
+# declares a cursor, and then asks, fetches and sets and resets its role in turn. In the second script every session logs out after
+# each 100 events of it and logs in again: its memory shows if anything is kept of a session that ended.
+# usage: bench/sessions.sh [EVENTS [RUNS]], with 100000 events and 3 runs where nothing is said.
+# `rt` must be on the path. The program is proved and built first, if it is not yet.
+set -eu
+events=${1:-100000}
+runs=${2:-3}
+. "$(dirname "$0")/measure.sh"
+build
+sales=$top/examples/sales
+
+# A script of so many events. What does event number i of a session: i modulo 4.
+script() {
+    awk -v n="$1" -v logs_out="$2" 'BEGIN {
+        sessions = 200; next_number = 0
+        for (k = 0; k < sessions; k++) { print "login " (k % 2 ? "alice" : "bob"); number[k] = next_number++; print "declare " number[k] " c SELECT id FROM deal" }
+        for (i = 2 * sessions; i < n; i++) {
+            k = i % sessions; turn = int(i / sessions)
+            if (logs_out && turn % 100 == 99) { print "logout " number[k]; print "login " (k % 2 ? "alice" : "bob"); number[k] = next_number++; print "declare " number[k] " c SELECT id FROM deal"; i += 2; continue }
+            if (turn % 4 == 0) print "ask " number[k] " SELECT d.id, r.name FROM deal d JOIN region r ON d.region = r.id"
+            if (turn % 4 == 1) print "fetch " number[k] " c 1"
+            if (turn % 4 == 2) print "setrole " number[k] " sales"
+            if (turn % 4 == 3) print "resetrole " number[k]
+        }
+    }'
+}
+script 400 0 > "$work/logins"
+script "$events" 0 > "$work/open"
+script "$events" 1 > "$work/closing"
+yes 'ask 0 SELECT d.id, r.name FROM deal d JOIN region r ON d.region = r.id' | head -n "$((events / 10))" | sed '1i login alice' > "$work/asks"
+for run in $(seq "$runs"); do
+    for what in logins open closing asks; do
+        measure "$what, $(wc -l < "$work/$what") events" "$rowplan" session --schema "$sales/schema.sql" --dir "$sales" "$work/$what"
+    done
+done
