@@ -4,7 +4,7 @@ use Rattle.value.specs.Names.{Name}
 use Rattle.session.specs.Event as session
 use Rattle.plan_texts.specs.Reading.{cut, number_at, is_word}
 
--- an event but a load, or a load of a file
+-- an event other than a load, or a load of a file
 pub data ScriptLine : Type 0 where
   Event : (event : session.Event) → ScriptLine
   Load : (table : Name) → (path : List ℕ) → ScriptLine
@@ -84,7 +84,7 @@ load_at bs = option_and_then (λ p. option_map (Load p.0) (word_at p.1)) (word_t
 
 -- ---- lines
 
--- an event that is no load
+-- an event other than a load, by its first word and the bytes after the space
 abbrev pub event_at : List ℕ → List ℕ → Option session.Event
 event_at word bs =
     if is_word (codes "login") word then login_at bs
@@ -100,7 +100,7 @@ event_at word bs =
     else if is_word (codes "change") word then change_at bs
     else None
 
--- the event of a first word and the bytes after the space
+-- a line, by its first word and the bytes after the space
 abbrev pub by_word : List ℕ → List ℕ → Option ScriptLine
 by_word word bs = if is_word (codes "load") word then load_at bs else option_map Event (event_at word bs)
 

@@ -1,4 +1,4 @@
-//! The events of lines that are no loads.
+//! The events of lines other than loads.
 
 ghost use Rattle.std.specs.Prelude.{◌≡◌, IfOk, option_map};
 ghost use Rattle.session.specs.View.{event_of};
@@ -144,7 +144,7 @@ fn change<A: Heap>(alloc: A, rest: &str) -> Result<Option<Event<A>>, AllocError>
     Ok(Some(Event::Change { session, text }))
 }
 
-/// The event of a line that is no load, by its first word and the bytes after it.
+/// The event of a line other than a load, by its first word and the bytes after the space.
 pub fn read_event<A: Heap>(alloc: A, name: &str, rest: &str) -> Result<Option<Event<A>>, AllocError>
     ensures { IfOk result (λ e. option_map event_of e ≡ event_at name.now rest.now) }
 {

@@ -13,7 +13,7 @@ use std::alloc::AllocError;
 /// A line of a script.
 #[derive(Drop)]
 pub enum ScriptLine<A: Heap> {
-    /// An event, but no load.
+    /// An event other than a load.
     Event {
         /// The event.
         event: Event<A>,
