@@ -91,6 +91,30 @@ fetch 0 c3 1 => refused 34000
 fetch 1 c16 1 => id / 3
 ";
 
+const TABLE: &str = "change 0 CREATE TABLE t# (id bigint) => ok";
+
+// After 62 tables beside the two of sales.
+const TABLES: &str = "\
+change 0 CREATE TABLE t62 (id bigint) => refused 54000
+change 0 CREATE TABLE t61 (id bigint) => refused 42P07
+load t62 notes => refused 42P01
+load t61 notes => ok
+ask 0 SELECT id FROM t61 => id / 1 / 2
+";
+
+const POLICY: &str = "change 0 CREATE POLICY p# ON region USING (id = #) => ok";
+
+// After 255 policies beside the one of sales: the name and the condition of one more come before the limit.
+const POLICIES: &str = "\
+change 0 CREATE POLICY p255 ON region USING (TRUE) => refused 54000
+change 0 CREATE POLICY p254 ON region USING (TRUE) => refused 42710
+change 0 CREATE POLICY p255 ON region USING (1 / id = 1) => refused 42P17
+change 0 DROP POLICY p255 ON region => refused 42704
+change 0 DROP POLICY own ON deal => ok
+change 0 CREATE POLICY p255 ON region USING (TRUE) => ok
+change 0 CREATE POLICY own ON deal USING (TRUE) => refused 54000
+";
+
 #[test]
 fn sessions_are_limited(rt: HostRuntime) -> Result<(), Fail> {
     let mut core = sales_core(rt.alloc())?;
@@ -112,6 +136,16 @@ fn cursors_are_limited(rt: HostRuntime) -> Result<(), Fail> {
     take(&rt, &mut core, "login alice => session 0")?;
     take_numbered(&rt, &mut core, DECLARED, 16)?;
     Ok(take_all(&rt, &mut core, CURSORS)?)
+}
+
+#[test]
+fn tables_and_policies_are_limited(rt: HostRuntime) -> Result<(), Fail> {
+    let mut core = sales_core(rt.alloc())?;
+    take(&rt, &mut core, "login root => session 0")?;
+    take_numbered(&rt, &mut core, TABLE, 62)?;
+    take_all(&rt, &mut core, TABLES)?;
+    take_numbered(&rt, &mut core, POLICY, 255)?;
+    Ok(take_all(&rt, &mut core, POLICIES)?)
 }
 
 // The line of an event up to its text, the text, and the reply to it with spaces after it, up to 65,536 bytes. With one more it

@@ -97,8 +97,46 @@ change 0 GRANT SELECT ON deal => refused 42601 at 20
 ask 0 SELECT 1 FROM deal WHERE id = 'x' => refused 42804 at 28
 ask 0 SELECT nosuch FROM deal => refused 42703 at 7
 ask 0 SELECT id FROM deal, region => refused 42702 at 7
+ask 0 SELECT a.id FROM region a, region b, region c, region d, region e, region f, region g, region h, region i => refused 54000
+prepare 0 p SELECT a.id FROM region a, region b, region c, region d, region e, region f, region g, region h, region i => refused 54000
+execute 0 p => refused 26000
 ask 0 SELECT amount / parts FROM deal => fault 22012 at 14
 ask 0 SELECT id FROM deal => id / 1 / 2 / 3 / 4 / 5
+";
+
+// Statements of a superuser that are refused by what they name, by their condition, or since it is there already.
+const STATEMENTS: &str = "\
+login root => session 0
+change 0 CREATE ROLE alice => refused 42710
+change 0 CREATE ROLE public => refused 42710
+change 0 GRANT sales TO nosuch => refused 42704
+change 0 GRANT alice TO sales => refused 0LP01
+change 0 GRANT sales TO sales => refused 0LP01
+change 0 REVOKE nosuch FROM alice => refused 42704
+change 0 CREATE TABLE t (id bigint, id text) => refused 42701
+change 0 CREATE TABLE region (id bigint) => refused 42P07
+change 0 ALTER TABLE nosuch OWNER TO boss => refused 42P01
+change 0 ALTER TABLE deal OWNER TO nosuch => refused 42704
+change 0 CREATE INDEX i ON deal (nosuch) => refused 42703
+change 0 CREATE INDEX region ON deal (id) => refused 42P07
+change 0 CREATE INDEX i ON deal (id) => ok
+change 0 CREATE INDEX i ON region (id) => refused 42P07
+change 0 CREATE INDEX j ON deal (id) => refused 42710
+change 0 GRANT SELECT (nosuch) ON deal TO alice => refused 42703
+change 0 GRANT SELECT ON deal TO nosuch => refused 42704
+change 0 REVOKE SELECT ON nosuch FROM alice => refused 42P01
+change 0 CREATE POLICY own ON deal USING (TRUE) => refused 42710
+change 0 CREATE POLICY p ON deal TO nosuch USING (TRUE) => refused 42704
+change 0 CREATE POLICY p ON deal USING (nosuch = 1) => refused 42703
+change 0 CREATE POLICY p ON deal USING (d.id = 1) => refused 42P01
+change 0 CREATE POLICY p ON deal USING (count(*) = 1) => refused 42803
+change 0 CREATE POLICY p ON deal USING (id = 'x') => refused 42804
+change 0 CREATE POLICY p ON deal USING (id) => refused 42804
+change 0 CREATE POLICY p ON deal USING (id + 1 = 2) => refused 42P17
+change 0 DROP POLICY p ON deal => refused 42704
+ask 0 SELECT id FROM i => refused 42P01 at 15
+setrole 0 alice => ok
+ask 0 SELECT id FROM deal => id / 1 / 2 / 5
 ";
 
 // Loads into no table, and of texts with an error: nothing is added. No session has to be open.
@@ -148,6 +186,11 @@ fn names_that_are_in_use_or_unknown(rt: HostRuntime) -> Result<(), Fail> {
 #[test]
 fn texts_are_refused_at_their_offset(rt: HostRuntime) -> Result<(), Fail> {
     Ok(run(&rt, OFFSETS)?)
+}
+
+#[test]
+fn statements_that_are_refused(rt: HostRuntime) -> Result<(), Fail> {
+    Ok(run(&rt, STATEMENTS)?)
 }
 
 #[test]

@@ -123,7 +123,7 @@ pub fn take_all(
 
 /// The store of sales, and no session. It is boxed, since the whole drop of a store is part of the proof of each function that
 /// has one.
-pub fn sales_core(alloc: Global) -> Result<Box<Core<Global>, Global>, Failure<FixtureError>> {
+pub fn sales_core<A: Heap>(alloc: A) -> Result<Box<Core<A>, A>, Failure<FixtureError>> {
     let store = sales(alloc)?;
     Ok(boxed(alloc, Core::new(alloc, Box::into_inner(store)))?)
 }
