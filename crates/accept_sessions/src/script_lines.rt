@@ -3,7 +3,7 @@
 use crate::scripts::run;
 use std::test::Fail;
 
-// Lines that are no event, each for the first thing that is wrong with it.
+// Lines that are no event, and at the end some that are: the others changed nothing.
 const NO_EVENTS: &str = "\
 login => no event
  => no event
