@@ -1,13 +1,19 @@
-//! The events of lines that are no loads.
+//! The events of lines other than loads.
+
+ghost use Rattle.std.specs.Prelude.{◌≡◌, IfOk, option_map};
+ghost use Rattle.session.specs.View.{event_of};
+ghost use Rattle.session_scripts.specs.Lines.{ask_at, change_at, close_at, declare_at, event_at, execute_at, fetch_at, login_at, logout_at, prepare_at, reset_role_at, set_role_at};
 
 use crate::numbers::read_number;
-use crate::words::{session_text, session_word, word, word_text};
+use crate::words::{session_text, session_word, session_word_text, word};
 use memory::{Heap, Text};
 use session::Event;
 use std::alloc::AllocError;
 
 // login ROLE
-fn login<A: Heap>(alloc: A, rest: &str) -> Result<Option<Event<A>>, AllocError> {
+fn login<A: Heap>(alloc: A, rest: &str) -> Result<Option<Event<A>>, AllocError>
+    ensures { IfOk result (λ e. option_map event_of e ≡ login_at rest.now) }
+{
     let Some(role) = word(rest) else {
         return Ok(None);
     };
@@ -16,14 +22,18 @@ fn login<A: Heap>(alloc: A, rest: &str) -> Result<Option<Event<A>>, AllocError> 
 }
 
 // logout S
-fn logout<A: Heap>(rest: &str) -> Option<Event<A>> {
+fn logout<A: Heap>(rest: &str) -> Option<Event<A>>
+    ensures { option_map event_of result ≡ logout_at rest.now }
+{
     Some(Event::Logout {
         session: read_number(rest)?,
     })
 }
 
 // setrole S ROLE
-fn set_role<A: Heap>(alloc: A, rest: &str) -> Result<Option<Event<A>>, AllocError> {
+fn set_role<A: Heap>(alloc: A, rest: &str) -> Result<Option<Event<A>>, AllocError>
+    ensures { IfOk result (λ e. option_map event_of e ≡ set_role_at rest.now) }
+{
     let Some((session, role)) = session_word(rest) else {
         return Ok(None);
     };
@@ -32,14 +42,18 @@ fn set_role<A: Heap>(alloc: A, rest: &str) -> Result<Option<Event<A>>, AllocErro
 }
 
 // resetrole S
-fn reset_role<A: Heap>(rest: &str) -> Option<Event<A>> {
+fn reset_role<A: Heap>(rest: &str) -> Option<Event<A>>
+    ensures { option_map event_of result ≡ reset_role_at rest.now }
+{
     Some(Event::ResetRole {
         session: read_number(rest)?,
     })
 }
 
 // ask S TEXT
-fn ask<A: Heap>(alloc: A, rest: &str) -> Result<Option<Event<A>>, AllocError> {
+fn ask<A: Heap>(alloc: A, rest: &str) -> Result<Option<Event<A>>, AllocError>
+    ensures { IfOk result (λ e. option_map event_of e ≡ ask_at rest.now) }
+{
     let Some((session, text)) = session_text(rest) else {
         return Ok(None);
     };
@@ -48,11 +62,10 @@ fn ask<A: Heap>(alloc: A, rest: &str) -> Result<Option<Event<A>>, AllocError> {
 }
 
 // prepare S NAME TEXT
-fn prepare<A: Heap>(alloc: A, rest: &str) -> Result<Option<Event<A>>, AllocError> {
-    let Some((session, more)) = session_text(rest) else {
-        return Ok(None);
-    };
-    let Some((name, text)) = word_text(more) else {
+fn prepare<A: Heap>(alloc: A, rest: &str) -> Result<Option<Event<A>>, AllocError>
+    ensures { IfOk result (λ e. option_map event_of e ≡ prepare_at rest.now) }
+{
+    let Some((session, (name, text))) = session_word_text(rest) else {
         return Ok(None);
     };
     let name = Text::new(alloc, name)?;
@@ -65,7 +78,9 @@ fn prepare<A: Heap>(alloc: A, rest: &str) -> Result<Option<Event<A>>, AllocError
 }
 
 // execute S NAME
-fn execute<A: Heap>(alloc: A, rest: &str) -> Result<Option<Event<A>>, AllocError> {
+fn execute<A: Heap>(alloc: A, rest: &str) -> Result<Option<Event<A>>, AllocError>
+    ensures { IfOk result (λ e. option_map event_of e ≡ execute_at rest.now) }
+{
     let Some((session, name)) = session_word(rest) else {
         return Ok(None);
     };
@@ -74,11 +89,10 @@ fn execute<A: Heap>(alloc: A, rest: &str) -> Result<Option<Event<A>>, AllocError
 }
 
 // declare S NAME TEXT
-fn declare<A: Heap>(alloc: A, rest: &str) -> Result<Option<Event<A>>, AllocError> {
-    let Some((session, more)) = session_text(rest) else {
-        return Ok(None);
-    };
-    let Some((name, text)) = word_text(more) else {
+fn declare<A: Heap>(alloc: A, rest: &str) -> Result<Option<Event<A>>, AllocError>
+    ensures { IfOk result (λ e. option_map event_of e ≡ declare_at rest.now) }
+{
+    let Some((session, (name, text))) = session_word_text(rest) else {
         return Ok(None);
     };
     let name = Text::new(alloc, name)?;
@@ -91,11 +105,10 @@ fn declare<A: Heap>(alloc: A, rest: &str) -> Result<Option<Event<A>>, AllocError
 }
 
 // fetch S NAME N
-fn fetch<A: Heap>(alloc: A, rest: &str) -> Result<Option<Event<A>>, AllocError> {
-    let Some((session, more)) = session_text(rest) else {
-        return Ok(None);
-    };
-    let Some((name, count)) = word_text(more) else {
+fn fetch<A: Heap>(alloc: A, rest: &str) -> Result<Option<Event<A>>, AllocError>
+    ensures { IfOk result (λ e. option_map event_of e ≡ fetch_at rest.now) }
+{
+    let Some((session, (name, count))) = session_word_text(rest) else {
         return Ok(None);
     };
     let Some(count) = read_number(count) else {
@@ -110,7 +123,9 @@ fn fetch<A: Heap>(alloc: A, rest: &str) -> Result<Option<Event<A>>, AllocError> 
 }
 
 // close S NAME
-fn close<A: Heap>(alloc: A, rest: &str) -> Result<Option<Event<A>>, AllocError> {
+fn close<A: Heap>(alloc: A, rest: &str) -> Result<Option<Event<A>>, AllocError>
+    ensures { IfOk result (λ e. option_map event_of e ≡ close_at rest.now) }
+{
     let Some((session, name)) = session_word(rest) else {
         return Ok(None);
     };
@@ -119,7 +134,9 @@ fn close<A: Heap>(alloc: A, rest: &str) -> Result<Option<Event<A>>, AllocError> 
 }
 
 // change S TEXT
-fn change<A: Heap>(alloc: A, rest: &str) -> Result<Option<Event<A>>, AllocError> {
+fn change<A: Heap>(alloc: A, rest: &str) -> Result<Option<Event<A>>, AllocError>
+    ensures { IfOk result (λ e. option_map event_of e ≡ change_at rest.now) }
+{
     let Some((session, text)) = session_text(rest) else {
         return Ok(None);
     };
@@ -127,12 +144,10 @@ fn change<A: Heap>(alloc: A, rest: &str) -> Result<Option<Event<A>>, AllocError>
     Ok(Some(Event::Change { session, text }))
 }
 
-/// The event of a line that is no load, by its first word and the bytes after it.
-pub fn read_event<A: Heap>(
-    alloc: A,
-    name: &str,
-    rest: &str,
-) -> Result<Option<Event<A>>, AllocError> {
+/// The event of a line other than a load, by its first word and the bytes after the space.
+pub fn read_event<A: Heap>(alloc: A, name: &str, rest: &str) -> Result<Option<Event<A>>, AllocError>
+    ensures { IfOk result (λ e. option_map event_of e ≡ event_at name.now rest.now) }
+{
     if name == "login" {
         login(alloc, rest)
     } else if name == "logout" {

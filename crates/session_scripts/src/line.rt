@@ -1,5 +1,9 @@
 //! The lines of a session script.
 
+ghost use Rattle.std.specs.Prelude.{◌≡◌, IfOk, option_map};
+ghost use Rattle.session_scripts.specs.Lines.{line_at, load_at};
+ghost use Rattle.session_scripts.specs.View.{line_of};
+
 use crate::events::read_event;
 use crate::words::{cut, word, word_text};
 use memory::{Heap, Text};
@@ -9,7 +13,7 @@ use std::alloc::AllocError;
 /// A line of a script.
 #[derive(Drop)]
 pub enum ScriptLine<A: Heap> {
-    /// An event, but no load.
+    /// An event other than a load.
     Event {
         /// The event.
         event: Event<A>,
@@ -24,7 +28,9 @@ pub enum ScriptLine<A: Heap> {
 }
 
 // load TABLE PATH
-fn load<A: Heap>(alloc: A, rest: &str) -> Result<Option<ScriptLine<A>>, AllocError> {
+fn load<A: Heap>(alloc: A, rest: &str) -> Result<Option<ScriptLine<A>>, AllocError>
+    ensures { IfOk result (λ l. option_map line_of l ≡ load_at rest.now) }
+{
     let Some((table, more)) = word_text(rest) else {
         return Ok(None);
     };
@@ -37,7 +43,9 @@ fn load<A: Heap>(alloc: A, rest: &str) -> Result<Option<ScriptLine<A>>, AllocErr
 }
 
 /// The event of a line, which has no LF, or a load of a file; nothing where the line is no event.
-pub fn read_line<A: Heap>(alloc: A, line: &str) -> Result<Option<ScriptLine<A>>, AllocError> {
+pub fn read_line<A: Heap>(alloc: A, line: &str) -> Result<Option<ScriptLine<A>>, AllocError>
+    ensures { IfOk result (λ l. option_map line_of l ≡ line_at line.now) }
+{
     let Some((name, rest)) = cut(line) else {
         return Ok(None);
     };

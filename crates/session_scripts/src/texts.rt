@@ -1,17 +1,25 @@
 //! The texts of replies to events.
 
+ghost use Rattle.std.specs.Prelude.{◌≡◌, IfOk, codes};
+ghost use Rattle.sessions.specs.View.{reply_of};
+ghost use Rattle.session_scripts.specs.ReplyTexts.{event_text, session_text};
+
 use memory::{Failure, Heap, push_number, push_str};
 use sessions::Reply;
 use setup::SetupError;
 use std::alloc::AllocError;
 
-fn done_text<A: Heap>(alloc: A) -> Result<Vec<u8, A>, AllocError> {
+fn done_text<A: Heap>(alloc: A) -> Result<Vec<u8, A>, AllocError>
+    ensures { IfOk result (λ text. text.items ≡ codes "ok\n") }
+{
     let mut text = Vec::new(alloc);
     push_str(&mut text, "ok\n")?;
     Ok(text)
 }
 
-fn session_text<A: Heap>(alloc: A, number: u64) -> Result<Vec<u8, A>, AllocError> {
+fn session_text<A: Heap>(alloc: A, number: u64) -> Result<Vec<u8, A>, AllocError>
+    ensures { IfOk result (λ text. text.items ≡ session_text number) }
+{
     let mut text = Vec::new(alloc);
     push_str(&mut text, "session ")?;
     push_number(&mut text, number)?;
@@ -20,7 +28,9 @@ fn session_text<A: Heap>(alloc: A, number: u64) -> Result<Vec<u8, A>, AllocError
 }
 
 /// The text of the reply to an event, with LF after each line.
-pub fn reply_text<A: Heap>(alloc: A, reply: Reply<A>) -> Result<Vec<u8, A>, AllocError> {
+pub fn reply_text<A: Heap>(alloc: A, reply: Reply<A>) -> Result<Vec<u8, A>, AllocError>
+    ensures { IfOk result (λ text. text.items ≡ event_text (reply_of reply)) }
+{
     match reply {
         Reply::Engine { reply } => replies::reply_text(alloc, &reply),
         Reply::Done => done_text(alloc),
