@@ -2,7 +2,7 @@
 # Measures how long a join of two tables on a key takes by each method of the executor, beside sqlite3 with the index that it makes
 # itself and without. run_times makes the tables in memory and runs one code; sqlite3 imports the same tables into memory. `none` and
 # `import alone` join nothing, so the time of a join is the difference. Of at most 10000 rows both also run nested loops. `rowplan` is
-# asked too, which loads the tables, joins them by the least code and writes all rows.
+# asked too, which loads the tables, joins them by its best plan and writes all rows.
 # usage: bench/join.sh [ROWS [RUNS]], with 100000 rows a table and 5 runs where nothing is said.
 # `rt` must be on the path. The programs are proved and built first, if they are not yet.
 set -eu

@@ -21,7 +21,7 @@ awk -v n="$rows" -v k="$keys" 'BEGIN {
 }' > "$work/deal.csv"
 awk -v k="$keys" 'BEGIN { print "id,name"; for (i = 1; i <= k; i++) printf "%d,n%d\n", (i * 7919) % k + 1, i % 7 }' > "$work/item.csv"
 for t in 1 2 3 4 5 6 7 8; do
-    awk -v n="$chain" -v t="$t" 'BEGIN { print "id,val"; for (i = 1; i <= n; i++) printf "%d,%d\n", (i * (7919 + 2 * t)) % n + 1, i }' > "$work/t$t.csv"
+    awk -v n="$chain" -v t="$t" 'BEGIN { print "id,val"; for (i = 1; i <= n; i++) printf "%d,%d\n", (i * 7919 + 37 * t) % n + 1, i }' > "$work/t$t.csv"
 done
 cat > "$work/schema.sql" <<'SQL'
 CREATE ROLE reader; CREATE ROLE outsider;
