@@ -95,11 +95,7 @@ fn policies_that_can_fault_are_refused(rt: HostRuntime) -> Result<(), Fail> {
 
 #[test]
 fn prepared_texts_are_asked_anew(rt: HostRuntime) -> Result<(), Fail> {
-    Ok(run(&rt, EXECUTED)?)
-}
-
-#[test]
-fn prepared_texts_are_denied_after_a_revoke(rt: HostRuntime) -> Result<(), Fail> {
+    run(&rt, EXECUTED)?;
     Ok(run(&rt, REVOKED)?)
 }
 

@@ -146,6 +146,6 @@ fn refused_memory_changes_nothing(rt: HostRuntime) {
             rows = rows.saturating_add(1);
         }
     }
-    // Each of them was refused for want of memory, some of the times.
+    // Each of them was refused some of the times, since memory ran out.
     assert_eq!(&rt; rows, rows_with_memory());
 }

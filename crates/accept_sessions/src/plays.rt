@@ -93,23 +93,15 @@ fn play_given_back<A: Heap>(
 }
 
 #[test]
-fn plays_of_roles_and_numbers(rt: HostRuntime) -> Result<(), Fail> {
+fn plays_give_the_replies_of_steps(rt: HostRuntime) -> Result<(), Fail> {
     play(&rt, SET)?;
     play(&rt, APART)?;
-    Ok(play(&rt, NUMBERS)?)
-}
-
-#[test]
-fn plays_of_changes_and_cursors(rt: HostRuntime) -> Result<(), Fail> {
+    play(&rt, NUMBERS)?;
     play(&rt, EXECUTED)?;
     play(&rt, REVOKED)?;
     play(&rt, FETCHED)?;
     play(&rt, KEPT)?;
-    Ok(play(&rt, FETCHES)?)
-}
-
-#[test]
-fn plays_of_refusals(rt: HostRuntime) -> Result<(), Fail> {
+    play(&rt, FETCHES)?;
     play(&rt, NOT_OPEN)?;
     Ok(play(&rt, NAMES)?)
 }
