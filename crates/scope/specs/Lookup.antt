@@ -1,13 +1,12 @@
 -- The column that a name resolves to, among the entries in scope.
-use Rattle.std.specs.Prelude.{ℕ, nat_lt, ◌+◌, ◌&&◌, not, Bool, List, [], ◌∷◌, length, Option, Some, None, Result, Ok, Err, if◌then◌else◌}
+use Rattle.std.specs.Prelude.{ℕ, nat_lt, ◌+◌, ◌&&◌, ◌||◌, not, Bool, true, false, List, [], ◌∷◌, length, Option, None, option_map, Result, Ok, Err, if◌then◌else◌}
+use Rattle.std.specs.List.{cons_option}
 use Rattle.value.specs.declared.refusal.Refusal.TheVariants as r
 use Rattle.row_ast.specs.Ast as ast
 use Rattle.row_objects.specs.ColumnNames.{is_qualified, column_index}
 use Rattle.scope.specs.declared.error.BindError.{BindError}
 use Rattle.scope.specs.declared.lookup.Scope.{Scope}
 use Rattle.expr.specs.declared.bound.ColumnId.{ColumnId}
-use Rattle.scope.specs.declared.lookup.Search.{Search}
-use Rattle.scope.specs.declared.lookup.Search.TheVariants as search
 use Rattle.scope.specs.Entry.{Entry, fault}
 
 -- ---- scope
@@ -23,43 +22,32 @@ on_scope entry e = record { from = e.first; to = entry + 1 }
 abbrev pub is_within : Scope → ℕ → Bool
 is_within scope entry = not (nat_lt entry scope.from) && nat_lt entry scope.to
 
--- ---- one entry
+-- ---- the columns that a name matches
 
-abbrev pub found_at : ℕ → Option ℕ → Search
-found_at entry None = search.NoColumn
-found_at entry (Some column) = search.One (record { entry = entry; column = column })
+-- the entry is in scope, and the name before the dot, if there is one, is its alias
+abbrev pub is_meant : Scope → ast.ColumnRef → ℕ → Entry → Bool
+is_meant scope c entry e = is_within scope entry && is_qualified e.alias c.table
 
--- the result of the search for a name in an entry
-abbrev pub column_in_entry : Scope → ast.ColumnRef → ℕ → Entry → Search
-column_in_entry scope c entry e =
-    if is_within scope entry && is_qualified e.alias c.table then found_at entry (column_index e.table.columns c.name) else search.NoEntry
+-- some entry is meant, of those from a number on
+abbrev pub means_some : Scope → ast.ColumnRef → ℕ → List Entry → Bool
+means_some scope c entry [] = false
+means_some scope c entry (e ∷ more) = is_meant scope c entry e || means_some scope c (entry + 1) more
 
--- ---- all entries
+-- the column of that name, if the entry is meant and has one
+abbrev pub match_in : Scope → ast.ColumnRef → ℕ → Entry → Option ColumnId
+match_in scope c entry e = if is_meant scope c entry e then option_map (λ column. record { entry = entry; column = column }) (column_index e.table.columns c.name) else None
 
--- a column in one entry and one in another are several
-abbrev pub merge : Search → Search → Search
-merge search.NoEntry b = b
-merge search.NoColumn search.NoEntry = search.NoColumn
-merge search.NoColumn search.NoColumn = search.NoColumn
-merge search.NoColumn (search.One id) = search.One id
-merge search.NoColumn search.Several = search.Several
-merge (search.One id) search.NoEntry = search.One id
-merge (search.One id) search.NoColumn = search.One id
-merge (search.One id) (search.One other) = search.Several
-merge (search.One id) search.Several = search.Several
-merge search.Several b = search.Several
+-- the columns that the name matches, in the entries from a number on
+abbrev pub matches : Scope → ast.ColumnRef → ℕ → List Entry → List ColumnId
+matches scope c entry [] = []
+matches scope c entry (e ∷ more) = cons_option (match_in scope c entry e) (matches scope c (entry + 1) more)
 
--- after the result of the entries before
-abbrev pub searched : Scope → ast.ColumnRef → Search → ℕ → List Entry → Search
-searched scope c known entry [] = known
-searched scope c known entry (e ∷ more) = searched scope c (merge known (column_in_entry scope c entry e)) (entry + 1) more
-
--- no entry of that name is in scope; none has such a column; the one; or several have it
-abbrev pub one_column : ℕ → Search → Result ColumnId BindError
-one_column offset search.NoEntry = Err (fault r.UndefinedTable offset)
-one_column offset search.NoColumn = Err (fault r.UndefinedColumn offset)
-one_column offset (search.One id) = Ok id
-one_column offset search.Several = Err (fault r.AmbiguousColumn offset)
+-- the one column that matches; no entry is meant; none that is meant has such a column; or several columns match
+abbrev pub one_column : ℕ → Bool → List ColumnId → Result ColumnId BindError
+one_column offset is_named (id ∷ []) = Ok id
+one_column offset is_named (id ∷ other ∷ more) = Err (fault r.AmbiguousColumn offset)
+one_column offset false [] = Err (fault r.UndefinedTable offset)
+one_column offset true [] = Err (fault r.UndefinedColumn offset)
 
 abbrev pub find_column : List Entry → Scope → ast.ColumnRef → Result ColumnId BindError
-find_column entries scope c = one_column c.offset (searched scope c search.NoEntry 0 entries)
+find_column entries scope c = one_column c.offset (means_some scope c 0 entries) (matches scope c 0 entries)

@@ -22,19 +22,6 @@ pub struct Scope {
     pub to: usize,
 }
 
-// The result of the search for a name among some entries.
-#[derive(Clone, Copy)]
-enum Search {
-    // No entry has the name before the dot.
-    NoEntry,
-    // Entries have it, but none has such a column.
-    NoColumn,
-    // The one column.
-    One(ColumnId),
-    // Columns of several entries.
-    Several,
-}
-
 /// The scope of items, WHERE, GROUP BY and HAVING: every entry.
 pub fn everywhere<A: Heap>(entries: &[Entry<'_, A>]) -> Scope
     ensures { result ≡ spec.everywhere (entries_of entries.now) }
@@ -62,47 +49,41 @@ fn is_within(scope: Scope, entry: usize) -> bool
     entry >= scope.from && entry < scope.to
 }
 
-fn column_in_entry<A: Heap>(
+// True where the entry of a number is in scope, and the name before the dot, if there is one, is its alias.
+fn is_meant<A: Heap>(
     scope: Scope,
     column: &ColumnRef<A>,
     number: usize,
     entry: &Entry<'_, A>,
-) -> Search
-    ensures { result ≡ spec.column_in_entry scope (column_ref_of column.now) number (entry_of entry.now) }
+) -> bool
+    ensures { result ≡ spec.is_meant scope (column_ref_of column.now) number (entry_of entry.now) }
 {
-    if !is_within(scope, number) {
-        return Search::NoEntry;
-    }
-    if !is_qualified(entry.alias, &column.table) {
-        return Search::NoEntry;
+    is_within(scope, number) && is_qualified(entry.alias, &column.table)
+}
+
+// The column of that name of an entry that is meant.
+fn match_in<A: Heap>(
+    scope: Scope,
+    column: &ColumnRef<A>,
+    number: usize,
+    entry: &Entry<'_, A>,
+) -> Option<ColumnId>
+    ensures { result ≡ spec.match_in scope (column_ref_of column.now) number (entry_of entry.now) }
+{
+    if !is_meant(scope, column, number, entry) {
+        return None;
     }
     match column_index(entry.table.columns(), column.name.as_str()) {
-        Some(column) => Search::One(ColumnId {
+        Some(column) => Some(ColumnId {
             entry: number,
             column,
         }),
-        None => Search::NoColumn,
+        None => None,
     }
 }
 
-fn merge(a: Search, b: Search) -> Search
-    ensures { result ≡ spec.merge a b }
-{
-    match a {
-        Search::NoEntry => b,
-        Search::NoColumn => match b {
-            Search::NoEntry => a,
-            Search::NoColumn | Search::One(_) | Search::Several => b,
-        },
-        Search::One(_) => match b {
-            Search::NoEntry | Search::NoColumn => a,
-            Search::One(_) | Search::Several => Search::Several,
-        },
-        Search::Several => a,
-    }
-}
-
-/// The column that a name resolves to, among the entries in scope.
+/// The column that a name resolves to, among the entries in scope: the one that matches. Else 42P01 where no entry is
+/// meant, 42703 where none that is meant has such a column, and 42702 where several columns match.
 pub fn find_column<A: Heap>(
     entries: &[Entry<'_, A>],
     scope: Scope,
@@ -110,18 +91,22 @@ pub fn find_column<A: Heap>(
 ) -> Result<ColumnId, BindError>
     ensures { result ≡ spec.find_column (entries_of entries.now) scope (column_ref_of column.now) }
 {
-    let mut search = Search::NoEntry;
+    let offset = column.offset;
+    let mut found = None;
+    let mut is_named = false;
     for (number, entry) in entries.iter().enumerate() {
-        search = merge(search, column_in_entry(scope, column, number, entry));
+        is_named = is_named || is_meant(scope, column, number, entry);
+        let next = match_in(scope, column, number, entry);
+        if found.is_some() && next.is_some() {
+            let code = Refusal::AmbiguousColumn;
+            return Err(BindError { code, offset });
+        }
+        found = found.or(next);
     }
-    let code = match search {
-        Search::One(id) => return Ok(id),
-        Search::NoEntry => Refusal::UndefinedTable,
-        Search::NoColumn => Refusal::UndefinedColumn,
-        Search::Several => Refusal::AmbiguousColumn,
+    let code = match found {
+        Some(id) => return Ok(id),
+        None if is_named => Refusal::UndefinedColumn,
+        None => Refusal::UndefinedTable,
     };
-    Err(BindError {
-        code,
-        offset: column.offset,
-    })
+    Err(BindError { code, offset })
 }
