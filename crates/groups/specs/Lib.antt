@@ -1,4 +1,5 @@
 pub mod Aggregates
+pub mod ClassValues
 pub mod Classes
 pub mod GroupRow
 pub mod Groups

@@ -7,6 +7,7 @@ ghost use Rattle.expr.specs.Aggregates.{AggregateCall};
 ghost use Rattle.groups.specs.Members.{Member};
 ghost use Rattle.groups.specs.Groups.{groups_of, same_key};
 ghost use Rattle.groups.specs.GroupRow.{group_rows};
+ghost use Rattle.groups.specs.ClassValues.{AggregatesOfClasses, CountsEachRow};
 
 /// The order of the members makes no difference to the rows of the groups.
 #[tactic(auto, using(crate::proofs::SameGroups::same_rows_of_groups))]
@@ -24,4 +25,11 @@ pub fn law_groups_differ()
 #[tactic(auto, using(crate::proofs::Parts::no_member_lost))]
 pub fn law_no_member_lost()
     ensures { (columns : List id.ColumnId) (members : List Member) → IsPermutation (flat_map (λ g. g.members) (groups_of columns members)) (map (λ m. m.arguments) members) }
+{}
+
+/// In the row of a group each aggregate is the aggregate of its argument's values on the rows of the class: those that have
+/// the group's key, or all rows without GROUP BY. `count(*)` counts each of them.
+pub fn law_aggregates_of_classes()
+    ensures aggregates { AggregatesOfClasses }
+    ensures count { CountsEachRow }
 {}
