@@ -175,7 +175,7 @@ module _ (role : Name) (columns : List ColumnId) (calls : List AggregateCall) (r
       let total = each_total calls 0 group.members g.totals given.1 k c at in
       let here : 0 + k ≡ k = omega arith in
       let values : values_at (0 + k) group.members ≡ argument_values role c.argument (class_of columns g.key rows) =
-          ap (λ n. values_at n group.members) here ∙ ap (values_at k) is ∙ class_values role columns calls k c at group.key rows members z ∙ ap (λ key. argument_values role c.argument (class_of columns key rows)) given.0 in
+      ap (λ n. values_at n group.members) here ∙ ap (values_at k) is ∙ class_values role columns calls k c at group.key rows members z ∙ ap (λ key. argument_values role c.argument (class_of columns key rows)) given.0 in
       ap (aggregate_of c.aggregate c.offset) (sym values) ∙ total.2 ∙ ap (λ d. Ok d) (sym (total_there calls g.totals k c total.0 offsets at total.1))
 
 pub aggregates_of_classes : AggregatesOfClasses

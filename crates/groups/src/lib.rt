@@ -11,5 +11,7 @@ mod members;
 
 pub use group_row::{GroupCells, GroupRow};
 pub use groups::group_rows;
-pub use laws::{law_aggregates_of_classes, law_groups_differ, law_no_member_lost, law_order_of_members};
+pub use laws::{
+    law_aggregates_of_classes, law_groups_differ, law_no_member_lost, law_order_of_members,
+};
 pub use members::{Member, member_on};
