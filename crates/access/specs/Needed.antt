@@ -47,7 +47,8 @@ on_column column e = option_map (λ c. select_on e.table c.name) (slice_get e.ta
 abbrev pub on_entry : Entry → RequiredPrivilege
 on_entry e = select_any e.table
 
--- of a column SELECT on it; of an entry of which no column is named SELECT on any part of its table
+-- of a column SELECT on it; of an entry of which no column is named SELECT on any part of its table; a column that is not
+-- there would need nothing, but no admitted query names one (query_laws::law_admitted)
 abbrev pub required_by : List Entry → List Mention → Mention → Option RequiredPrivilege
 required_by entries mentions (mention.From entry) = if list_any (is_column_of entry) mentions then None else option_map on_entry (slice_get entries entry)
 required_by entries mentions (mention.Column id) = option_and_then (on_column id.column) (slice_get entries id.entry)

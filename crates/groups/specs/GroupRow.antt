@@ -29,7 +29,8 @@ group_rows columns calls members = stage (map (λ g. gives (group_row calls g)) 
 
 -- ---- its cells and aggregates
 
--- the value of a GROUP BY column; outside aggregates no other is named, so that null never replaces one
+-- the value of a GROUP BY column; outside aggregates an admitted query names no other (query_laws::law_admitted), so that
+-- null never replaces one
 abbrev pub key_cell : List ColumnId → Row → ColumnId → Datum
 key_cell [] key id = null
 key_cell (column ∷ columns) [] id = null
