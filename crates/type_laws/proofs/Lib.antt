@@ -1,0 +1,13 @@
+pub mod Admitted
+pub mod Bound
+pub mod Commons
+pub mod Complete
+pub mod Determined
+pub mod Fitting
+pub mod Operations
+pub mod Outcomes
+pub mod Parts
+pub mod Results
+pub mod Typable
+pub mod Unknowns
+pub mod Values

@@ -1,0 +1,9 @@
+//! Laws of types: what type checking admits has a type by the rules, and its values are of that type.
+#![tactic(auto)]
+
+mod laws;
+
+pub use laws::{
+    law_null_only_of_null, law_types_are_determined, law_types_by_rules, law_values_have_types,
+    law_what_rules_type_is_admitted,
+};
