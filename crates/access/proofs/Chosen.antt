@@ -1,5 +1,5 @@
 -- The steps of the choice of policies, and the guard made of them.
-use Rattle.std.proofs.Common.{◌≡◌, ℕ, suc, ◌+◌, ◌<◌, ◌≤◌, Bool, true, false, ◌==◌, List, [], ◌∷◌, ◌++◌, append_assoc, append-nil, length, map, filter, get_or, drop, drop-cons, None, Vec, Result, Ok, Err, IfOk, OnOk, refl, sym, ap, ◌∙◌, true≢false, arith}
+use Rattle.std.proofs.Common.{◌≡◌, ℕ, suc, ◌+◌, ◌<◌, ◌≤◌, Bool, true, false, ◌==◌, List, [], ◌∷◌, ◌++◌, append_assoc, append-nil, length, map, filter, get_or, drop, drop-cons, Vec, Result, Ok, Err, IfOk, OnOk, refl, sym, ap, ◌∙◌, true≢false, arith}
 use Rattle.std.proofs.Math.ListN.{drop_of_length-le}
 use Rattle.value.specs.Datum.{Row}
 use Rattle.value.specs.Names.{Name}

@@ -2,7 +2,7 @@
 use Rattle.std.specs.Prelude.{Bool, true, not, ◌&&◌, ◌||◌, List, filter, Option, Some, None}
 use Rattle.std.specs.Str.{bytes_eq}
 use Rattle.std.specs.List.{list_all, list_any, find}
-use Rattle.value.specs.Datum.{null, Row}
+use Rattle.value.specs.Datum.{Row}
 use Rattle.value.specs.Names.{Name, everyone}
 use Rattle.row_objects.specs.Objects.{Policy, Table}
 use Rattle.eval.specs.Meaning.{holds}

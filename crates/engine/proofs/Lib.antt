@@ -6,6 +6,7 @@ pub mod HiddenRows
 pub mod Indexes
 pub mod Judging
 pub mod Planned
+pub mod Readable
 pub mod Statistics
 pub mod Statuses
 pub mod Steps

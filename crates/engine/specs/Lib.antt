@@ -5,6 +5,7 @@ pub mod Guarded
 pub mod Held
 pub mod Hidden
 pub mod Known
+pub mod Readable
 pub mod Serving
 pub mod Settings
 pub mod View

@@ -27,4 +27,4 @@ pub use explaining::{explain, law_known_statistics};
 pub use planning::Plan;
 pub use store::{Store, StoreError};
 pub use verifying::verify;
-pub use writing::{law_hidden_rows, serve};
+pub use writing::{law_hidden_rows, law_ungranted_columns, serve};

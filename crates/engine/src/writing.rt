@@ -11,6 +11,7 @@ ghost use Rattle.store.specs.Database.{Rows, rows_of};
 ghost use Rattle.engine.specs.Answer.{reply_to};
 ghost use Rattle.engine.specs.Serving.{IsWhole};
 ghost use Rattle.engine.specs.Hidden.{SeesSame};
+ghost use Rattle.engine.specs.Readable.{ReadsSame};
 
 use crate::asking::ask;
 use memory::Heap;
@@ -73,6 +74,9 @@ pub fn serve<A: Heap, W: Out>(alloc: A, store: &Store<A>, role: &str, text: &str
     // Rows that the role does not see make no difference.
     ensures hidden { (other : Rows) → SeesSame store.now.catalog role.now text.now (rows_of store.now) other → result ≢ 7 → result ≢ 8 →
         IsWhole (W.taken out.old) (W.taken out.new) result (reply_to store.now.catalog other role.now text.now) }
+    // Nor do columns that are not granted to it.
+    ensures ungranted { (other : Rows) → ReadsSame store.now.catalog role.now (rows_of store.now) other → result ≢ 7 → result ≢ 8 →
+        IsWhole (W.taken out.old) (W.taken out.new) result (reply_to store.now.catalog other role.now text.now) }
 {
     write_reply(alloc, store, role, text, out)
 }
@@ -83,4 +87,12 @@ pub fn serve<A: Heap, W: Out>(alloc: A, store: &Store<A>, role: &str, text: &str
 #[tactic(auto, using(crate::proofs::HiddenRows::same_reply))]
 pub fn law_hidden_rows()
     ensures { (cat : Catalog) (role : Name) (text : List ℕ) (one other : Rows) → SeesSame cat role text one other → reply_to cat one role text ≡ reply_to cat other role text }
+{}
+
+/// No reply reads a column that the role may not read: two contents that are the same bags, for each table on a part of
+/// which the role has SELECT, in the rows that it sees and the columns that are granted to it, give the same reply to every
+/// text. So its own rows, in its granted columns, and how many there are, are all that a role ever learns.
+#[tactic(auto, using(crate::proofs::Readable::same_to_readers))]
+pub fn law_ungranted_columns()
+    ensures { (cat : Catalog) (role : Name) (text : List ℕ) (one other : Rows) → ReadsSame cat role one other → reply_to cat one role text ≡ reply_to cat other role text }
 {}

@@ -4,9 +4,13 @@ pub mod Commons
 pub mod Complete
 pub mod Determined
 pub mod Fitting
+pub mod Leasts
+pub mod Misplacements
+pub mod Mistypings
 pub mod Operations
 pub mod Outcomes
 pub mod Parts
+pub mod QueryFaults
 pub mod Results
 pub mod Typable
 pub mod Unknowns

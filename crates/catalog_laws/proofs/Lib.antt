@@ -1,0 +1,14 @@
+pub mod Accepted
+pub mod Bound
+pub mod Changes
+pub mod Distinct
+pub mod FittingRows
+pub mod GrantLaws
+pub mod GrantSets
+pub mod Known
+pub mod Lists
+pub mod Names
+pub mod PolicyColumns
+pub mod TableStatements
+pub mod WellFormed
+pub mod WellFormedDatabase

@@ -1,0 +1,4 @@
+pub mod FittingRows
+pub mod GrantLaws
+pub mod WellFormed
+pub mod WellFormedDatabase

@@ -1,0 +1,242 @@
+-- A name that resolves, resolves to a column of the table of an entry; and so does each column of what is bound.
+use Rattle.std.proofs.Common.{◌≡◌, ℕ, suc, ◌+◌, Bool, true, false, if◌then◌else◌, cond, List, [], ◌∷◌, ◌++◌, Option, Some, None, Result, Ok, refl, sym, ap, subst, ◌∙◌, arith}
+use Rattle.std.specs.Prelude.{option_map, option_to_list}
+use Rattle.std.specs.List.{All, cons_option, flat_map, position_from, slice_get}
+use Rattle.std.specs.Str.{bytes_eq}
+use Rattle.std.proofs.lemmas.List.Elements.{All-append, All-cons, All-head, All-nil, All-tail}
+use Rattle.memory.specs.Results.{and_then}
+use Rattle.memory.proofs.Cases.{ok_is}
+use Rattle.value.specs.Columns.{Column}
+use Rattle.value.specs.Names.{Name}
+use Rattle.row_ast.specs.Ast as ast
+use Rattle.expr.specs.declared.bound.ColumnId.{ColumnId}
+use Rattle.expr.specs.Bound as bound
+use Rattle.expr.specs.Bound.{BoundExpr, BoundExprs, BoundArms, BoundOtherwise, bound_arms_of, bound_exprs_of}
+use Rattle.expr.specs.BoundQuery.{BoundItem}
+use Rattle.expr.specs.Columns.{columns, all_columns, arms_columns, otherwise_columns}
+use Rattle.expr.specs.NamedColumns.{item_columns, condition_columns}
+use Rattle.row_objects.specs.ColumnNames.{column_index}
+use Rattle.scope.specs.declared.error.BindError.{BindError}
+use Rattle.scope.specs.declared.lookup.Scope.{Scope}
+use Rattle.scope.specs.Entry.{Entry}
+use Rattle.scope.specs.Lookup.{find_column, is_meant, match_in, matches, means_some, on_scope, one_column}
+use Rattle.scope.specs.BoundExprs.{bound_arms, bound_expr, bound_members, bound_otherwise, pair}
+use Rattle.resolve.specs.BoundQueries.{bound_columns, bound_condition, bound_item, bound_items, bound_ons, bound_select, column_items, every_item, heading_or}
+use Rattle.resolve.proofs.EntryTables.{given}
+
+-- ---- elements
+
+pub the_one : {X : Type 0} (P : X → Type 0) (x : X) → P x → All P (x ∷ [])
+the_one P x p = All-cons P x [] p (All-nil P)
+
+pub of_each : {X Y : Type 0} (P : Y → Type 0) (f : X → List Y) (xs : List X) → All (λ x. All P (f x)) xs → All P (flat_map f xs)
+of_each P f [] h = All-nil P
+of_each P f (x ∷ xs) h = All-append P (f x) (flat_map f xs) (All-head (λ x. All P (f x)) x xs h) (of_each P f xs (All-tail (λ x. All P (f x)) x xs h))
+
+-- ---- columns
+
+-- a column of the table of an entry
+pub record IsThere (entries : List Entry) (id : ColumnId) : Type 0 where
+  pub entry : Entry
+  pub column : Column
+  pub entry_is : slice_get entries id.entry ≡ Some entry
+  pub column_is : slice_get entry.table.columns id.column ≡ Some column
+
+position_there : {X : Type 0} (p : X → Bool) (k i : ℕ) (xs : List X) → position_from p k xs ≡ Some i → (j : ℕ) × (x : X) × (i ≡ k + j) × (slice_get xs j ≡ Some x)
+position_there {X} p k i [] h = absurd (cc)
+position_there {X} p k i (x ∷ xs) h = go (p x) (position_there p (k + 1) i xs) h
+  where
+    go : (b : Bool) → (position_from p (k + 1) xs ≡ Some i → (j : ℕ) × (y : X) × (i ≡ k + 1 + j) × (slice_get xs j ≡ Some y)) → cond b (Some k) (position_from p (k + 1) xs) ≡ Some i → (j : ℕ) × (y : X) × (i ≡ k + j) × (slice_get (x ∷ xs) j ≡ Some y)
+    go true rest e = let same : k ≡ i = cc in (0, x, omega arith, refl)
+    go false rest e = let it = rest e in (suc it.0, it.1, omega (arith, it.2), it.3)
+
+index_there : (cs : List Column) (name : Name) (i : ℕ) → column_index cs name ≡ Some i → (c : Column) × (slice_get cs i ≡ Some c)
+index_there cs name i h =
+    let it = position_there (λ (column : Column). bytes_eq name column.name) 0 i cs h in
+    let same : it.0 ≡ i = omega (arith, it.2) in
+    (it.1, ap (slice_get cs) (sym same) ∙ it.3)
+
+module _ (entries : List Entry) where
+  module _ (n : ℕ) (e : Entry) (is : slice_get entries n ≡ Some e) where
+    column_there : (o : Option ℕ) → ((i : ℕ) → o ≡ Some i → (c : Column) × (slice_get e.table.columns i ≡ Some c)) → All (IsThere entries) (option_to_list (option_map (λ column. record { entry = n; column = column }) o))
+    column_there None h = All-nil (IsThere entries)
+    column_there (Some i) h = let it = h i refl in the_one (IsThere entries) (record { entry = n; column = i }) (record { entry = e; column = it.0; entry_is = is; column_is = it.1 })
+
+    match_there : (b : Bool) (name : Name) → All (IsThere entries) (option_to_list (if b then option_map (λ column. record { entry = n; column = column }) (column_index e.table.columns name) else None))
+    match_there true name = column_there (column_index e.table.columns name) (λ i h. index_there e.table.columns name i h)
+    match_there false name = All-nil (IsThere entries)
+
+  one_before : (o : Option ColumnId) (ids : List ColumnId) → All (IsThere entries) (option_to_list o) → All (IsThere entries) ids → All (IsThere entries) (cons_option o ids)
+  one_before None ids h k = k
+  one_before (Some id) ids h k = All-cons (IsThere entries) id ids (All-head (IsThere entries) id [] h) k
+
+  matches_there : (scope : Scope) (c : ast.ColumnRef) (n : ℕ) (es : List Entry) → ((k : ℕ) → slice_get entries (n + k) ≡ slice_get es k) → All (IsThere entries) (matches scope c n es)
+  matches_there scope c n [] h = All-nil (IsThere entries)
+  matches_there scope c n (e ∷ more) h =
+      let at : n + 0 ≡ n = omega arith in
+      one_before (match_in scope c n e) (matches scope c (n + 1) more) (match_there n e (ap (slice_get entries) (sym at) ∙ h 0) (is_meant scope c n e) c.name)
+      (matches_there scope c (n + 1) more (λ k. let next : n + 1 + k ≡ n + suc k = omega arith in ap (slice_get entries) next ∙ h (suc k)))
+
+  one_there : (offset : ℕ) (b : Bool) (ids : List ColumnId) (id : ColumnId) → All (IsThere entries) ids → one_column offset b ids ≡ Ok id → IsThere entries id
+  one_there offset b (x ∷ []) id h e = subst (IsThere entries) (ok_is x id e) (All-head (IsThere entries) x [] h)
+  one_there offset b (x ∷ y ∷ more) id h e = absurd (cc)
+  one_there offset false [] id h e = absurd (cc)
+  one_there offset true [] id h e = absurd (cc)
+
+  pub found_there : (scope : Scope) (c : ast.ColumnRef) (id : ColumnId) → find_column entries scope c ≡ Ok id → IsThere entries id
+  found_there scope c id e =
+      one_there c.offset (means_some scope c 0 entries) (matches scope c 0 entries) id (matches_there scope c 0 entries (λ k. let at : 0 + k ≡ k = omega arith in ap (slice_get entries) at)) e
+
+  -- ---- expressions
+
+  abbrev Names : Result BoundExpr BindError → Type 0
+  Names r = (x : BoundExpr) → r ≡ Ok x → All (IsThere entries) (columns x)
+
+  named : (y : BoundExpr) → All (IsThere entries) (columns y) → Names (Ok y)
+  named y h x e = subst (λ (x : BoundExpr). All (IsThere entries) (columns x)) (ok_is y x e) h
+
+  after : {X : Type 0} (r : Result X BindError) (f : X → Result BoundExpr BindError) → ((y : X) → r ≡ Ok y → Names (f y)) → Names (and_then r f)
+  after r f h x e = let step = given f x r e in h step.0 step.1 x step.2
+
+  -- of each of several expressions, or of the conditions and results of arms
+  abbrev EachThere : List BoundExpr → Type 0
+  EachThere [] = Unit {0}
+  EachThere (x ∷ xs) = All (IsThere entries) (columns x) × EachThere xs
+
+  one_later : (xs : List BoundExpr) (x : BoundExpr) → EachThere xs → All (IsThere entries) (columns x) → EachThere (xs ++ x ∷ [])
+  one_later [] x h l = (l, tt)
+  one_later (y ∷ ys) x h l = (h.0, one_later ys x h.1 l)
+
+  all_there : (xs : List BoundExpr) → EachThere xs → All (IsThere entries) (all_columns (bound_exprs_of xs))
+  all_there [] h = All-nil (IsThere entries)
+  all_there (x ∷ xs) h = All-append (IsThere entries) (columns x) (all_columns (bound_exprs_of xs)) h.0 (all_there xs h.1)
+
+  abbrev ArmsThere : List (BoundExpr × BoundExpr) → Type 0
+  ArmsThere [] = Unit {0}
+  ArmsThere (a ∷ as_) = All (IsThere entries) (columns a.0) × All (IsThere entries) (columns a.1) × ArmsThere as_
+
+  arm_later : (xs : List (BoundExpr × BoundExpr)) (a : BoundExpr × BoundExpr) → ArmsThere xs → All (IsThere entries) (columns a.0) → All (IsThere entries) (columns a.1) → ArmsThere (xs ++ a ∷ [])
+  arm_later [] a h k l = (k, l, tt)
+  arm_later (y ∷ ys) a h k l = (h.0, h.1, arm_later ys a h.2 k l)
+
+  arms_there : (xs : List (BoundExpr × BoundExpr)) → ArmsThere xs → All (IsThere entries) (arms_columns (bound_arms_of xs))
+  arms_there [] h = All-nil (IsThere entries)
+  arms_there (a ∷ as_) h =
+      All-append (IsThere entries) (columns a.0) (columns a.1 ++ arms_columns (bound_arms_of as_)) h.0
+      (All-append (IsThere entries) (columns a.1) (arms_columns (bound_arms_of as_)) h.1 (arms_there as_ h.2))
+
+  module _ (scope : Scope) where
+    mutual
+      pub expr_there : (e : ast.Expr) → Names (bound_expr entries scope e)
+      expr_there (ast.Column c) = after (find_column entries scope c) _ (λ id is. named (bound.Column id) (the_one (IsThere entries) id (found_there scope c id is)))
+      expr_there (ast.Literal d) = named (bound.Literal d) (All-nil (IsThere entries))
+      expr_there ast.CurrentUser = named bound.CurrentUser (All-nil (IsThere entries))
+      expr_there (ast.Negate n e) = after (bound_expr entries scope e) _ (λ x is. named (bound.Negate n x) (expr_there e x is))
+      expr_there (ast.Arithmetic op n e f) =
+          after (bound_expr entries scope e) _ (λ x is_x. after (bound_expr entries scope f) _ (λ y is_y. named (bound.Arithmetic op n x y) (All-append (IsThere entries) (columns x) (columns y) (expr_there e x is_x) (expr_there f y is_y))))
+      expr_there (ast.Comparison op n e f) =
+          after (bound_expr entries scope e) _ (λ x is_x. after (bound_expr entries scope f) _ (λ y is_y. named (bound.Comparison op n x y) (All-append (IsThere entries) (columns x) (columns y) (expr_there e x is_x) (expr_there f y is_y))))
+      expr_there (ast.Between negated n e low high) =
+          after (bound_expr entries scope e) _ (λ x is_x. after (bound_expr entries scope low) _ (λ y is_y. after (bound_expr entries scope high) _ (λ z is_z.
+          named (bound.Between negated n x y z) (All-append (IsThere entries) (columns x) (columns y ++ columns z) (expr_there e x is_x) (All-append (IsThere entries) (columns y) (columns z) (expr_there low y is_y) (expr_there high z is_z))))))
+      expr_there (ast.In negated n values e) = after (bound_expr entries scope e) _ (λ x is. named (bound.In negated n values x) (expr_there e x is))
+      expr_there (ast.IsNull negated n e) = after (bound_expr entries scope e) _ (λ x is. named (bound.IsNull negated n x) (expr_there e x is))
+      expr_there (ast.Not n e) = after (bound_expr entries scope e) _ (λ x is. named (bound.Not n x) (expr_there e x is))
+      expr_there (ast.And n ms) = after (bound_members entries scope [] ms) _ (λ xs is. named (bound.And n (bound_exprs_of xs)) (all_there xs (members_there [] ms xs tt is)))
+      expr_there (ast.Or n ms) = after (bound_members entries scope [] ms) _ (λ xs is. named (bound.Or n (bound_exprs_of xs)) (all_there xs (members_there [] ms xs tt is)))
+      expr_there (ast.Cast n to e) = after (bound_expr entries scope e) _ (λ x is. named (bound.Cast n to x) (expr_there e x is))
+      expr_there (ast.Case n as_ o) =
+          after (bound_arms entries scope [] as_) _ (λ xs is_xs. after (bound_otherwise entries scope o) _ (λ y is_y.
+          named (bound.Case n (bound_arms_of xs) y) (All-append (IsThere entries) (arms_columns (bound_arms_of xs)) (otherwise_columns y) (arms_there xs (each_arm [] as_ xs tt is_xs)) (otherwise_there o y is_y))))
+      expr_there (ast.CountStar n) = named (bound.CountStar n) (All-nil (IsThere entries))
+      expr_there (ast.Call f n e) = after (bound_expr entries scope e) _ (λ x is. named (bound.Call f n x) (expr_there e x is))
+
+      members_there : (known : List BoundExpr) (ms : ast.Exprs) (xs : List BoundExpr) → EachThere known → bound_members entries scope known ms ≡ Ok xs → EachThere xs
+      members_there known ast.no_expr xs h e = subst EachThere (ok_is known xs e) h
+      members_there known (ast.one_expr m ms) xs h e =
+          let step = given (λ x. bound_members entries scope (known ++ x ∷ []) ms) xs (bound_expr entries scope m) e in
+          members_there (known ++ step.0 ∷ []) ms xs (one_later known step.0 h (expr_there m step.0 step.1)) step.2
+
+      each_arm : (known : List (BoundExpr × BoundExpr)) (as_ : ast.Arms) (xs : List (BoundExpr × BoundExpr)) → ArmsThere known → bound_arms entries scope known as_ ≡ Ok xs → ArmsThere xs
+      each_arm known ast.no_arm xs h e = subst ArmsThere (ok_is known xs e) h
+      each_arm known (ast.one_arm when result as_) xs h e =
+          let step = given (λ p. bound_arms entries scope (known ++ p ∷ []) as_) xs (pair (bound_expr entries scope when) (bound_expr entries scope result)) e in
+          let first = given (λ x. and_then (bound_expr entries scope result) (λ y. Ok (x, y))) step.0 (bound_expr entries scope when) step.1 in
+          let second = given (λ y. Ok (first.0, y)) step.0 (bound_expr entries scope result) first.2 in
+          let is : (first.0, second.0) ≡ step.0 = ok_is (first.0, second.0) step.0 second.2 in
+          each_arm (known ++ step.0 ∷ []) as_ xs
+          (arm_later known step.0 h
+          (subst (λ (p : BoundExpr × BoundExpr). All (IsThere entries) (columns p.0)) is (expr_there when first.0 first.1))
+          (subst (λ (p : BoundExpr × BoundExpr). All (IsThere entries) (columns p.1)) is (expr_there result second.0 second.1)))
+          step.2
+
+      otherwise_there : (o : ast.Otherwise) (y : BoundOtherwise) → bound_otherwise entries scope o ≡ Ok y → All (IsThere entries) (otherwise_columns y)
+      otherwise_there ast.Nothing y e = subst (λ (y : BoundOtherwise). All (IsThere entries) (otherwise_columns y)) (ok_is bound.Nothing y e) (All-nil (IsThere entries))
+      otherwise_there (ast.Value e) y h =
+          let step = given (λ x. Ok (bound.Value x)) y (bound_expr entries scope e) h in
+          subst (λ (y : BoundOtherwise). All (IsThere entries) (otherwise_columns y)) (ok_is (bound.Value step.0) y step.2) (expr_there e step.0 step.1)
+
+    pub condition_there : (o : Option ast.Condition) (x : Option BoundExpr) → bound_condition entries scope o ≡ Ok x → All (IsThere entries) (condition_columns x)
+    condition_there None x e = subst (λ (x : Option BoundExpr). All (IsThere entries) (condition_columns x)) (ok_is None x e) (All-nil (IsThere entries))
+    condition_there (Some c) x e =
+        let step = given (λ y. Ok (Some y)) x (bound_expr entries scope c.predicate) e in
+        subst (λ (x : Option BoundExpr). All (IsThere entries) (condition_columns x)) (ok_is (Some step.0) x step.2) (expr_there c.predicate step.0 step.1)
+
+    -- ---- GROUP BY
+
+    pub columns_there : (known : List ColumnId) (cs : List ast.ColumnRef) (ids : List ColumnId) → All (IsThere entries) known → bound_columns entries scope known cs ≡ Ok ids → All (IsThere entries) ids
+    columns_there known [] ids h e = subst (λ (ids : List ColumnId). All (IsThere entries) ids) (ok_is known ids e) h
+    columns_there known (c ∷ more) ids h e =
+        let step = given (λ id. bound_columns entries scope (known ++ id ∷ []) more) ids (find_column entries scope c) e in
+        columns_there (known ++ step.0 ∷ []) more ids (All-append (IsThere entries) known (step.0 ∷ []) h (the_one (IsThere entries) step.0 (found_there scope c step.0 step.1))) step.2
+
+    -- ---- items
+
+    abbrev ItemThere : BoundItem → Type 0
+    ItemThere i = All (IsThere entries) (item_columns i)
+
+    item_there : (i : ast.SelectItem) (x : BoundItem) → bound_item entries scope i ≡ Ok x → ItemThere x
+    item_there i x e =
+        let step = given (λ y. Ok record { heading = heading_or i.alias i.value; value = y }) x (bound_expr entries scope i.value) e in
+        let made : BoundItem = record { heading = heading_or i.alias i.value; value = step.0 } in
+        subst ItemThere (ok_is made x step.2) (expr_there i.value step.0 step.1)
+
+    items_there : (known : List BoundItem) (is : List ast.SelectItem) (xs : List BoundItem) → All ItemThere known → bound_items entries scope known is ≡ Ok xs → All ItemThere xs
+    items_there known [] xs h e = subst (λ (xs : List BoundItem). All ItemThere xs) (ok_is known xs e) h
+    items_there known (i ∷ more) xs h e =
+        let step = given (λ x. bound_items entries scope (known ++ x ∷ []) more) xs (bound_item entries scope i) e in
+        items_there (known ++ step.0 ∷ []) more xs (All-append ItemThere known (step.0 ∷ []) h (the_one ItemThere step.0 (item_there i step.0 step.1))) step.2
+
+    -- the columns of an entry, from an index on
+    each_column : (n : ℕ) (e : Entry) → slice_get entries n ≡ Some e → (k : ℕ) (cs : List Column) → ((j : ℕ) → slice_get e.table.columns (k + j) ≡ slice_get cs j) → All ItemThere (column_items n k cs)
+    each_column n e is k [] h = All-nil ItemThere
+    each_column n e is k (c ∷ more) h =
+        let at : k + 0 ≡ k = omega arith in
+        let id : ColumnId = record { entry = n; column = k } in
+        All-cons ItemThere (record { heading = c.name; value = bound.Column id }) (column_items n (k + 1) more)
+        (the_one (IsThere entries) id (record { entry = e; column = c; entry_is = is; column_is = ap (slice_get e.table.columns) (sym at) ∙ h 0 }))
+        (each_column n e is (k + 1) more (λ j. let next : k + 1 + j ≡ k + suc j = omega arith in ap (slice_get e.table.columns) next ∙ h (suc j)))
+
+    each_entry : (n : ℕ) (es : List Entry) → ((k : ℕ) → slice_get entries (n + k) ≡ slice_get es k) → All ItemThere (every_item n es)
+    each_entry n [] h = All-nil ItemThere
+    each_entry n (e ∷ more) h =
+        let at : n + 0 ≡ n = omega arith in
+        All-append ItemThere (column_items n 0 e.table.columns) (every_item (n + 1) more)
+        (each_column n e (ap (slice_get entries) (sym at) ∙ h 0) 0 e.table.columns (λ j. let same : 0 + j ≡ j = omega arith in ap (slice_get e.table.columns) same))
+        (each_entry (n + 1) more (λ k. let next : n + 1 + k ≡ n + suc k = omega arith in ap (slice_get entries) next ∙ h (suc k)))
+
+    pub select_there : (s : ast.SelectList) (xs : List BoundItem) → bound_select entries scope s ≡ Ok xs → All ItemThere xs
+    select_there (ast.All offset) xs e =
+        subst (λ (xs : List BoundItem). All ItemThere xs) (ok_is (every_item 0 entries) xs e) (each_entry 0 entries (λ k. let same : 0 + k ≡ k = omega arith in ap (slice_get entries) same))
+    select_there (ast.Items items) xs e = items_there [] items xs (All-nil ItemThere) e
+
+  -- ---- the ON of each entry
+
+  abbrev OnThere : Option BoundExpr → Type 0
+  OnThere x = All (IsThere entries) (condition_columns x)
+
+  pub ons_there : (number : ℕ) (known : List (Option BoundExpr)) (more : List Entry) (ons : List (Option BoundExpr)) → All OnThere known → bound_ons entries number known more ≡ Ok ons → All OnThere ons
+  ons_there number known [] ons h e = subst (λ (ons : List (Option BoundExpr)). All OnThere ons) (ok_is known ons e) h
+  ons_there number known (y ∷ more) ons h e =
+      let step = given (λ x. bound_ons entries (number + 1) (known ++ x ∷ []) more) ons (bound_condition entries (on_scope number y) y.on) e in
+      ons_there (number + 1) (known ++ step.0 ∷ []) more ons (All-append OnThere known (step.0 ∷ []) h (the_one OnThere step.0 (condition_there (on_scope number y) y.on step.0 step.1))) step.2

@@ -1,0 +1,5 @@
+pub mod Found
+pub mod Granted
+pub mod Parts
+pub mod Placed
+pub mod Typed

@@ -1,0 +1,99 @@
+-- The parts that an admitted query is bound of, and that its checks found nothing and nothing is denied.
+use Rattle.std.proofs.Common.{◌≡◌, ℕ, Bool, List, [], Option, Some, None, Result, Ok, Err, refl, ap, subst}
+use Rattle.row_ast.specs.Ast as ast
+use Rattle.memory.proofs.Cases.{ok_is}
+use Rattle.value.specs.Names.{Name}
+use Rattle.expr.specs.declared.bound.ColumnId.{ColumnId}
+use Rattle.expr.specs.declared.query.OutputKey.{OutputKey}
+use Rattle.expr.specs.Bound.{BoundExpr}
+use Rattle.expr.specs.BoundQuery.{BoundItem, BoundQuery}
+use Rattle.scope.specs.declared.error.BindError.{BindError}
+use Rattle.scope.specs.Entry.{Entry}
+use Rattle.scope.specs.Lookup.{everywhere}
+use Rattle.typing.specs.Clauses.{clause_error, is_grouped}
+use Rattle.catalog.specs.Catalog.{Catalog}
+use Rattle.resolve.specs.BoundQueries.{bound_columns, bound_condition, bound_ons, bound_parts, bound_query, bound_select}
+use Rattle.resolve.specs.Entries.{entries}
+use Rattle.resolve.specs.OrderBy.{output_keys}
+use Rattle.resolve.specs.Resolved.{Bound, bound, bound_with, checked, ordered, unless_fault, with_order}
+use Rattle.resolve.proofs.EntryTables.{given}
+use Rattle.access.specs.Access.{RequiredPrivilege, denial}
+use Rattle.access.specs.Needed.{needed}
+use Rattle.analysis.specs.Analysis.{admitted, admitted_query, permitted, query_read, unless_denied}
+
+-- ---- the parts
+
+pub record HasParts (es : List Entry) (q : ast.Query) (b : BoundQuery) : Type 0 where
+  pub items : bound_select es (everywhere es) q.select ≡ Ok b.items
+  pub ons : bound_ons es 0 [] es ≡ Ok b.ons
+  pub filter : bound_condition es (everywhere es) q.filter ≡ Ok b.filter
+  pub group_by : bound_columns es (everywhere es) [] q.group_by ≡ Ok b.group_by
+  pub having : bound_condition es (everywhere es) q.having ≡ Ok b.having
+  pub grouped : is_grouped es q ≡ b.is_grouped
+
+has_parts : (es : List Entry) (q : ast.Query) (grouped : Bool) (limit : Option ℕ) (items : Result (List BoundItem) BindError) (ons : Result (List (Option BoundExpr)) BindError)
+    (filter : Result (Option BoundExpr) BindError) (group_by : Result (List ColumnId) BindError) (having : Result (Option BoundExpr) BindError) (b : BoundQuery)
+    → bound_select es (everywhere es) q.select ≡ items → bound_ons es 0 [] es ≡ ons → bound_condition es (everywhere es) q.filter ≡ filter
+    → bound_columns es (everywhere es) [] q.group_by ≡ group_by → bound_condition es (everywhere es) q.having ≡ having → is_grouped es q ≡ grouped
+    → bound_parts grouped limit items ons filter group_by having ≡ Ok b → HasParts es q b
+has_parts es q grouped limit (Err fault) ons filter group_by having b i o f g h d e = absurd (cc)
+has_parts es q grouped limit (Ok items) (Err fault) filter group_by having b i o f g h d e = absurd (cc)
+has_parts es q grouped limit (Ok items) (Ok ons) (Err fault) group_by having b i o f g h d e = absurd (cc)
+has_parts es q grouped limit (Ok items) (Ok ons) (Ok filter) (Err fault) having b i o f g h d e = absurd (cc)
+has_parts es q grouped limit (Ok items) (Ok ons) (Ok filter) (Ok group_by) (Err fault) b i o f g h d e = absurd (cc)
+has_parts es q grouped limit (Ok items) (Ok ons) (Ok filter) (Ok group_by) (Ok having) b i o f g h d e =
+    subst (HasParts es q) (ok_is (record { items = items; ons = ons; filter = filter; group_by = group_by; having = having; is_grouped = grouped; order_by = []; limit = limit }) b e)
+    (record { items = i; ons = o; filter = f; group_by = g; having = h; grouped = d })
+
+-- the keys of ORDER BY are no part of it
+in_order : (es : List Entry) (q : ast.Query) (b : BoundQuery) (keys : List OutputKey) → HasParts es q b → HasParts es q (with_order b keys)
+in_order es q b keys h = record { items = h.items; ons = h.ons; filter = h.filter; group_by = h.group_by; having = h.having; grouped = h.grouped }
+
+-- ---- the checks
+
+no_fault : {X E : Type 0} (o : Option E) (x y : X) → unless_fault o x ≡ Ok y → (o ≡ None) × (x ≡ y)
+no_fault None x y e = (refl, ok_is x y e)
+no_fault (Some fault) x y e = absurd (cc)
+
+-- the parts, and no fault of aggregates or types
+pub record IsMade (q : ast.Query) (b : Bound) : Type 0 where
+  pub parts : HasParts b.entries q b.query
+  pub right : clause_error b.entries b.query.group_by q ≡ None
+
+pub is_made : (cat : Catalog) (q : ast.Query) (b : Bound) → bound cat q ≡ Ok b → IsMade q b
+is_made cat q b e =
+    let found = given (bound_with q) b (entries cat q.from) e in
+    let es = found.0 in
+    let columns = given (checked es q) b (bound_query es q) found.2 in
+    let types = given (ordered es q) b (unless_fault (clause_error es columns.0.group_by q) columns.0) columns.2 in
+    let keys = given (λ keys. Ok record { entries = es; query = with_order types.0 keys }) b (output_keys types.0.items [] q.order_by) types.2 in
+    let checks = no_fault (clause_error es columns.0.group_by q) columns.0 types.0 types.1 in
+    let parts = has_parts es q _ _ _ _ _ _ _ columns.0 refl refl refl refl refl refl columns.1 in
+    subst (IsMade q) (ok_is (record { entries = es; query = with_order types.0 keys.0 }) b keys.2)
+    (record {
+      parts = in_order es q types.0 keys.0 (subst (HasParts es q) checks.1 parts);
+      right = subst (λ (c : BoundQuery). clause_error es c.group_by q ≡ None) checks.1 checks.0;
+    })
+
+-- ---- an admitted query
+
+not_denied : (b c : Bound) (o : Option RequiredPrivilege) → unless_denied b o ≡ Ok c → (b ≡ c) × (o ≡ None)
+not_denied b c None e = (ok_is b c e, refl)
+not_denied b c (Some privilege) e = absurd (cc)
+
+abbrev Granted : Catalog → Name → Bound → Type 0
+Granted cat role b = denial cat role (needed b.entries b.query) ≡ None
+
+permitted_bound : (cat : Catalog) (role : Name) (r : Result Bound BindError) (b : Bound) → permitted cat role r ≡ Ok b → (r ≡ Ok b) × Granted cat role b
+permitted_bound cat role (Err fault) b e = absurd (cc)
+permitted_bound cat role (Ok c) b e =
+    let it = not_denied c b (denial cat role (needed c.entries c.query)) e in
+    (ap (λ c. Ok c) it.0, subst (Granted cat role) it.0 it.1)
+
+-- it is bound of a query, and none of the privileges that it needs is lacking
+pub admitted_bound : (cat : Catalog) (role : Name) (text : List ℕ) (b : Bound) → admitted cat role text ≡ Ok b
+    → (q : ast.Query) × (bound cat q ≡ Ok b) × (denial cat role (needed b.entries b.query) ≡ None)
+admitted_bound cat role text b e =
+    let read = given (admitted_query cat role) b (query_read cat role text) e in
+    let it = permitted_bound cat role (bound cat read.0) b read.2 in
+    (read.0, it.0, it.1)
