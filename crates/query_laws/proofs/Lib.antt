@@ -1,3 +1,4 @@
+pub mod FittingValues
 pub mod Found
 pub mod Granted
 pub mod Parts

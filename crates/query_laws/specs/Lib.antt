@@ -1,3 +1,4 @@
 pub mod Admitted
 pub mod Outside
 pub mod Typed
+pub mod Values

@@ -1,6 +1,9 @@
-//! Laws of admitted queries: what analysis establishes of the columns that they name and of their aggregates.
+//! Laws of admitted queries: what analysis establishes of the columns that they name, of their aggregates and types, and of
+//! their values.
 #![tactic(auto)]
 
 mod admitted;
+mod values;
 
 pub use admitted::law_admitted;
+pub use values::law_admitted_values;

@@ -1,0 +1,26 @@
+-- The values of an admitted query over a well-formed database.
+use Rattle.std.specs.Prelude.{◌≡◌, ℕ, Contains, List, Ok}
+use Rattle.std.specs.List.{AllZip}
+use Rattle.value.specs.Names.{Name}
+use Rattle.expr.specs.Bound.{BoundExpr}
+use Rattle.eval.specs.Meaning.{meaning}
+use Rattle.scope.specs.Entry.{Entry}
+use Rattle.typing.specs.Typing.{TypeOf}
+use Rattle.type_laws.specs.Laws.{GivesType}
+use Rattle.type_laws.specs.Rules.{IsOfType}
+use Rattle.tuples.specs.Combinations.{Combination, joined_cells}
+use Rattle.resolve.specs.Resolved.{Bound}
+use Rattle.analysis.specs.Analysis.{admitted}
+use Rattle.store.specs.Database.{Database, rows_of}
+use Rattle.catalog_laws.specs.WellFormedDatabase.{IsWellFormedDatabase}
+use Rattle.query_laws.specs.Admitted.{IsPlain}
+
+-- a row of the table of each entry
+abbrev pub IsCombination : Database → List Entry → Combination → Type 0
+IsCombination database entries these = AllZip (λ e row. Contains (rows_of database e.table.name) row) entries these
+
+-- on a combination of rows of its tables, an expression that has a type among the entries of an admitted query, and no
+-- aggregate, gives a value of the type, null or a fault
+abbrev pub ValuesAreOfTypes : Type 0
+ValuesAreOfTypes = (database : Database) (role : Name) (text : List ℕ) (b : Bound) (these : Combination) (x : BoundExpr) (t : TypeOf) → IsWellFormedDatabase database → admitted database.catalog role text ≡ Ok b →
+    IsCombination database b.entries these → IsOfType b.entries x t → IsPlain x → GivesType t (meaning (joined_cells these) role x)
