@@ -7,7 +7,7 @@ use Rattle.std.proofs.lemmas.Bool.{eqb-true, eq-eqb}
 use Rattle.std.proofs.lemmas.Option.{get_or_from_slice_get, slice_get-map, slice_get_within, unwrap_or-slice_get}
 use Rattle.std.proofs.lemmas.List.{length-map}
 use Rattle.std.proofs.lemmas.List.Elements.{All-contains}
-use Rattle.std.proofs.lemmas.List.Sorted.{IsPermutation-map}
+use Rattle.std.proofs.lemmas.List.Sorted.{IsPermutation-map, IsPermutation-refl}
 use Rattle.std.proofs.lemmas.Simd.{map-map}
 use Rattle.memory.proofs.Cases.{some_is}
 use Rattle.value.specs.Columns.{Column}
@@ -89,11 +89,8 @@ granted_at cat role t n (suc j) (x ∷ xs) c at h =
 named_granted : (cat : Catalog) (role : Name) (es : List Entry) (k : ℕ) (e : Entry) (ids : List ColumnId) → slice_get es k ≡ Some e → All (IsGranted cat role es) ids
     → IsWithin (map (λ id. id.column) (filter (λ id. id.entry == k) ids)) (granted_columns cat role e.table)
 named_granted cat role es k e [] at h i is = absurd (cc)
-named_granted cat role es k e (id ∷ ids) at h i is = go (id.entry == k) refl is
+named_granted cat role es k e (id ∷ ids) at h i is = go (id.entry == k) refl (named_granted cat role es k e ids at (λ j d l. h (suc j) d (omega arith)) i) is
   where
-    rest : IsWithin (map (λ id. id.column) (filter (λ id. id.entry == k) ids)) (granted_columns cat role e.table)
-    rest = named_granted cat role es k e ids at (λ j d l. h (suc j) d (omega arith))
-
     first : id.entry ≡ k → id.column ≡ i → has (granted_columns cat role e.table) i ≡ true
     first here same =
         let it = h 0 id (omega arith) in
@@ -103,23 +100,23 @@ named_granted cat role es k e (id ∷ ids) at h i is = go (id.entry == k) refl i
         let from : 0 + id.column ≡ i = omega arith in
         subst (λ n. has (granted_columns cat role e.table) n ≡ true) from (granted_at cat role e.table 0 id.column e.table.columns it.column column_is held)
 
-    either : (a b : Bool) → (id.column == i) ≡ a → id.entry ≡ k → has (map (λ id. id.column) (filter (λ id. id.entry == k) ids)) i ≡ b → (a || b) ≡ true → has (granted_columns cat role e.table) i ≡ true
-    either true b same here r is = first here (eqb-true id.column i same)
-    either false b same here r is = rest i (r ∙ is)
+    either : (a b : Bool) → (id.column == i) ≡ a → id.entry ≡ k → has (map (λ id. id.column) (filter (λ id. id.entry == k) ids)) i ≡ b → (has (map (λ id. id.column) (filter (λ id. id.entry == k) ids)) i ≡ true → has (granted_columns cat role e.table) i ≡ true) → (a || b) ≡ true → has (granted_columns cat role e.table) i ≡ true
+    either true b same here r rest is = first here (eqb-true id.column i same)
+    either false b same here r rest is = rest (r ∙ is)
 
-    go : (b : Bool) → (id.entry == k) ≡ b → has (map (λ id. id.column) (cond b (id ∷ filter (λ id. id.entry == k) ids) (filter (λ id. id.entry == k) ids))) i ≡ true → has (granted_columns cat role e.table) i ≡ true
-    go true here is = either (id.column == i) _ refl (eqb-true id.entry k here) refl is
-    go false here is = rest i is
+    go : (b : Bool) → (id.entry == k) ≡ b → (has (map (λ id. id.column) (filter (λ id. id.entry == k) ids)) i ≡ true → has (granted_columns cat role e.table) i ≡ true) → has (map (λ id. id.column) (cond b (id ∷ filter (λ id. id.entry == k) ids) (filter (λ id. id.entry == k) ids))) i ≡ true → has (granted_columns cat role e.table) i ≡ true
+    go true here rest is = either (id.column == i) _ refl (eqb-true id.entry k here) refl rest is
+    go false here rest is = rest is
 
 -- ---- the tables of a bound query
 
 found_in : (name : Name) (ts : List Table) (t : Table) → find (λ t. bytes_eq name t.name) ts ≡ Some t → Contains ts t
 found_in name [] t e = absurd (cc)
-found_in name (x ∷ ts) t e = go (bytes_eq name x.name) e
+found_in name (x ∷ ts) t e = go (bytes_eq name x.name) (found_in name ts t) e
   where
-    go : (b : Bool) → cond b (Some x) (find (λ t. bytes_eq name t.name) ts) ≡ Some t → Contains (x ∷ ts) t
-    go true e = (0, omega arith, some_is x t e)
-    go false e = let it = found_in name ts t e in (suc it.0, omega (arith, it.1), it.2)
+    go : (b : Bool) → (find (λ t. bytes_eq name t.name) ts ≡ Some t → Contains ts t) → cond b (Some x) (find (λ t. bytes_eq name t.name) ts) ≡ Some t → Contains (x ∷ ts) t
+    go true rest e = (0, omega arith, some_is x t e)
+    go false rest e = let it = rest e in (suc it.0, omega (arith, it.1), it.2)
 
 table_of : (cat : Catalog) (es : List Entry) (k : ℕ) (e : Entry) → AreTables cat es → slice_get es k ≡ Some e → table_named e.table.name cat ≡ Some e.table
 table_of cat [] k e h at = absurd (cc)
