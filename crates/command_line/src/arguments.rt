@@ -1,15 +1,18 @@
 //! The arguments of a command line.
+ghost use Rattle.std.specs.Prelude.{◌≡◌, IfOk, Some, false, map, option_map};
+ghost use Rattle.std.specs.List.{list_any};
+ghost use Rattle.clap.specs.Words.{found_of, rows_of, subcommand_of, subcommand_rows_of};
+ghost use Rattle.command_line.specs.Program.{program};
+ghost use Rattle.command_line.specs.Requests.{asked, asked_of, is_input, is_set, path_of};
+ghost use Rattle.command_line.specs.Requests.{query_arguments, query_text, reads_input_twice};
+ghost use Rattle.command_line.specs.Requests.{session_arguments, verify_arguments};
+ghost use Rattle.command_line.specs.View.{audit_of, query_of, request_of, session_of, text_of};
 
 use crate::error::CommandLineError;
+use crate::program::command;
 use clap::error::ErrorKind;
-use clap::{Arg, ArgAction, ArgMatches, Command};
-use std::alloc::{AllocError, Global};
-
-/// The version of the program.
-const VERSION: &str = "0.1.0";
-
-const EXAMPLE: &str =
-    "Example, at the top of the repository:\n  rowplan query --schema examples/sales/schema.sql --dir examples/sales --role alice 'SELECT count(*) AS deals FROM deal'\n\nExit status: 0 answer, plan or whole script, 2 command line, 3 refused text, plan or line, 4 denial, 5 fault, 6 schema, rows or unknown role, 7 memory, 8 input or output";
+use clap::{ArgMatches, Command};
+use std::alloc::Global;
 
 /// The source of the text of a query.
 #[derive(Clone, Copy)]
@@ -76,173 +79,46 @@ pub enum Request<'a> {
     Codes,
 }
 
-fn option<'a>(alloc: Global, name: &'a str, value: &'a str, help: &'a str) -> Arg<'a> {
-    Arg::new(alloc, name)
-        .long(name)
-        .value_name(value)
-        .help(help)
-        .action(ArgAction::Set)
+// True where the flag is there.
+fn is_set(found: &ArgMatches<'_>, name: &str) -> bool
+    ensures { result ≡ is_set name.now (rows_of (found_of found.now)) }
+{
+    found.get_one::<bool>(name).unwrap_or(false)
 }
 
-fn file_word<'a>(alloc: Global) -> Result<Arg<'a>, AllocError> {
-    let help = "A file with the query in place of TEXT, or - for standard input";
-    option(alloc, "file", "FILE", help).conflicts_with("TEXT")
-}
-
-fn text_word<'a>(alloc: Global) -> Result<Arg<'a>, AllocError> {
-    Arg::new(alloc, "TEXT")
-        .help("The query; after -- where it starts with a minus")
-        .action(ArgAction::Set)
-        .required_unless_present("file")
-}
-
-// The arguments that the query's options and its text are read from.
-fn query_words<'a>(alloc: Global) -> Result<Vec<Arg<'a>>, AllocError> {
-    let file = file_word(alloc)?;
-    let text = text_word(alloc)?;
-    let schema = "The schema text, or - for standard input";
-    let dir = "The folder with a file T.csv for each table T";
-    let words = [
-        option(alloc, "schema", "FILE", schema).required(true),
-        option(alloc, "dir", "DIR", dir).required(true),
-        option(alloc, "role", "NAME", "The role that asks").required(true),
-        file,
-        explain_refusal(alloc),
-        text,
-    ];
-    Ok(Vec::from_array(alloc, words)?)
-}
-
-// The arguments that the options of an audit and its text are read from.
-fn verify_words<'a>(alloc: Global) -> Result<Vec<Arg<'a>>, AllocError> {
-    let file = file_word(alloc)?;
-    let text = text_word(alloc)?;
-    let schema = "The schema text, or - for standard input";
-    let plan = "The text of the plan, or - for standard input";
-    let words = [
-        option(alloc, "schema", "FILE", schema).required(true),
-        option(alloc, "role", "NAME", "The role that asks").required(true),
-        option(alloc, "plan", "FILE", plan).required(true),
-        file,
-        text,
-    ];
-    Ok(Vec::from_array(alloc, words)?)
-}
-
-// The arguments that the options of a script of sessions are read from.
-fn session_words<'a>(alloc: Global) -> Result<Vec<Arg<'a>>, AllocError> {
-    let schema = "The schema text, or - for standard input";
-    let dir = "The folder with a file T.csv for each table T";
-    let frames = "Writes before each reply a line with its number of bytes";
-    let script =
-        "A file with an event a line, or - for standard input, of which each line is answered before the next is read";
-    let words = [
-        option(alloc, "schema", "FILE", schema).required(true),
-        option(alloc, "dir", "DIR", dir).required(true),
-        Arg::new(alloc, "frames")
-            .long("frames")
-            .help(frames)
-            .action(ArgAction::SetTrue),
-        Arg::new(alloc, "SCRIPT")
-            .help(script)
-            .action(ArgAction::Set)
-            .required(true),
-    ];
-    Ok(Vec::from_array(alloc, words)?)
-}
-
-fn explain_refusal<'a>(alloc: Global) -> Arg<'a> {
-    Arg::new(alloc, "explain-refusal")
-        .long("explain-refusal")
-        .help(
-            "Says on standard error what a refusal or a denial means, and where it is in the text",
-        )
-        .action(ArgAction::SetTrue)
-}
-
-fn query_command<'a>(alloc: Global) -> Result<Command<'a>, AllocError> {
-    let words = query_words(alloc)?;
-    Command::new(alloc, "query")
-        .about("Writes the reply to a role's query as comma-separated text")
-        .after_help(EXAMPLE)
-        .args(words)
-}
-
-fn explain_command<'a>(alloc: Global) -> Result<Command<'a>, AllocError> {
-    let words = query_words(alloc)?;
-    Command::new(alloc, "explain")
-        .about("Writes the plan by which a role's query is answered")
-        .args(words)
-}
-
-fn verify_command<'a>(alloc: Global) -> Result<Command<'a>, AllocError> {
-    let words = verify_words(alloc)?;
-    Command::new(alloc, "verify")
-        .about("Says if a plan of a role's query is accepted, or which line of it is not")
-        .args(words)
-}
-
-fn session_command<'a>(alloc: Global) -> Result<Command<'a>, AllocError> {
-    let words = session_words(alloc)?;
-    Command::new(alloc, "session")
-        .about("Writes the replies to the events of a script of sessions")
-        .args(words)
-}
-
-fn command<'a>(alloc: Global) -> Result<Command<'a>, AllocError> {
-    let query = query_command(alloc)?;
-    let explain = explain_command(alloc)?;
-    let verify = verify_command(alloc)?;
-    let session = session_command(alloc)?;
-    let codes = "Lists the codes of refusals and faults with their meaning";
-    let program = Command::new(alloc, "rowplan")
-        .version(VERSION)
-        .about("Queries over tables with row security")
-        .subcommand_required(true)
-        .after_help(EXAMPLE)
-        .subcommand(query)?
-        .subcommand(explain)?
-        .subcommand(verify)?
-        .subcommand(session)?;
-    program.subcommand(Command::new(alloc, "codes").about(codes))
-}
-
-// The query's text or its file, of which one is there, or memory ran out.
-fn query_text<'a>(found: &ArgMatches<'a>) -> Option<QueryText<'a>> {
+// The query's file, else its text.
+fn query_text<'a>(found: &ArgMatches<'a>) -> Option<QueryText<'a>>
+    ensures { option_map text_of result ≡ query_text (rows_of (found_of found.now)) }
+{
     match found.get_str("file") {
         Some(path) => Some(QueryText::File(path)),
-        None => match found.get_str("TEXT") {
-            Some(text) => Some(QueryText::Given(text)),
-            None => None,
-        },
+        None => Some(QueryText::Given(found.get_str("TEXT")?)),
     }
 }
 
-// The required arguments of a query, or memory ran out.
-fn query_arguments<'a>(found: &ArgMatches<'a>) -> Option<QueryArguments<'a>> {
-    let (Some(schema), Some(dir)) = (found.get_str("schema"), found.get_str("dir")) else {
-        return None;
-    };
-    let (Some(role), Some(text)) = (found.get_str("role"), query_text(found)) else {
-        return None;
-    };
+fn query_arguments<'a>(found: &ArgMatches<'a>) -> Option<QueryArguments<'a>>
+    ensures { option_map query_of result ≡ query_arguments (rows_of (found_of found.now)) }
+{
+    let schema = found.get_str("schema")?;
+    let dir = found.get_str("dir")?;
+    let role = found.get_str("role")?;
+    let text = query_text(found)?;
     Some(QueryArguments {
         schema,
         dir,
         role,
         text,
-        explain_refusal: found.get_flag("explain-refusal"),
+        explain_refusal: is_set(found, "explain-refusal"),
     })
 }
 
-// The required arguments of an audit, or memory ran out.
-fn verify_arguments<'a>(found: &ArgMatches<'a>) -> Option<VerifyArguments<'a>> {
-    let (Some(schema), Some(plan)) = (found.get_str("schema"), found.get_str("plan")) else {
-        return None;
-    };
-    let (Some(role), Some(text)) = (found.get_str("role"), query_text(found)) else {
-        return None;
-    };
+fn verify_arguments<'a>(found: &ArgMatches<'a>) -> Option<VerifyArguments<'a>>
+    ensures { option_map audit_of result ≡ verify_arguments (rows_of (found_of found.now)) }
+{
+    let schema = found.get_str("schema")?;
+    let role = found.get_str("role")?;
+    let plan = found.get_str("plan")?;
+    let text = query_text(found)?;
     Some(VerifyArguments {
         schema,
         role,
@@ -251,74 +127,72 @@ fn verify_arguments<'a>(found: &ArgMatches<'a>) -> Option<VerifyArguments<'a>> {
     })
 }
 
-// The required arguments of a script, or memory ran out.
-fn session_arguments<'a>(found: &ArgMatches<'a>) -> Option<SessionArguments<'a>> {
-    let (Some(schema), Some(dir)) = (found.get_str("schema"), found.get_str("dir")) else {
-        return None;
-    };
-    let Some(script) = found.get_str("SCRIPT") else {
-        return None;
-    };
+fn session_arguments<'a>(found: &ArgMatches<'a>) -> Option<SessionArguments<'a>>
+    ensures { option_map session_of result ≡ session_arguments (rows_of (found_of found.now)) }
+{
+    let schema = found.get_str("schema")?;
+    let dir = found.get_str("dir")?;
+    let script = found.get_str("SCRIPT")?;
     Some(SessionArguments {
         schema,
         dir,
         script,
-        frames: found.get_flag("frames"),
+        frames: is_set(found, "frames"),
     })
 }
 
+// The request of a subcommand, if nothing that it requires is missing.
+fn request_of<'a>(name: &str, found: &ArgMatches<'a>) -> Option<Request<'a>>
+    ensures { option_map request_of result ≡ asked_of name.now (rows_of (found_of found.now)) }
+{
+    match name {
+        "query" => Some(Request::Query(query_arguments(found)?)),
+        "explain" => Some(Request::Explain(query_arguments(found)?)),
+        "verify" => Some(Request::Verify(verify_arguments(found)?)),
+        "session" => Some(Request::Session(session_arguments(found)?)),
+        "codes" => Some(Request::Codes),
+        _ => None,
+    }
+}
+
+// The request of the subcommand that was met.
+fn asked<'a>(matches: &ArgMatches<'a>) -> Option<Request<'a>>
+    ensures { option_map request_of result ≡ asked (subcommand_rows_of matches.now) }
+{
+    let (name, found) = matches.subcommand()?;
+    request_of(name, found)
+}
+
+fn is_input(path: &str) -> bool
+    ensures { result ≡ is_input path.now }
+{
+    path == "-"
+}
+
 // True where the query is read from standard input.
-fn is_input(text: QueryText<'_>) -> bool {
+fn is_text_input(text: QueryText<'_>) -> bool
+    ensures { result ≡ list_any is_input (path_of (text_of text.entry)) }
+{
     match text {
-        QueryText::File(path) => path == "-",
+        QueryText::File(path) => is_input(path),
         QueryText::Given(_) => false,
     }
 }
 
 // True where the request would read standard input twice.
-fn is_input_twice(request: &Request<'_>) -> bool {
+fn is_input_twice(request: &Request<'_>) -> bool
+    ensures { result ≡ reads_input_twice (request_of request.now) }
+{
     match request {
-        Request::Query(query) | Request::Explain(query) => query.schema == "-"
-            && is_input(query.text),
+        Request::Query(query) | Request::Explain(query) => is_input(query.schema)
+            && is_text_input(query.text),
         Request::Verify(audit) => {
-            let schema = audit.schema == "-";
-            let plan = audit.plan == "-";
-            (schema && plan) || ((schema || plan) && is_input(audit.text))
+            let schema = is_input(audit.schema);
+            let plan = is_input(audit.plan);
+            (schema && plan) || ((schema || plan) && is_text_input(audit.text))
         }
-        Request::Session(script) => script.schema == "-" && script.script == "-",
+        Request::Session(script) => is_input(script.schema) && is_input(script.script),
         Request::Codes => false,
-    }
-}
-
-// The request of the words, or nothing where memory ran out.
-fn request_of<'a>(matches: &ArgMatches<'a>) -> Option<Request<'a>> {
-    if let Some(_) = matches.subcommand_matches("codes") {
-        return Some(Request::Codes);
-    }
-    if let Some(found) = matches.subcommand_matches("verify") {
-        return match verify_arguments(found) {
-            Some(arguments) => Some(Request::Verify(arguments)),
-            None => None,
-        };
-    }
-    if let Some(found) = matches.subcommand_matches("session") {
-        return match session_arguments(found) {
-            Some(arguments) => Some(Request::Session(arguments)),
-            None => None,
-        };
-    }
-    if let Some(found) = matches.subcommand_matches("explain") {
-        return match query_arguments(found) {
-            Some(arguments) => Some(Request::Explain(arguments)),
-            None => None,
-        };
-    }
-    match matches.subcommand_matches("query") {
-        Some(found) => match query_arguments(found) {
-            Some(arguments) => Some(Request::Query(arguments)),
-            None => None,
-        },
-        None => None,
     }
 }
 
@@ -326,7 +200,10 @@ fn request_of<'a>(matches: &ArgMatches<'a>) -> Option<Request<'a>> {
 fn accepted<'a>(
     command: &mut Command<'a>,
     request: Option<Request<'a>>,
-) -> Result<Request<'a>, CommandLineError> {
+) -> Result<Request<'a>, CommandLineError>
+    ensures same { IfOk result (λ r. request.entry ≡ Some r) }
+    ensures once { IfOk result (λ r. reads_input_twice (request_of r) ≡ false) }
+{
     let Some(request) = request else {
         return Err(CommandLineError::OutOfMemory);
     };
@@ -340,12 +217,18 @@ fn accepted<'a>(
     Ok(request)
 }
 
-/// Reads the words of a command line, of which the first is the program's name.
+/// Reads the words of a command line, of which the first is the program's name: at `Ok` the request
+/// is the one that they say, and it reads standard input at most once.
 pub fn read_arguments<'a>(
     alloc: Global,
     words: &'a [&'a str],
-) -> Result<Request<'a>, CommandLineError> {
+) -> Result<Request<'a>, CommandLineError>
+    ensures asked { IfOk result (λ request.
+        asked (subcommand_of program (map (λ w. w.now) words.entry.now))
+        ≡ Some (request_of request)) }
+    ensures once { IfOk result (λ request. reads_input_twice (request_of request) ≡ false) }
+{
     let mut command = command(alloc)?;
     let matches = command.try_get_matches_from_mut(words)?;
-    accepted(&mut command, request_of(&matches))
+    accepted(&mut command, asked(&matches))
 }

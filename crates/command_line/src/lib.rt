@@ -3,6 +3,7 @@
 
 mod arguments;
 mod error;
+mod program;
 
 pub use arguments::{
     QueryArguments, QueryText, Request, SessionArguments, VerifyArguments, read_arguments,

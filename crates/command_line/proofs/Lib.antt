@@ -1,0 +1,4 @@
+pub mod Commands
+pub mod Getters
+pub mod Reading
+mod WorkedLines

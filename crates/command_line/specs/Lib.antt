@@ -1,0 +1,4 @@
+pub mod Building
+pub mod Program
+pub mod Requests
+pub mod View

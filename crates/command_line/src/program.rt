@@ -1,0 +1,180 @@
+//! The program's command, with its subcommands, their arguments and the help.
+ghost use Rattle.std.specs.Prelude.{◌≡◌, IfOk, codes, fold};
+ghost use Rattle.clap.specs.Words.{IsPlainArg, app_of, with_rule};
+ghost use Rattle.command_line.specs.Building.{HasRule, HasShape, IsLocal};
+ghost use Rattle.command_line.specs.Program.{alternative, flag, option, program, word};
+ghost use Rattle.command_line.specs.Program.{query_rules, required_option, required_word};
+ghost use Rattle.command_line.specs.Program.{codes_shape, explain_shape, query_shape};
+ghost use Rattle.command_line.specs.Program.{session_shape, verify_shape};
+
+use clap::{Arg, ArgAction, Command};
+use std::alloc::{AllocError, Global};
+
+/// The version of the program.
+const VERSION: &str = "0.1.0";
+
+const EXAMPLE: &str =
+    "Example, at the top of the repository:\n  rowplan query --schema examples/sales/schema.sql --dir examples/sales --role alice 'SELECT count(*) AS deals FROM deal'\n\nExit status: 0 answer, plan or whole script, 2 command line, 3 refused text, plan or line, 4 denial, 5 fault, 6 schema, rows or unknown role, 7 memory, 8 input or output";
+
+fn option<'a>(alloc: Global, name: &'a str, value: &'a str, help: &'a str) -> Arg<'a>
+    ensures rule { HasRule result (option name.entry.now) }
+    ensures plain { IsPlainArg result }
+{
+    Arg::new(alloc, name)
+        .long(name)
+        .value_name(value)
+        .help(help)
+        .action(ArgAction::Set)
+}
+
+fn flag<'a>(alloc: Global, name: &'a str, help: &'a str) -> Arg<'a>
+    ensures { HasRule result (flag name.entry.now) }
+{
+    Arg::new(alloc, name)
+        .long(name)
+        .help(help)
+        .action(ArgAction::SetTrue)
+}
+
+fn word<'a>(alloc: Global, name: &'a str, help: &'a str) -> Arg<'a>
+    ensures rule { HasRule result (word name.entry.now) }
+    ensures plain { IsPlainArg result }
+{
+    Arg::new(alloc, name).help(help).action(ArgAction::Set)
+}
+
+fn file_option<'a>(alloc: Global) -> Result<Arg<'a>, AllocError>
+    ensures { IfOk result (λ a. HasRule a (alternative (option (codes "file")))) }
+{
+    let help = "A file with the query in place of TEXT, or - for standard input";
+    option(alloc, "file", "FILE", help).conflicts_with("TEXT")
+}
+
+fn text_word<'a>(alloc: Global) -> Result<Arg<'a>, AllocError>
+    ensures { IfOk result (λ a. HasRule a (alternative (word (codes "TEXT")))) }
+{
+    let help = "The query; after -- where it starts with a minus";
+    word(alloc, "TEXT", help).required_unless_present("file")
+}
+
+fn schema_option<'a>(alloc: Global) -> Arg<'a>
+    ensures { HasRule result (required_option (codes "schema")) }
+{
+    let help = "The schema text, or - for standard input";
+    option(alloc, "schema", "FILE", help).required(true)
+}
+
+fn dir_option<'a>(alloc: Global) -> Arg<'a>
+    ensures { HasRule result (required_option (codes "dir")) }
+{
+    let help = "The folder with a file T.csv for each table T";
+    option(alloc, "dir", "DIR", help).required(true)
+}
+
+fn role_option<'a>(alloc: Global) -> Arg<'a>
+    ensures { HasRule result (required_option (codes "role")) }
+{
+    option(alloc, "role", "NAME", "The role that asks").required(true)
+}
+
+fn plan_option<'a>(alloc: Global) -> Arg<'a>
+    ensures { HasRule result (required_option (codes "plan")) }
+{
+    let help = "The text of the plan, or - for standard input";
+    option(alloc, "plan", "FILE", help).required(true)
+}
+
+fn explain_refusal<'a>(alloc: Global) -> Arg<'a>
+    ensures { HasRule result (flag (codes "explain-refusal")) }
+{
+    let help =
+        "Says on standard error what a refusal or a denial means, and where it is in the text";
+    flag(alloc, "explain-refusal", help)
+}
+
+fn script_word<'a>(alloc: Global) -> Arg<'a>
+    ensures { HasRule result (required_word (codes "SCRIPT")) }
+{
+    let help =
+        "A file with an event a line, or - for standard input, of which each line is answered before the next is read";
+    word(alloc, "SCRIPT", help).required(true)
+}
+
+// The command with a query's options and its text.
+fn with_query_words<'a>(alloc: Global, command: Command<'a>) -> Result<Command<'a>, AllocError>
+    ensures rules { IfOk result (λ c. app_of c
+        ≡ fold with_rule (app_of command.entry) query_rules) }
+    ensures local { IfOk result (λ c. IsLocal command.entry → IsLocal c) }
+{
+    command
+        .arg(schema_option(alloc))?
+        .arg(dir_option(alloc))?
+        .arg(role_option(alloc))?
+        .arg(file_option(alloc)?)?
+        .arg(explain_refusal(alloc))?
+        .arg(text_word(alloc)?)
+}
+
+fn query_command<'a>(alloc: Global) -> Result<Command<'a>, AllocError>
+    ensures { IfOk result (λ c. HasShape c query_shape) }
+{
+    let command = Command::new(alloc, "query")
+        .about("Writes the reply to a role's query as comma-separated text")
+        .after_help(EXAMPLE);
+    with_query_words(alloc, command)
+}
+
+fn explain_command<'a>(alloc: Global) -> Result<Command<'a>, AllocError>
+    ensures { IfOk result (λ c. HasShape c explain_shape) }
+{
+    let command = Command::new(alloc, "explain").about(
+        "Writes the plan by which a role's query is answered",
+    );
+    with_query_words(alloc, command)
+}
+
+fn verify_command<'a>(alloc: Global) -> Result<Command<'a>, AllocError>
+    ensures { IfOk result (λ c. HasShape c verify_shape) }
+{
+    Command::new(alloc, "verify")
+        .about("Says if a plan of a role's query is accepted, or which line of it is not")
+        .arg(schema_option(alloc))?
+        .arg(role_option(alloc))?
+        .arg(plan_option(alloc))?
+        .arg(file_option(alloc)?)?
+        .arg(text_word(alloc)?)
+}
+
+fn session_command<'a>(alloc: Global) -> Result<Command<'a>, AllocError>
+    ensures { IfOk result (λ c. HasShape c session_shape) }
+{
+    let frames = "Writes before each reply a line with its number of bytes";
+    Command::new(alloc, "session")
+        .about("Writes the replies to the events of a script of sessions")
+        .arg(schema_option(alloc))?
+        .arg(dir_option(alloc))?
+        .arg(flag(alloc, "frames", frames))?
+        .arg(script_word(alloc))
+}
+
+fn codes_command<'a>(alloc: Global) -> Command<'a>
+    ensures { HasShape result codes_shape }
+{
+    Command::new(alloc, "codes").about("Lists the codes of refusals and faults with their meaning")
+}
+
+/// The program's command.
+pub fn command<'a>(alloc: Global) -> Result<Command<'a>, AllocError>
+    ensures { IfOk result (λ c. app_of c ≡ program) }
+{
+    Command::new(alloc, "rowplan")
+        .version(VERSION)
+        .about("Queries over tables with row security")
+        .subcommand_required(true)
+        .after_help(EXAMPLE)
+        .subcommand(query_command(alloc)?)?
+        .subcommand(explain_command(alloc)?)?
+        .subcommand(verify_command(alloc)?)?
+        .subcommand(session_command(alloc)?)?
+        .subcommand(codes_command(alloc))
+}
