@@ -1,4 +1,5 @@
 pub mod Admitted
+pub mod InOrder
 pub mod Outside
 pub mod Typed
 pub mod Values

@@ -3,7 +3,9 @@
 #![tactic(auto)]
 
 mod admitted;
+mod binding;
 mod values;
 
 pub use admitted::law_admitted;
+pub use binding::law_bound_in_order;
 pub use values::law_admitted_values;
