@@ -23,7 +23,8 @@ pub record Cells : Type 0 where
   pub column : ColumnId → Datum
   pub aggregate : ℕ → Datum
 
--- a row has no aggregates, and no expression that is evaluated on one has; so null never replaces one
+-- a row has no aggregates, and no expression that is evaluated on one has (query_laws::law_admitted); so null never
+-- replaces one
 abbrev pub no_aggregate : ℕ → Datum
 no_aggregate offset = null
 

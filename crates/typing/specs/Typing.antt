@@ -75,7 +75,7 @@ abbrev pub common_of_all : Option TypeOf → List Datum → Option TypeOf
 common_of_all known [] = known
 common_of_all known (d ∷ ds) = common_of_all (common_with known (type_of d)) ds
 
--- none for a column that is not there, as no column that was found is
+-- none for a column that is not there, as no column that was found is (query_laws::law_admitted)
 abbrev pub column_type : List Entry → ColumnId → TypeOf
 column_type entries id = option_and_then (λ e. option_map (λ c. c.data_type) (slice_get e.table.columns id.column)) (slice_get entries id.entry)
 

@@ -20,7 +20,8 @@ Row = List Datum
 abbrev pub row_at : List Row → ℕ → Row
 row_at rows number = slice_index_or rows number []
 
--- the value at an index, or null; a row of a table has a value for each column, so that no null stands for one that is missing
+-- the value at an index, or null; a row of a table has a value for each column (catalog_laws::law_well_formed_database), so
+-- that no null stands for one that is missing
 abbrev pub cell : Row → ℕ → Datum
 cell row index = slice_index_or row index null
 
