@@ -1,6 +1,6 @@
 -- Arguments and commands of clap as the descriptions of specs/Program.
-use Rattle.std.specs.Prelude.{◌≡◌, false}
-use Rattle.clap.specs.Words.{Rule, Shape, rule_of, shape_of}
+use Rattle.std.specs.Prelude.{◌≡◌, false, List, map}
+use Rattle.clap.specs.Words.{Rule, Shape, Text, rule_of, shape_of}
 use Rattle.clap.specs.declared.builder.Arg.{Arg}
 use Rattle.clap.specs.declared.builder.Command.{Command}
 use Rattle.clap.specs.declared.builder.Command.TheViews.{out-Command as fields_of}
@@ -15,3 +15,11 @@ IsLocal c = (fields_of c).has_globals ≡ false
 
 abbrev pub HasShape : Command → Shape → Type 0
 HasShape c s = (shape_of c ≡ s) × IsLocal c
+
+-- the ids of the arguments that may not be there beside it
+abbrev pub excluded_by : Arg → List Text
+excluded_by a = map (λ id. id.now) a.conflicts.items
+
+-- the ids of the arguments one of which takes its place, where it is required
+abbrev pub replaced_by : Arg → List Text
+replaced_by a = map (λ id. id.now) a.r_unless.items

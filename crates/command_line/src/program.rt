@@ -1,7 +1,7 @@
 //! The program's command, with its subcommands, their arguments and the help.
-ghost use Rattle.std.specs.Prelude.{◌≡◌, IfOk, codes, fold};
+ghost use Rattle.std.specs.Prelude.{◌≡◌, ◌∷◌, [], IfOk, codes, fold};
 ghost use Rattle.clap.specs.Words.{IsPlainArg, app_of, with_rule};
-ghost use Rattle.command_line.specs.Building.{HasRule, HasShape, IsLocal};
+ghost use Rattle.command_line.specs.Building.{HasRule, HasShape, IsLocal, excluded_by, replaced_by};
 ghost use Rattle.command_line.specs.Program.{alternative, flag, option, program, word};
 ghost use Rattle.command_line.specs.Program.{query_rules, required_option, required_word};
 ghost use Rattle.command_line.specs.Program.{codes_shape, explain_shape, query_shape};
@@ -44,14 +44,16 @@ fn word<'a>(alloc: Global, name: &'a str, help: &'a str) -> Arg<'a>
 }
 
 fn file_option<'a>(alloc: Global) -> Result<Arg<'a>, AllocError>
-    ensures { IfOk result (λ a. HasRule a (alternative (option (codes "file")))) }
+    ensures rule { IfOk result (λ a. HasRule a (alternative (option (codes "file")))) }
+    ensures excludes { IfOk result (λ a. excluded_by a ≡ codes "TEXT" ∷ []) }
 {
     let help = "A file with the query in place of TEXT, or - for standard input";
     option(alloc, "file", "FILE", help).conflicts_with("TEXT")
 }
 
 fn text_word<'a>(alloc: Global) -> Result<Arg<'a>, AllocError>
-    ensures { IfOk result (λ a. HasRule a (alternative (word (codes "TEXT")))) }
+    ensures rule { IfOk result (λ a. HasRule a (alternative (word (codes "TEXT")))) }
+    ensures replaced { IfOk result (λ a. replaced_by a ≡ codes "file" ∷ []) }
 {
     let help = "The query; after -- where it starts with a minus";
     word(alloc, "TEXT", help).required_unless_present("file")

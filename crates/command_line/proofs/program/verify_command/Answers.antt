@@ -11,11 +11,11 @@ returns c =
     let schema = with_argument _ _ _ _ c.in_ok-arg.ensures c.schema_option.ensures _ start in
     let role = with_argument _ _ _ _ c.in_ok-arg-2.ensures c.role_option.ensures _ schema in
     let plan = with_argument _ _ _ _ c.in_ok-arg-3.ensures c.plan_option.ensures _ role in
-    let file = with_argument _ _ _ _ c.in_ok-arg-4.ensures c.in_ok-file_option.ensures _ plan in
+    let file = with_argument _ _ _ _ c.in_ok-arg-4.ensures c.in_ok-file_option.ensures.rule _ plan in
     IfOk-weaker c.arg-5.result _ _ (λ new h. (
-      ap (λ (a : App). a.top) (with_argument _ new _ _ h c.in_ok-text_word.ensures _ file),
-      stays_local _ new _ _ h c.in_ok-text_word.ensures
-          (stays_local _ _ _ _ c.in_ok-arg-4.ensures c.in_ok-file_option.ensures
+      ap (λ (a : App). a.top) (with_argument _ new _ _ h c.in_ok-text_word.ensures.rule _ file),
+      stays_local _ new _ _ h c.in_ok-text_word.ensures.rule
+          (stays_local _ _ _ _ c.in_ok-arg-4.ensures c.in_ok-file_option.ensures.rule
           (stays_local _ _ _ _ c.in_ok-arg-3.ensures c.plan_option.ensures
           (stays_local _ _ _ _ c.in_ok-arg-2.ensures c.role_option.ensures
           (stays_local _ _ _ _ c.in_ok-arg.ensures c.schema_option.ensures (ap (λ f. f.has_globals) c.about.ensures ∙ c.new.ensures.local))))),
