@@ -1,8 +1,7 @@
 -- The operators of values.
 use Rattle.std.specs.Prelude.{Bool, true, false, List, [], ◌∷◌, Result}
-use Rattle.std.specs.Ordering.{is_eq, is_ne, is_lt, is_le, is_gt, is_ge}
 use Rattle.value.specs.Datum.{Datum, null, int, text, bool}
-use Rattle.value.specs.Orders.{compared, equal_of}
+use Rattle.value.specs.Orders.{compared, equal_of, test_of}
 use Rattle.value.specs.Truths.{least, greatest, negated}
 use Rattle.value.specs.Exact.{with_numbers, sum_of, difference_of, product_of, quotient_of, remainder_of}
 use Rattle.value.specs.declared.order.Truth.{Truth}
@@ -11,7 +10,7 @@ use Rattle.value.specs.declared.types.FaultKind.{FaultKind}
 use Rattle.value.specs.declared.operators.Arithmetic.{Arithmetic}
 use Rattle.value.specs.declared.operators.Arithmetic.TheVariants.{Add, Subtract, Multiply, Divide, Remainder}
 use Rattle.value.specs.declared.operators.Comparison.{Comparison}
-use Rattle.value.specs.declared.operators.Comparison.TheVariants.{Equal, NotEqual, Less, LessOrEqual, Greater, GreaterOrEqual}
+use Rattle.value.specs.declared.operators.Comparison.TheVariants.{LessOrEqual, GreaterOrEqual}
 
 abbrev pub arithmetic_of : Arithmetic → Datum → Datum → Result Datum FaultKind
 arithmetic_of Add = with_numbers sum_of
@@ -21,12 +20,7 @@ arithmetic_of Divide = with_numbers quotient_of
 arithmetic_of Remainder = with_numbers remainder_of
 
 abbrev pub comparison_of : Comparison → Datum → Datum → Truth
-comparison_of Equal = compared is_eq
-comparison_of NotEqual = compared is_ne
-comparison_of Less = compared is_lt
-comparison_of LessOrEqual = compared is_le
-comparison_of Greater = compared is_gt
-comparison_of GreaterOrEqual = compared is_ge
+comparison_of operator = compared (test_of operator)
 
 -- x >= low AND x <= high
 abbrev pub between_of : Datum → Datum → Datum → Truth

@@ -1,8 +1,10 @@
 -- The order of values, ascending with nulls last, and comparison in three-valued logic.
 use Rattle.std.specs.Prelude.{ℕ, ℤ, pos, Bool, true, false, List, []}
 use Rattle.std.specs.declared.cmp.Ordering.{Ordering}
-use Rattle.std.specs.Ordering.{nat_cmp, int_cmp, on, then_cmp, is_eq, is_lt}
+use Rattle.std.specs.Ordering.{nat_cmp, int_cmp, on, then_cmp, is_eq, is_ne, is_lt, is_le, is_gt, is_ge}
 use Rattle.std.specs.Cmp.Lexicographic.{slice_cmp}
+use Rattle.value.specs.declared.operators.Comparison.{Comparison}
+use Rattle.value.specs.declared.operators.Comparison.TheVariants.{Equal, NotEqual, Less, LessOrEqual, Greater, GreaterOrEqual}
 use Rattle.value.specs.declared.order.Truth.{Truth}
 use Rattle.value.specs.declared.order.Truth.TheVariants.{False, Unknown, True}
 use Rattle.value.specs.Datum.{Datum, null, int, text, bool, Row}
@@ -59,3 +61,17 @@ abbrev pub is_true : Truth → Bool
 is_true True = true
 is_true False = false
 is_true Unknown = false
+
+abbrev pub is_unknown : Truth → Bool
+is_unknown True = false
+is_unknown False = false
+is_unknown Unknown = true
+
+-- the orders for which a comparison holds
+abbrev pub test_of : Comparison → Ordering → Bool
+test_of Equal = is_eq
+test_of NotEqual = is_ne
+test_of Less = is_lt
+test_of LessOrEqual = is_le
+test_of Greater = is_gt
+test_of GreaterOrEqual = is_ge
