@@ -1,3 +1,4 @@
 pub mod Cases
+pub mod Each
 pub mod Lighter
 pub mod Lists
