@@ -1,8 +1,8 @@
 -- A named condition is bound as the condition.
-use Rattle.std.proofs.Common.{◌≡◌, List, [], ◌∷◌, ◌++◌, append_assoc, append-nil, Result, Ok, refl, sym, ap, ◌∙◌}
+use Rattle.std.proofs.Common.{◌≡◌, List, [], ◌∷◌, ◌++◌, Result, Ok, refl, ap, ap₂, ◌∙◌}
 use Rattle.std.specs.List.{All}
 use Rattle.std.proofs.lemmas.List.Elements.{All-nil, All-cons, All-head, All-tail}
-use Rattle.memory.specs.Results.{and_then}
+use Rattle.memory.specs.Results.{and_then, first_then}
 use Rattle.expr.specs.Bound as bound
 use Rattle.expr.specs.Bound.{BoundExpr, BoundExprs, BoundArms, BoundOtherwise, bound_exprs_of, bound_arms_of}
 use Rattle.expr.specs.declared.bound.ColumnId.{ColumnId}
@@ -44,12 +44,6 @@ same_arms (bound.one_arm when result as_) = ap (bound.one_arm when result) (same
 
 -- ---- the law, by the forms of a condition
 
-abbrev Members : Type 0
-Members = Result (List BoundExpr) BindError
-
-abbrev Arms : Type 0
-Arms = Result (List (BoundExpr × BoundExpr)) BindError
-
 abbrev Whole : Type 0
 Whole = Result BoundExpr BindError
 
@@ -75,31 +69,28 @@ module _ (entries : List Entry) where
     back (bound.In negated offset values e) h = rw (back e h) refl
     back (bound.IsNull negated offset e) h = rw (back e h) refl
     back (bound.Not offset e) h = rw (back e h) refl
-    back (bound.And offset es) h = ap (conjunction offset) (members_back [] es h) ∙ ap (λ xs. let r : Whole = Ok (bound.And offset xs) in r) (same_members es)
-    back (bound.Or offset es) h = ap (disjunction offset) (members_back [] es h) ∙ ap (λ xs. let r : Whole = Ok (bound.Or offset xs) in r) (same_members es)
+    back (bound.And offset es) h = ap (conjunction offset) (members_back es h) ∙ ap (λ xs. let r : Whole = Ok (bound.And offset xs) in r) (same_members es)
+    back (bound.Or offset es) h = ap (disjunction offset) (members_back es h) ∙ ap (λ xs. let r : Whole = Ok (bound.Or offset xs) in r) (same_members es)
     back (bound.Cast offset to e) h = rw (back e h) refl
     back (bound.Case offset as_ o) h =
-        ap (λ r. choice offset r (bound_otherwise entries (everywhere entries) (named_otherwise entries o))) (arms_back [] as_ (of_first (IsFound entries) (arms_columns as_) (otherwise_columns o) h))
+        ap (λ r. choice offset r (bound_otherwise entries (everywhere entries) (named_otherwise entries o))) (arms_back as_ (of_first (IsFound entries) (arms_columns as_) (otherwise_columns o) h))
         ∙ ap (λ r. choice offset (Ok (pairs_of as_)) r) (otherwise_back o (of_second (IsFound entries) (arms_columns as_) (otherwise_columns o) h))
         ∙ ap (λ xs. let r : Whole = Ok (bound.Case offset xs o) in r) (same_arms as_)
     back (bound.CountStar offset) h = refl
     back (bound.Call f offset e) h = rw (back e h) refl
 
-    members_back : (known : List BoundExpr) (es : BoundExprs) → Found (all_columns es) → bound_members entries (everywhere entries) known (named_members entries es) ≡ Ok (known ++ members_of es)
-    members_back known bound.no_expr h = ap (λ l. let r : Members = Ok l in r) (sym (append-nil known))
-    members_back known (bound.one_expr e es) h =
-        ap (λ r. and_then r (λ x. bound_members entries (everywhere entries) (known ++ x ∷ []) (named_members entries es))) (back e (of_first (IsFound entries) (columns e) (all_columns es) h))
-        ∙ members_back (known ++ e ∷ []) es (of_second (IsFound entries) (columns e) (all_columns es) h)
-        ∙ ap (λ l. let r : Members = Ok l in r) (append_assoc known (e ∷ []) (members_of es))
+    members_back : (es : BoundExprs) → Found (all_columns es) → bound_members entries (everywhere entries) (named_members entries es) ≡ Ok (members_of es)
+    members_back bound.no_expr h = refl
+    members_back (bound.one_expr e es) h =
+        ap₂ first_then (back e (of_first (IsFound entries) (columns e) (all_columns es) h)) (members_back es (of_second (IsFound entries) (columns e) (all_columns es) h))
 
-    arms_back : (known : List (BoundExpr × BoundExpr)) (as_ : BoundArms) → Found (arms_columns as_) → bound_arms entries (everywhere entries) known (named_arms entries as_) ≡ Ok (known ++ pairs_of as_)
-    arms_back known bound.no_arm h = ap (λ l. let r : Arms = Ok l in r) (sym (append-nil known))
-    arms_back known (bound.one_arm when result as_) h =
+    arms_back : (as_ : BoundArms) → Found (arms_columns as_) → bound_arms entries (everywhere entries) (named_arms entries as_) ≡ Ok (pairs_of as_)
+    arms_back bound.no_arm h = refl
+    arms_back (bound.one_arm when result as_) h =
         let rest = of_second (IsFound entries) (columns when) (columns result ++ arms_columns as_) h in
-        ap (λ r. and_then (pair r (again result)) (λ p. bound_arms entries (everywhere entries) (known ++ p ∷ []) (named_arms entries as_))) (back when (of_first (IsFound entries) (columns when) (columns result ++ arms_columns as_) h))
-        ∙ ap (λ r. and_then (pair (Ok when) r) (λ p. bound_arms entries (everywhere entries) (known ++ p ∷ []) (named_arms entries as_))) (back result (of_first (IsFound entries) (columns result) (arms_columns as_) rest))
-        ∙ arms_back (known ++ (when, result) ∷ []) as_ (of_second (IsFound entries) (columns result) (arms_columns as_) rest)
-        ∙ ap (λ l. let r : Arms = Ok l in r) (append_assoc known ((when, result) ∷ []) (pairs_of as_))
+        ap₂ first_then
+        (ap₂ pair (back when (of_first (IsFound entries) (columns when) (columns result ++ arms_columns as_) h)) (back result (of_first (IsFound entries) (columns result) (arms_columns as_) rest)))
+        (arms_back as_ (of_second (IsFound entries) (columns result) (arms_columns as_) rest))
 
     otherwise_back : (o : BoundOtherwise) → Found (otherwise_columns o) → bound_otherwise entries (everywhere entries) (named_otherwise entries o) ≡ Ok o
     otherwise_back bound.Nothing h = refl

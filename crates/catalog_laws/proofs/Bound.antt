@@ -1,6 +1,6 @@
 -- The columns of a bound expression are those that its names resolve to.
-use Rattle.std.proofs.Common.{◌≡◌, List, [], ◌∷◌, ◌++◌, Result, Ok, Err, refl, subst}
-use Rattle.std.proofs.lemmas.List.Elements.{All-append, All-cons, All-head, All-nil, All-push, All-tail}
+use Rattle.std.proofs.Common.{◌≡◌, List, [], ◌∷◌, ◌++◌, Result, Ok, Err, refl, ap, subst, ◌∙◌}
+use Rattle.std.proofs.lemmas.List.Elements.{All-append, All-cons, All-head, All-nil, All-tail}
 use Rattle.std.specs.List.{All}
 use Rattle.memory.proofs.Cases.{ok_is}
 use Rattle.memory.specs.Results.{and_then}
@@ -14,6 +14,7 @@ use Rattle.scope.specs.declared.lookup.Scope.{Scope}
 use Rattle.scope.specs.Entry.{Entry}
 use Rattle.scope.specs.Lookup.{find_column}
 use Rattle.scope.specs.BoundExprs.{bound_arms, bound_expr, bound_members, bound_otherwise, pair}
+use Rattle.scope.proofs.Found.{first_given, pair_given}
 
 -- what is given at the end was given on the way
 pub given : {X Y E : Type 0} (f : X → Result Y E) (y : Y) (r : Result X E) → and_then r f ≡ Ok y → (x : X) × (r ≡ Ok x) × (f x ≡ Ok y)
@@ -64,30 +65,28 @@ module _ (P : ColumnId → Type 0) where
       each_found (ast.In negated n values e) = has_then (bound_expr entries scope e) (λ x. Ok (bound.In negated n values x)) (λ x is. has_ok (bound.In negated n values x) (each_found e x is))
       each_found (ast.IsNull negated n e) = has_then (bound_expr entries scope e) (λ x. Ok (bound.IsNull negated n x)) (λ x is. has_ok (bound.IsNull negated n x) (each_found e x is))
       each_found (ast.Not n e) = has_then (bound_expr entries scope e) (λ x. Ok (bound.Not n x)) (λ x is. has_ok (bound.Not n x) (each_found e x is))
-      each_found (ast.And n es) = has_then (bound_members entries scope [] es) _ (λ xs is. has_ok (bound.And n (bound_exprs_of xs)) (of_members xs (each_member [] es (All-nil (λ e. All P (columns e))) xs is)))
-      each_found (ast.Or n es) = has_then (bound_members entries scope [] es) _ (λ xs is. has_ok (bound.Or n (bound_exprs_of xs)) (of_members xs (each_member [] es (All-nil (λ e. All P (columns e))) xs is)))
+      each_found (ast.And n es) = has_then (bound_members entries scope es) _ (λ xs is. has_ok (bound.And n (bound_exprs_of xs)) (of_members xs (each_member es xs is)))
+      each_found (ast.Or n es) = has_then (bound_members entries scope es) _ (λ xs is. has_ok (bound.Or n (bound_exprs_of xs)) (of_members xs (each_member es xs is)))
       each_found (ast.Cast n to e) = has_then (bound_expr entries scope e) (λ x. Ok (bound.Cast n to x)) (λ x is. has_ok (bound.Cast n to x) (each_found e x is))
-      each_found (ast.Case n as_ o) = has_then (bound_arms entries scope [] as_) _ (λ xs is. has_then (bound_otherwise entries scope o) _
+      each_found (ast.Case n as_ o) = has_then (bound_arms entries scope as_) _ (λ xs is. has_then (bound_otherwise entries scope o) _
           (λ y at. has_ok (bound.Case n (bound_arms_of xs) y) (All-append P (arms_columns (bound_arms_of xs)) (otherwise_columns y)
-          (of_arms xs (each_arm [] as_ (All-nil (λ a. All P (columns a.0) × All P (columns a.1))) xs is)) (of_otherwise o y at))))
+          (of_arms xs (each_arm as_ xs is)) (of_otherwise o y at))))
       each_found (ast.CountStar n) = has_ok (bound.CountStar n) (All-nil P)
       each_found (ast.Call f n e) = has_then (bound_expr entries scope e) (λ x. Ok (bound.Call f n x)) (λ x is. has_ok (bound.Call f n x) (each_found e x is))
 
-      each_member : (known : List BoundExpr) (es : ast.Exprs) → Each known → (xs : List BoundExpr) → bound_members entries scope known es ≡ Ok xs → Each xs
-      each_member known ast.no_expr h xs e = subst Each (ok_is known xs e) h
-      each_member known (ast.one_expr e es) h xs is =
-          let step = given (λ x. bound_members entries scope (known ++ x ∷ []) es) xs (bound_expr entries scope e) is in
-          each_member (known ++ step.0 ∷ []) es (All-push (λ e. All P (columns e)) known step.0 h (each_found e step.0 step.1)) xs step.2
+      each_member : (es : ast.Exprs) → (xs : List BoundExpr) → bound_members entries scope es ≡ Ok xs → Each xs
+      each_member ast.no_expr xs e = subst Each (ok_is [] xs e) (All-nil (λ e. All P (columns e)))
+      each_member (ast.one_expr e es) xs is =
+          let step = first_given (bound_expr entries scope e) (bound_members entries scope es) xs is in
+          subst Each step.4 (All-cons (λ e. All P (columns e)) step.0 step.1 (each_found e step.0 step.2) (each_member es step.1 step.3))
 
-      each_arm : (known : List (BoundExpr × BoundExpr)) (as_ : ast.Arms) → EachArm known → (xs : List (BoundExpr × BoundExpr)) → bound_arms entries scope known as_ ≡ Ok xs → EachArm xs
-      each_arm known ast.no_arm h xs e = subst EachArm (ok_is known xs e) h
-      each_arm known (ast.one_arm when result as_) h xs is =
-          let step = given (λ p. bound_arms entries scope (known ++ p ∷ []) as_) xs (pair (bound_expr entries scope when) (bound_expr entries scope result)) is in
-          let first = given (λ x. and_then (bound_expr entries scope result) (λ y. Ok (x, y))) step.0 (bound_expr entries scope when) step.1 in
-          let second = given (λ y. Ok (first.0, y)) step.0 (bound_expr entries scope result) first.2 in
-          let same = ok_is (first.0, second.0) step.0 second.2 in
-          let both = subst (λ (a : BoundExpr × BoundExpr). All P (columns a.0) × All P (columns a.1)) same (each_found when first.0 first.1, each_found result second.0 second.1) in
-          each_arm (known ++ step.0 ∷ []) as_ (All-push (λ a. All P (columns a.0) × All P (columns a.1)) known step.0 h both) xs step.2
+      each_arm : (as_ : ast.Arms) → (xs : List (BoundExpr × BoundExpr)) → bound_arms entries scope as_ ≡ Ok xs → EachArm xs
+      each_arm ast.no_arm xs e = subst EachArm (ok_is [] xs e) (All-nil (λ a. All P (columns a.0) × All P (columns a.1)))
+      each_arm (ast.one_arm when result as_) xs is =
+          let step = first_given (pair (bound_expr entries scope when) (bound_expr entries scope result)) (bound_arms entries scope as_) xs is in
+          let arm = pair_given (bound_expr entries scope when) (bound_expr entries scope result) step.0 step.2 in
+          subst EachArm (ap (λ (p : BoundExpr × BoundExpr). p ∷ step.1) arm.4 ∙ step.4)
+          (All-cons (λ a. All P (columns a.0) × All P (columns a.1)) (arm.0, arm.1) step.1 (each_found when arm.0 arm.2, each_found result arm.1 arm.3) (each_arm as_ step.1 step.3))
 
       of_otherwise : (o : ast.Otherwise) → (b : BoundOtherwise) → bound_otherwise entries scope o ≡ Ok b → All P (otherwise_columns b)
       of_otherwise ast.Nothing b e = subst (λ (b : BoundOtherwise). All P (otherwise_columns b)) (ok_is bound.Nothing b e) (All-nil P)

@@ -1,5 +1,5 @@
 -- A query has at most eight tables in FROM, and as many entries.
-use Rattle.std.proofs.Common.{◌≡◌, ℕ, ◌+◌, ◌≤◌, Bool, true, false, ◌&&◌, List, [], ◌∷◌, ◌++◌, length, length-append, map, Result, Ok, Err, refl, sym, ap, subst, ◌∙◌, arith}
+use Rattle.std.proofs.Common.{◌≡◌, ℕ, ◌+◌, ◌≤◌, Bool, true, false, ◌&&◌, List, [], ◌∷◌, length, length-append, map, Result, Ok, Err, refl, sym, ap, subst, ◌∙◌, arith}
 use Rattle.std.proofs.lemmas.List.{length-map}
 use Rattle.std.proofs.lemmas.Bool.{leb-true}
 use Rattle.std.proofs.lemmas.List.Sums.{sum-map, sum_by-cons}
@@ -8,7 +8,7 @@ use Rattle.row_ast.specs.Ast.{FromItem, Query}
 use Rattle.syntax.specs.Limits.{entries, within_limits}
 use Rattle.catalog.specs.Catalog.{Catalog}
 use Rattle.scope.specs.declared.error.BindError.{BindError}
-use Rattle.resolve.specs.Entries.{JoinedTable, first_table, joined, joined_by, with_item}
+use Rattle.resolve.specs.Entries.{item_tables, joined, joined_by}
 use Rattle.resolve.specs.Resolved.{Bound, bound}
 use Rattle.resolve.proofs.EntryTables.{as_many_entries}
 use Rattle.analysis.specs.Analysis.{admitted_query, permitted}
@@ -17,14 +17,14 @@ use Rattle.engine.proofs.Tables.{not_denied}
 abbrev tables_of : FromItem → ℕ
 tables_of f = 1 + length f.joins
 
-joined_count : (before : List JoinedTable) (from : List FromItem) → length (joined before from) ≡ length before + entries from
-joined_count before [] = omega arith
-joined_count before (f ∷ more) =
-    let rest : length (joined before (f ∷ more)) ≡ length (with_item before f) + entries more = joined_count (with_item before f) more in
+joined_count : (first : ℕ) (from : List FromItem) → length (joined first from) ≡ entries from
+joined_count first [] = refl
+joined_count first (f ∷ more) =
+    let here = item_tables first f in
+    let rest = joined_count (first + length here) more in
     let s : entries (f ∷ more) ≡ 1 + length f.joins + entries more = sum-map tables_of (f ∷ more) ∙ sum_by-cons tables_of f more ∙ ap (λ n. 1 + length f.joins + n) (sym (sum-map tables_of more)) in
-    let m : length (with_item before f) ≡ length (before ++ first_table (length before) f.first ∷ []) + length (map (joined_by (length before)) f.joins) = length-append (before ++ first_table (length before) f.first ∷ []) (map (joined_by (length before)) f.joins) in
-    let k = length-append before (first_table (length before) f.first ∷ []) in
-    let n = length-map f.joins (joined_by (length before)) in
+    let m = length-append here (joined (first + length here) more) in
+    let n = length-map f.joins (joined_by first) in
     omega arith
 
 first_holds : (a b : Bool) → (a && b) ≡ true → a ≡ true
@@ -38,7 +38,7 @@ permitted_few : (cat : Catalog) (role : Name) (q : Query) (b : Bound) (r : Resul
 permitted_few cat role q b (Err fault) few is e = absurd (cc)
 permitted_few cat role q b (Ok b') few is e =
     let n = as_many_entries cat q b' is in
-    let m = joined_count [] q.from in
+    let m = joined_count 0 q.from in
     subst (λ (b : Bound). length b.entries ≤ 8) (not_denied b' b _ e) (omega arith)
 
 pub admitted_few : (cat : Catalog) (role : Name) (q : Query) (b : Bound) → within_limits q ≡ true → admitted_query cat role q ≡ Ok b → length b.entries ≤ 8

@@ -3,8 +3,8 @@ use Rattle.std.proofs.Common.{◌≡◌, ℕ, ◌+◌, ◌≤◌, Bool, true, fa
 use Rattle.std.specs.List.{flat_map, sum, sum_by}
 use Rattle.std.proofs.lemmas.Bool.{leb-true}
 use Rattle.std.proofs.lemmas.List.Concat.{length-flat_map}
-use Rattle.std.proofs.lemmas.List.Sums.{count_by-le-length, length-filter, sum-map, sum_by-append, sum_by-cons, sum_by_push}
-use Rattle.memory.specs.Results.{and_then}
+use Rattle.std.proofs.lemmas.List.Sums.{count_by-le-length, length-filter, sum-map, sum_by-append, sum_by-cons}
+use Rattle.memory.specs.Results.{and_then, first_then, on_each}
 use Rattle.memory.proofs.Cases.{ok_is}
 use Rattle.value.specs.declared.refusal.Refusal.TheVariants as r
 use Rattle.value.specs.Names.{Name}
@@ -24,10 +24,11 @@ use Rattle.scope.specs.BoundExprs.{bound_arms, bound_expr, bound_members, bound_
 use Rattle.syntax.specs.Limits as limits
 use Rattle.syntax.specs.Limits.{filter_members, from_members, join_members, within_limits}
 use Rattle.catalog.specs.Catalog.{Catalog}
-use Rattle.resolve.specs.Entries.{JoinedTable, alias_of, entries, entries_in, entry_in, first_table, found_entry, is_used, joined, joined_by, with_item}
+use Rattle.resolve.specs.Entries.{JoinedTable, alias_of, entries, entries_in, entry_in, first_table, found_entry, is_used, item_tables, joined, joined_by}
 use Rattle.resolve.specs.BoundQueries.{bound_condition, bound_ons, bound_parts, bound_query}
-use Rattle.resolve.specs.OrderBy.{output_keys}
+use Rattle.resolve.specs.OrderBy.{output_key}
 use Rattle.resolve.specs.Resolved.{Bound, bound, bound_with, checked, ordered, unless_fault, with_order}
+use Rattle.scope.proofs.Found.{first_given}
 use Rattle.resolve.proofs.EntryTables.{given}
 use Rattle.analysis.specs.Analysis.{admitted_query, permitted}
 use Rattle.engine.proofs.Tables.{not_denied}
@@ -48,19 +49,19 @@ as_many [] = refl
 as_many (x ∷ xs) = let n = as_many xs in omega arith
 
 module _ (es : List Entry) (scope : Scope) where
-  members_bound : (known : List BoundExpr) (ms : ast.Exprs) (xs : List BoundExpr) → bound_members es scope known ms ≡ Ok xs → length xs ≡ length known + length (ast.list_of ms)
-  members_bound known ast.no_expr xs e = let n = ap length (ok_is known xs e) in omega arith
-  members_bound known (ast.one_expr m ms) xs e =
-      let step = given (λ x. bound_members es scope (known ++ x ∷ []) ms) xs (bound_expr es scope m) e in
-      let n = members_bound (known ++ step.0 ∷ []) ms xs step.2 in
-      let k = length-append known (step.0 ∷ []) in
+  members_bound : (ms : ast.Exprs) (xs : List BoundExpr) → bound_members es scope ms ≡ Ok xs → length xs ≡ length (ast.list_of ms)
+  members_bound ast.no_expr xs e = sym (ap length (ok_is [] xs e))
+  members_bound (ast.one_expr m ms) xs e =
+      let step = first_given (bound_expr es scope m) (bound_members es scope ms) xs e in
+      let n = members_bound ms step.1 step.3 in
+      let k = ap length step.4 in
       omega arith
 
   and_bound : (offset : ℕ) (ms : ast.Exprs) (x : BoundExpr) → bound_expr es scope (ast.And offset ms) ≡ Ok x → length (conjuncts_of x) ≡ length (ast.list_of ms)
   and_bound offset ms x e =
-      let step = given (λ xs. Ok (bound.And offset (bound_exprs_of xs))) x (bound_members es scope [] ms) e in
+      let step = given (λ xs. Ok (bound.And offset (bound_exprs_of xs))) x (bound_members es scope ms) e in
       let same = ap (λ x. length (conjuncts_of x)) (ok_is (bound.And offset (bound_exprs_of step.0)) x step.2) in
-      let n = members_bound [] ms step.0 step.1 in
+      let n = members_bound ms step.0 step.1 in
       let k = as_many step.0 in
       omega arith
 
@@ -77,9 +78,9 @@ module _ (es : List Entry) (scope : Scope) where
   expr_bound (ast.IsNull negated n e) = one_after (bound_expr es scope e) _ (λ x. is_one (bound.IsNull negated n x) refl)
   expr_bound (ast.Not n e) = one_after (bound_expr es scope e) _ (λ x. is_one (bound.Not n x) refl)
   expr_bound (ast.And n ms) = and_bound n ms
-  expr_bound (ast.Or n ms) = one_after (bound_members es scope [] ms) _ (λ xs. is_one (bound.Or n (bound_exprs_of xs)) refl)
+  expr_bound (ast.Or n ms) = one_after (bound_members es scope ms) _ (λ xs. is_one (bound.Or n (bound_exprs_of xs)) refl)
   expr_bound (ast.Cast n to e) = one_after (bound_expr es scope e) _ (λ x. is_one (bound.Cast n to x) refl)
-  expr_bound (ast.Case n as_ o) = one_after (bound_arms es scope [] as_) _ (λ xs. one_after (bound_otherwise es scope o) _ (λ y. is_one (bound.Case n (bound_arms_of xs) y) refl))
+  expr_bound (ast.Case n as_ o) = one_after (bound_arms es scope as_) _ (λ xs. one_after (bound_otherwise es scope o) _ (λ y. is_one (bound.Case n (bound_arms_of xs) y) refl))
   expr_bound (ast.CountStar n) = is_one (bound.CountStar n) refl
   expr_bound (ast.Call f n e) = one_after (bound_expr es scope e) _ (λ x. is_one (bound.Call f n x) refl)
 
@@ -97,14 +98,14 @@ count_in x = length (conjuncts_in x)
 abbrev entry_members : Entry → ℕ
 entry_members e = filter_members e.on
 
-ons_bound : (es : List Entry) (number : ℕ) (known : List (Option BoundExpr)) (more : List Entry) (ons : List (Option BoundExpr))
-    → bound_ons es number known more ≡ Ok ons → sum_by count_in ons ≡ sum_by count_in known + sum_by entry_members more
-ons_bound es number known [] ons e = let n = ap (sum_by count_in) (ok_is known ons e) in omega arith
-ons_bound es number known (y ∷ more) ons e =
-    let step = given (λ x. bound_ons es (number + 1) (known ++ x ∷ []) more) ons (bound_condition es (on_scope number y) y.on) e in
-    let n = ons_bound es (number + 1) (known ++ step.0 ∷ []) more ons step.2 in
-    let k = sum_by_push count_in known step.0 in
-    let m = condition_bound es (on_scope number y) y.on step.0 step.1 in
+ons_bound : (es : List Entry) (number : ℕ) (more : List Entry) (ons : List (Option BoundExpr)) → bound_ons es number more ≡ Ok ons → sum_by count_in ons ≡ sum_by entry_members more
+ons_bound es number [] ons e = sym (ap (sum_by count_in) (ok_is [] ons e))
+ons_bound es number (y ∷ more) ons e =
+    let step = first_given (bound_condition es (on_scope number y) y.on) (bound_ons es (number + 1) more) ons e in
+    let n = ons_bound es (number + 1) more step.1 step.3 in
+    let k = ap (sum_by count_in) step.4 in
+    let l = sum_by-cons count_in step.0 step.1 in
+    let m = condition_bound es (on_scope number y) y.on step.0 step.2 in
     let s = sum_by-cons entry_members y more in
     omega arith
 
@@ -121,13 +122,15 @@ keeps_on before j e (Some t) h = go (is_used (alias_of j.table) before) h
     go true h = absurd (cc)
     go false h = cc
 
-entries_found : (cat : Catalog) (before : List Entry) (js : List JoinedTable) (es : List Entry)
-    → entries_in cat before js ≡ Ok es → sum_by entry_members es ≡ sum_by entry_members before + sum_by table_members js
-entries_found cat before [] es e = let n = ap (sum_by entry_members) (ok_is before es e) in omega arith
+entries_found : (cat : Catalog) (before : List Entry) (js : List JoinedTable) (es : List Entry) → entries_in cat before js ≡ Ok es → sum_by entry_members es ≡ sum_by table_members js
+entries_found cat before [] es e = sym (ap (sum_by entry_members) (ok_is [] es e))
 entries_found cat before (j ∷ more) es e =
-    let step = given (λ e. entries_in cat (before ++ e ∷ []) more) es (entry_in cat before j) e in
-    let n = entries_found cat (before ++ step.0 ∷ []) more es step.2 in
-    let k = sum_by_push entry_members before step.0 in
+    let step = given (λ e. first_then (Ok e) (entries_in cat (before ++ e ∷ []) more)) es (entry_in cat before j) e in
+    let rest = first_given (Ok step.0) (entries_in cat (before ++ step.0 ∷ []) more) es step.2 in
+    let same : step.0 ∷ rest.1 ≡ es = ap (λ (e : Entry). e ∷ rest.1) (ok_is step.0 rest.0 rest.2) ∙ rest.4 in
+    let n = entries_found cat (before ++ step.0 ∷ []) more rest.1 rest.3 in
+    let k = ap (sum_by entry_members) same in
+    let l = sum_by-cons entry_members step.0 rest.1 in
     let m = ap filter_members (keeps_on before j step.0 _ step.1) in
     let s = sum_by-cons table_members j more in
     omega arith
@@ -148,17 +151,17 @@ joins_kept first (j ∷ js) =
 abbrev item_members : ast.FromItem → ℕ
 item_members f = sum (map join_members f.joins)
 
-items_joined : (before : List JoinedTable) (from : List ast.FromItem) → sum_by table_members (joined before from) ≡ sum_by table_members before + from_members from
-items_joined before [] = omega arith
-items_joined before (f ∷ more) =
-    let first = first_table (length before) f.first in
-    let rest : sum_by table_members (joined before (f ∷ more)) ≡ sum_by table_members (with_item before f) + from_members more = items_joined (with_item before f) more in
+items_joined : (first : ℕ) (from : List ast.FromItem) → sum_by table_members (joined first from) ≡ from_members from
+items_joined first [] = refl
+items_joined first (f ∷ more) =
+    let here = item_tables first f in
+    let rest = items_joined (first + length here) more in
     let s = sum_by-cons item_members f more in
     let t = sum-map item_members (f ∷ more) in
     let u = sum-map item_members more in
-    let k = sum_by-append table_members (before ++ first ∷ []) (map (joined_by (length before)) f.joins) in
-    let l = sum_by_push table_members before first in
-    let m = joins_kept (length before) f.joins in
+    let k = sum_by-append table_members here (joined (first + length here) more) in
+    let l = sum_by-cons table_members (first_table first f.first) (map (joined_by first) f.joins) in
+    let m = joins_kept first f.joins in
     let n = sum-map join_members f.joins in
     omega arith
 
@@ -179,7 +182,7 @@ parts_kept grouped limit (Ok items) (Ok ons) (Ok filter) (Ok group_by) (Ok havin
 query_bound : (es : List Entry) (q : ast.Query) (b : BoundQuery) → bound_query es q ≡ Ok b → length (conjuncts b) ≡ sum_by entry_members es + filter_members q.filter
 query_bound es q b e =
     let parts = parts_kept _ _ _ _ _ _ _ b e in
-    let n = ons_bound es 0 [] es b.ons parts.0 in
+    let n = ons_bound es 0 es b.ons parts.0 in
     let m = condition_bound es (everywhere es) q.filter b.filter parts.1 in
     let k = length-append (flat_map conjuncts_in b.ons) (conjuncts_in b.filter) in
     let l = length-flat_map conjuncts_in b.ons in
@@ -194,7 +197,7 @@ not_faulty (Some fault) x y e = absurd (cc)
 checked_kept : (es : List Entry) (q : ast.Query) (c : BoundQuery) (b : Bound) → checked es q c ≡ Ok b → length (conjuncts c) ≡ length (conjuncts b.query)
 checked_kept es q c b e =
     let types = given (ordered es q) b (unless_fault _ c) e in
-    let keys = given (λ keys. Ok record { entries = es; query = with_order types.0 keys }) b (output_keys types.0.items [] q.order_by) types.2 in
+    let keys = given (λ keys. Ok record { entries = es; query = with_order types.0 keys }) b (on_each (output_key types.0.items) q.order_by) types.2 in
     ap (λ c. length (conjuncts c)) (not_faulty _ c types.0 types.1) ∙ ap (λ b. length (conjuncts b.query)) (ok_is (record { entries = es; query = with_order types.0 keys.0 }) b keys.2)
 
 as_many_conjuncts : (cat : Catalog) (q : ast.Query) (b : Bound) → bound cat q ≡ Ok b → length (conjuncts b.query) ≡ limits.conjuncts q
@@ -203,8 +206,8 @@ as_many_conjuncts cat q b e =
     let columns = given (checked found.0 q) b (bound_query found.0 q) found.2 in
     let n = checked_kept found.0 q columns.0 b columns.2 in
     let m = query_bound found.0 q columns.0 columns.1 in
-    let k = entries_found cat [] (joined [] q.from) found.0 found.1 in
-    let l = items_joined [] q.from in
+    let k = entries_found cat [] (joined 0 q.from) found.0 found.1 in
+    let l = items_joined 0 q.from in
     omega arith
 
 -- ---- those that are movable

@@ -4,7 +4,7 @@ use Rattle.std.specs.Prelude.{option_to_list}
 use Rattle.std.specs.List.{flat_map}
 use Rattle.std.proofs.lemmas.Grind.{flat_map-append}
 use Rattle.std.proofs.lemmas.List.{append-nil, map-append}
-use Rattle.memory.specs.Results.{and_then}
+use Rattle.memory.specs.Results.{and_then, on_each}
 use Rattle.memory.proofs.Cases.{ok_is}
 use Rattle.value.specs.Columns.{Column}
 use Rattle.row_ast.specs.Ast as ast
@@ -17,7 +17,8 @@ use Rattle.scope.specs.declared.lookup.Scope.{Scope}
 use Rattle.scope.specs.Entry.{Entry}
 use Rattle.scope.specs.Lookup.{everywhere, find_column}
 use Rattle.scope.specs.BoundExprs.{bound_arms, bound_expr, bound_members, bound_otherwise, pair}
-use Rattle.resolve.specs.BoundQueries.{bound_condition, bound_item, bound_items, bound_select, column_items, every_item, heading_or}
+use Rattle.resolve.specs.BoundQueries.{bound_condition, bound_item, bound_select, column_items, every_item, heading_or}
+use Rattle.scope.proofs.Found.{first_given, pair_given}
 use Rattle.resolve.proofs.EntryTables.{given}
 use Rattle.report.specs.QueryStages.{item_aggregates}
 use Rattle.query_laws.proofs.Parts.{is_made}
@@ -45,12 +46,6 @@ of_arms (a ∷ as_) =
     both (aggregates a.0) (aggregates a.1 ++ arms_aggregates (bound_arms_of as_)) (offsets_in a.0) (offsets_in a.1 ++ flat_map arm_offsets as_) refl
     (both (aggregates a.1) (arms_aggregates (bound_arms_of as_)) (offsets_in a.1) (flat_map arm_offsets as_) refl (of_arms as_))
     ∙ sym (append_assoc (offsets_in a.0) (offsets_in a.1) (flat_map arm_offsets as_))
-
--- the parts bound so far, one more, and those after it
-one_more : {X : Type 0} (f : X → List ℕ) (known : List X) (x : X) (now rest all : List ℕ) → f x ≡ now → all ≡ flat_map f (known ++ x ∷ []) ++ rest → all ≡ flat_map f known ++ (now ++ rest)
-one_more f known x now rest all is e =
-    e ∙ ap (λ l. l ++ rest) (flat_map-append f known (x ∷ []) ∙ ap (λ l. flat_map f known ++ l) (append-nil (f x) ∙ is))
-    ∙ append_assoc (flat_map f known) now rest
 
 -- ---- expressions
 
@@ -89,35 +84,34 @@ module _ (entries : List Entry) (scope : Scope) where
     expr_has (ast.In negated n values e) = after (call_offsets e) (bound_expr entries scope e) _ (λ x is. it_has (call_offsets e) (bound.In negated n values x) (expr_has e x is))
     expr_has (ast.IsNull negated n e) = after (call_offsets e) (bound_expr entries scope e) _ (λ x is. it_has (call_offsets e) (bound.IsNull negated n x) (expr_has e x is))
     expr_has (ast.Not n e) = after (call_offsets e) (bound_expr entries scope e) _ (λ x is. it_has (call_offsets e) (bound.Not n x) (expr_has e x is))
-    expr_has (ast.And n ms) = after (all_call_offsets ms) (bound_members entries scope [] ms) _ (λ xs is. it_has (all_call_offsets ms) (bound.And n (bound_exprs_of xs)) (of_members xs ∙ members_have [] ms xs is))
-    expr_has (ast.Or n ms) = after (all_call_offsets ms) (bound_members entries scope [] ms) _ (λ xs is. it_has (all_call_offsets ms) (bound.Or n (bound_exprs_of xs)) (of_members xs ∙ members_have [] ms xs is))
+    expr_has (ast.And n ms) = after (all_call_offsets ms) (bound_members entries scope ms) _ (λ xs is. it_has (all_call_offsets ms) (bound.And n (bound_exprs_of xs)) (of_members xs ∙ members_have ms xs is))
+    expr_has (ast.Or n ms) = after (all_call_offsets ms) (bound_members entries scope ms) _ (λ xs is. it_has (all_call_offsets ms) (bound.Or n (bound_exprs_of xs)) (of_members xs ∙ members_have ms xs is))
     expr_has (ast.Cast n to e) = after (call_offsets e) (bound_expr entries scope e) _ (λ x is. it_has (call_offsets e) (bound.Cast n to x) (expr_has e x is))
     expr_has (ast.Case n as_ o) =
         let ns = arms_call_offsets as_ ++ otherwise_call_offsets o in
-        after ns (bound_arms entries scope [] as_) _ (λ xs is_xs. after ns (bound_otherwise entries scope o) _ (λ y is_y.
+        after ns (bound_arms entries scope as_) _ (λ xs is_xs. after ns (bound_otherwise entries scope o) _ (λ y is_y.
         it_has ns (bound.Case n (bound_arms_of xs) y)
-        (both (arms_aggregates (bound_arms_of xs)) (otherwise_aggregates y) (arms_call_offsets as_) (otherwise_call_offsets o) (of_arms xs ∙ arms_have [] as_ xs is_xs) (otherwise_has o y is_y))))
+        (both (arms_aggregates (bound_arms_of xs)) (otherwise_aggregates y) (arms_call_offsets as_) (otherwise_call_offsets o) (of_arms xs ∙ arms_have as_ xs is_xs) (otherwise_has o y is_y))))
     expr_has (ast.CountStar n) = it_has (n ∷ []) (bound.CountStar n) refl
     expr_has (ast.Call f n e) = after (n ∷ []) (bound_expr entries scope e) _ (λ x is. it_has (n ∷ []) (bound.Call f n x) refl)
 
-    members_have : (known : List BoundExpr) (ms : ast.Exprs) (xs : List BoundExpr) → bound_members entries scope known ms ≡ Ok xs → flat_map offsets_in xs ≡ flat_map offsets_in known ++ all_call_offsets ms
-    members_have known ast.no_expr xs e = ap (λ (l : List BoundExpr). flat_map offsets_in l) (sym (ok_is known xs e)) ∙ sym (append-nil (flat_map offsets_in known))
-    members_have known (ast.one_expr m ms) xs e =
-        let step = given (λ x. bound_members entries scope (known ++ x ∷ []) ms) xs (bound_expr entries scope m) e in
-        one_more offsets_in known step.0 (call_offsets m) (all_call_offsets ms) (flat_map offsets_in xs) (expr_has m step.0 step.1) (members_have (known ++ step.0 ∷ []) ms xs step.2)
+    members_have : (ms : ast.Exprs) (xs : List BoundExpr) → bound_members entries scope ms ≡ Ok xs → flat_map offsets_in xs ≡ all_call_offsets ms
+    members_have ast.no_expr xs e = ap (λ (l : List BoundExpr). flat_map offsets_in l) (sym (ok_is [] xs e))
+    members_have (ast.one_expr m ms) xs e =
+        let step = first_given (bound_expr entries scope m) (bound_members entries scope ms) xs e in
+        sym (ap (λ (l : List BoundExpr). flat_map offsets_in l) step.4) ∙ ap (λ l. l ++ flat_map offsets_in step.1) (expr_has m step.0 step.2) ∙ ap (λ l. call_offsets m ++ l) (members_have ms step.1 step.3)
 
-    arms_have : (known : List (BoundExpr × BoundExpr)) (as_ : ast.Arms) (xs : List (BoundExpr × BoundExpr)) → bound_arms entries scope known as_ ≡ Ok xs → flat_map arm_offsets xs ≡ flat_map arm_offsets known ++ arms_call_offsets as_
-    arms_have known ast.no_arm xs e = ap (λ (l : List (BoundExpr × BoundExpr)). flat_map arm_offsets l) (sym (ok_is known xs e)) ∙ sym (append-nil (flat_map arm_offsets known))
-    arms_have known (ast.one_arm when result as_) xs e =
-        let step = given (λ p. bound_arms entries scope (known ++ p ∷ []) as_) xs (pair (bound_expr entries scope when) (bound_expr entries scope result)) e in
-        let first = given (λ x. and_then (bound_expr entries scope result) (λ y. Ok (x, y))) step.0 (bound_expr entries scope when) step.1 in
-        let second = given (λ y. Ok (first.0, y)) step.0 (bound_expr entries scope result) first.2 in
-        let is : (first.0, second.0) ≡ step.0 = ok_is (first.0, second.0) step.0 second.2 in
+    arms_have : (as_ : ast.Arms) (xs : List (BoundExpr × BoundExpr)) → bound_arms entries scope as_ ≡ Ok xs → flat_map arm_offsets xs ≡ arms_call_offsets as_
+    arms_have ast.no_arm xs e = ap (λ (l : List (BoundExpr × BoundExpr)). flat_map arm_offsets l) (sym (ok_is [] xs e))
+    arms_have (ast.one_arm when result as_) xs e =
+        let step = first_given (pair (bound_expr entries scope when) (bound_expr entries scope result)) (bound_arms entries scope as_) xs e in
+        let arm = pair_given (bound_expr entries scope when) (bound_expr entries scope result) step.0 step.2 in
         let now = call_offsets when ++ call_offsets result in
         let here : arm_offsets step.0 ≡ now =
-        subst (λ (p : BoundExpr × BoundExpr). arm_offsets p ≡ now) is (ap (λ l. l ++ offsets_in second.0) (expr_has when first.0 first.1) ∙ ap (λ l. call_offsets when ++ l) (expr_has result second.0 second.1)) in
-        one_more arm_offsets known step.0 now (arms_call_offsets as_) (flat_map arm_offsets xs) here (arms_have (known ++ step.0 ∷ []) as_ xs step.2)
-        ∙ ap (λ l. flat_map arm_offsets known ++ l) (append_assoc (call_offsets when) (call_offsets result) (arms_call_offsets as_))
+        subst (λ (p : BoundExpr × BoundExpr). arm_offsets p ≡ now) arm.4 (ap (λ l. l ++ offsets_in arm.1) (expr_has when arm.0 arm.2) ∙ ap (λ l. call_offsets when ++ l) (expr_has result arm.1 arm.3)) in
+        sym (ap (λ (l : List (BoundExpr × BoundExpr)). flat_map arm_offsets l) step.4)
+        ∙ ap (λ l. l ++ flat_map arm_offsets step.1) here ∙ ap (λ l. now ++ l) (arms_have as_ step.1 step.3)
+        ∙ append_assoc (call_offsets when) (call_offsets result) (arms_call_offsets as_)
 
     otherwise_has : (o : ast.Otherwise) (y : BoundOtherwise) → bound_otherwise entries scope o ≡ Ok y → offsets_of (otherwise_aggregates y) ≡ otherwise_call_offsets o
     otherwise_has ast.Nothing y e = subst (λ (y : BoundOtherwise). offsets_of (otherwise_aggregates y) ≡ []) (ok_is bound.Nothing y e) refl
@@ -143,11 +137,11 @@ module _ (entries : List Entry) (scope : Scope) where
       let made : BoundItem = record { heading = heading_or i.alias i.value; value = step.0 } in
       subst (λ (x : BoundItem). item_offsets x ≡ item_call_offsets i) (ok_is made x step.2) (expr_has i.value step.0 step.1)
 
-  items_have : (known : List BoundItem) (is : List ast.SelectItem) (xs : List BoundItem) → bound_items entries scope known is ≡ Ok xs → flat_map item_offsets xs ≡ flat_map item_offsets known ++ flat_map item_call_offsets is
-  items_have known [] xs e = ap (λ (l : List BoundItem). flat_map item_offsets l) (sym (ok_is known xs e)) ∙ sym (append-nil (flat_map item_offsets known))
-  items_have known (i ∷ more) xs e =
-      let step = given (λ x. bound_items entries scope (known ++ x ∷ []) more) xs (bound_item entries scope i) e in
-      one_more item_offsets known step.0 (item_call_offsets i) (flat_map item_call_offsets more) (flat_map item_offsets xs) (item_has i step.0 step.1) (items_have (known ++ step.0 ∷ []) more xs step.2)
+  items_have : (is : List ast.SelectItem) (xs : List BoundItem) → on_each (bound_item entries scope) is ≡ Ok xs → flat_map item_offsets xs ≡ flat_map item_call_offsets is
+  items_have [] xs e = ap (λ (l : List BoundItem). flat_map item_offsets l) (sym (ok_is [] xs e))
+  items_have (i ∷ more) xs e =
+      let step = first_given (bound_item entries scope i) (on_each (bound_item entries scope) more) xs e in
+      sym (ap (λ (l : List BoundItem). flat_map item_offsets l) step.4) ∙ ap (λ l. l ++ flat_map item_offsets step.1) (item_has i step.0 step.2) ∙ ap (λ l. item_call_offsets i ++ l) (items_have more step.1 step.3)
 
   of_items : (xs : List BoundItem) → offsets_of (flat_map item_aggregates xs) ≡ flat_map item_offsets xs
   of_items [] = refl
@@ -166,7 +160,7 @@ module _ (entries : List Entry) (scope : Scope) where
 
   select_has : (s : ast.SelectList) (xs : List BoundItem) → bound_select entries scope s ≡ Ok xs → offsets_of (flat_map item_aggregates xs) ≡ select_call_offsets s
   select_has (ast.All n) xs e = subst (λ (xs : List BoundItem). offsets_of (flat_map item_aggregates xs) ≡ []) (ok_is (every_item 0 entries) xs e) (ap offsets_of (of_every 0 entries))
-  select_has (ast.Items items) xs e = of_items xs ∙ items_have [] items xs e
+  select_has (ast.Items items) xs e = of_items xs ∙ items_have items xs e
 
 -- ---- the query
 

@@ -4,7 +4,7 @@ use Rattle.std.specs.Prelude.{option_map, option_to_list}
 use Rattle.std.specs.List.{All, cons_option, flat_map, position_from, slice_get}
 use Rattle.std.specs.Str.{bytes_eq}
 use Rattle.std.proofs.lemmas.List.Elements.{All-append, All-cons, All-head, All-nil, All-tail}
-use Rattle.memory.specs.Results.{and_then}
+use Rattle.memory.specs.Results.{and_then, on_each}
 use Rattle.memory.proofs.Cases.{ok_is}
 use Rattle.value.specs.Columns.{Column}
 use Rattle.value.specs.Names.{Name}
@@ -21,7 +21,8 @@ use Rattle.scope.specs.declared.lookup.Scope.{Scope}
 use Rattle.scope.specs.Entry.{Entry}
 use Rattle.scope.specs.Lookup.{find_column, is_meant, match_in, matches, means_some, on_scope, one_column}
 use Rattle.scope.specs.BoundExprs.{bound_arms, bound_expr, bound_members, bound_otherwise, pair}
-use Rattle.resolve.specs.BoundQueries.{bound_columns, bound_condition, bound_item, bound_items, bound_ons, bound_select, column_items, every_item, heading_or}
+use Rattle.resolve.specs.BoundQueries.{bound_condition, bound_item, bound_ons, bound_select, column_items, every_item, heading_or}
+use Rattle.scope.proofs.Found.{first_given, pair_given}
 use Rattle.resolve.proofs.EntryTables.{given}
 
 -- ---- elements
@@ -32,6 +33,13 @@ the_one P x p = All-cons P x [] p (All-nil P)
 pub of_each : {X Y : Type 0} (P : Y → Type 0) (f : X → List Y) (xs : List X) → All (λ x. All P (f x)) xs → All P (flat_map f xs)
 of_each P f [] h = All-nil P
 of_each P f (x ∷ xs) h = All-append P (f x) (flat_map f xs) (All-head (λ x. All P (f x)) x xs h) (of_each P f xs (All-tail (λ x. All P (f x)) x xs h))
+
+-- each value of a function holds what it holds of one
+pub each_holds : {X Y E : Type 0} (f : X → Result Y E) (P : Y → Type 0) → ((x : X) (y : Y) → f x ≡ Ok y → P y) → (xs : List X) (ys : List Y) → on_each f xs ≡ Ok ys → All P ys
+each_holds {X} {Y} f P h [] ys e = subst (λ (ys : List Y). All P ys) (ok_is [] ys e) (All-nil P)
+each_holds {X} {Y} f P h (x ∷ xs) ys e =
+    let step = first_given (f x) (on_each f xs) ys e in
+    subst (λ (ys : List Y). All P ys) step.4 (All-cons P step.0 step.1 (h x step.0 step.2) (each_holds f P h xs step.1 step.3))
 
 -- ---- columns
 
@@ -103,10 +111,6 @@ module _ (entries : List Entry) where
   EachThere [] = Unit {0}
   EachThere (x ∷ xs) = All (IsThere entries) (columns x) × EachThere xs
 
-  one_later : (xs : List BoundExpr) (x : BoundExpr) → EachThere xs → All (IsThere entries) (columns x) → EachThere (xs ++ x ∷ [])
-  one_later [] x h l = (l, tt)
-  one_later (y ∷ ys) x h l = (h.0, one_later ys x h.1 l)
-
   all_there : (xs : List BoundExpr) → EachThere xs → All (IsThere entries) (all_columns (bound_exprs_of xs))
   all_there [] h = All-nil (IsThere entries)
   all_there (x ∷ xs) h = All-append (IsThere entries) (columns x) (all_columns (bound_exprs_of xs)) h.0 (all_there xs h.1)
@@ -114,10 +118,6 @@ module _ (entries : List Entry) where
   abbrev ArmsThere : List (BoundExpr × BoundExpr) → Type 0
   ArmsThere [] = Unit {0}
   ArmsThere (a ∷ as_) = All (IsThere entries) (columns a.0) × All (IsThere entries) (columns a.1) × ArmsThere as_
-
-  arm_later : (xs : List (BoundExpr × BoundExpr)) (a : BoundExpr × BoundExpr) → ArmsThere xs → All (IsThere entries) (columns a.0) → All (IsThere entries) (columns a.1) → ArmsThere (xs ++ a ∷ [])
-  arm_later [] a h k l = (k, l, tt)
-  arm_later (y ∷ ys) a h k l = (h.0, h.1, arm_later ys a h.2 k l)
 
   arms_there : (xs : List (BoundExpr × BoundExpr)) → ArmsThere xs → All (IsThere entries) (arms_columns (bound_arms_of xs))
   arms_there [] h = All-nil (IsThere entries)
@@ -142,33 +142,27 @@ module _ (entries : List Entry) where
       expr_there (ast.In negated n values e) = after (bound_expr entries scope e) _ (λ x is. named (bound.In negated n values x) (expr_there e x is))
       expr_there (ast.IsNull negated n e) = after (bound_expr entries scope e) _ (λ x is. named (bound.IsNull negated n x) (expr_there e x is))
       expr_there (ast.Not n e) = after (bound_expr entries scope e) _ (λ x is. named (bound.Not n x) (expr_there e x is))
-      expr_there (ast.And n ms) = after (bound_members entries scope [] ms) _ (λ xs is. named (bound.And n (bound_exprs_of xs)) (all_there xs (members_there [] ms xs tt is)))
-      expr_there (ast.Or n ms) = after (bound_members entries scope [] ms) _ (λ xs is. named (bound.Or n (bound_exprs_of xs)) (all_there xs (members_there [] ms xs tt is)))
+      expr_there (ast.And n ms) = after (bound_members entries scope ms) _ (λ xs is. named (bound.And n (bound_exprs_of xs)) (all_there xs (members_there ms xs is)))
+      expr_there (ast.Or n ms) = after (bound_members entries scope ms) _ (λ xs is. named (bound.Or n (bound_exprs_of xs)) (all_there xs (members_there ms xs is)))
       expr_there (ast.Cast n to e) = after (bound_expr entries scope e) _ (λ x is. named (bound.Cast n to x) (expr_there e x is))
       expr_there (ast.Case n as_ o) =
-          after (bound_arms entries scope [] as_) _ (λ xs is_xs. after (bound_otherwise entries scope o) _ (λ y is_y.
-          named (bound.Case n (bound_arms_of xs) y) (All-append (IsThere entries) (arms_columns (bound_arms_of xs)) (otherwise_columns y) (arms_there xs (each_arm [] as_ xs tt is_xs)) (otherwise_there o y is_y))))
+          after (bound_arms entries scope as_) _ (λ xs is_xs. after (bound_otherwise entries scope o) _ (λ y is_y.
+          named (bound.Case n (bound_arms_of xs) y) (All-append (IsThere entries) (arms_columns (bound_arms_of xs)) (otherwise_columns y) (arms_there xs (each_arm as_ xs is_xs)) (otherwise_there o y is_y))))
       expr_there (ast.CountStar n) = named (bound.CountStar n) (All-nil (IsThere entries))
       expr_there (ast.Call f n e) = after (bound_expr entries scope e) _ (λ x is. named (bound.Call f n x) (expr_there e x is))
 
-      members_there : (known : List BoundExpr) (ms : ast.Exprs) (xs : List BoundExpr) → EachThere known → bound_members entries scope known ms ≡ Ok xs → EachThere xs
-      members_there known ast.no_expr xs h e = subst EachThere (ok_is known xs e) h
-      members_there known (ast.one_expr m ms) xs h e =
-          let step = given (λ x. bound_members entries scope (known ++ x ∷ []) ms) xs (bound_expr entries scope m) e in
-          members_there (known ++ step.0 ∷ []) ms xs (one_later known step.0 h (expr_there m step.0 step.1)) step.2
+      members_there : (ms : ast.Exprs) (xs : List BoundExpr) → bound_members entries scope ms ≡ Ok xs → EachThere xs
+      members_there ast.no_expr xs e = subst EachThere (ok_is [] xs e) tt
+      members_there (ast.one_expr m ms) xs e =
+          let step = first_given (bound_expr entries scope m) (bound_members entries scope ms) xs e in
+          subst EachThere step.4 (expr_there m step.0 step.2, members_there ms step.1 step.3)
 
-      each_arm : (known : List (BoundExpr × BoundExpr)) (as_ : ast.Arms) (xs : List (BoundExpr × BoundExpr)) → ArmsThere known → bound_arms entries scope known as_ ≡ Ok xs → ArmsThere xs
-      each_arm known ast.no_arm xs h e = subst ArmsThere (ok_is known xs e) h
-      each_arm known (ast.one_arm when result as_) xs h e =
-          let step = given (λ p. bound_arms entries scope (known ++ p ∷ []) as_) xs (pair (bound_expr entries scope when) (bound_expr entries scope result)) e in
-          let first = given (λ x. and_then (bound_expr entries scope result) (λ y. Ok (x, y))) step.0 (bound_expr entries scope when) step.1 in
-          let second = given (λ y. Ok (first.0, y)) step.0 (bound_expr entries scope result) first.2 in
-          let is : (first.0, second.0) ≡ step.0 = ok_is (first.0, second.0) step.0 second.2 in
-          each_arm (known ++ step.0 ∷ []) as_ xs
-          (arm_later known step.0 h
-          (subst (λ (p : BoundExpr × BoundExpr). All (IsThere entries) (columns p.0)) is (expr_there when first.0 first.1))
-          (subst (λ (p : BoundExpr × BoundExpr). All (IsThere entries) (columns p.1)) is (expr_there result second.0 second.1)))
-          step.2
+      each_arm : (as_ : ast.Arms) (xs : List (BoundExpr × BoundExpr)) → bound_arms entries scope as_ ≡ Ok xs → ArmsThere xs
+      each_arm ast.no_arm xs e = subst ArmsThere (ok_is [] xs e) tt
+      each_arm (ast.one_arm when result as_) xs e =
+          let step = first_given (pair (bound_expr entries scope when) (bound_expr entries scope result)) (bound_arms entries scope as_) xs e in
+          let arm = pair_given (bound_expr entries scope when) (bound_expr entries scope result) step.0 step.2 in
+          subst ArmsThere (ap (λ (p : BoundExpr × BoundExpr). p ∷ step.1) arm.4 ∙ step.4) (expr_there when arm.0 arm.2, expr_there result arm.1 arm.3, each_arm as_ step.1 step.3)
 
       otherwise_there : (o : ast.Otherwise) (y : BoundOtherwise) → bound_otherwise entries scope o ≡ Ok y → All (IsThere entries) (otherwise_columns y)
       otherwise_there ast.Nothing y e = subst (λ (y : BoundOtherwise). All (IsThere entries) (otherwise_columns y)) (ok_is bound.Nothing y e) (All-nil (IsThere entries))
@@ -184,11 +178,8 @@ module _ (entries : List Entry) where
 
     -- ---- GROUP BY
 
-    pub columns_there : (known : List ColumnId) (cs : List ast.ColumnRef) (ids : List ColumnId) → All (IsThere entries) known → bound_columns entries scope known cs ≡ Ok ids → All (IsThere entries) ids
-    columns_there known [] ids h e = subst (λ (ids : List ColumnId). All (IsThere entries) ids) (ok_is known ids e) h
-    columns_there known (c ∷ more) ids h e =
-        let step = given (λ id. bound_columns entries scope (known ++ id ∷ []) more) ids (find_column entries scope c) e in
-        columns_there (known ++ step.0 ∷ []) more ids (All-append (IsThere entries) known (step.0 ∷ []) h (the_one (IsThere entries) step.0 (found_there scope c step.0 step.1))) step.2
+    pub columns_there : (cs : List ast.ColumnRef) (ids : List ColumnId) → on_each (find_column entries scope) cs ≡ Ok ids → All (IsThere entries) ids
+    columns_there = each_holds (find_column entries scope) (IsThere entries) (found_there scope)
 
     -- ---- items
 
@@ -200,12 +191,6 @@ module _ (entries : List Entry) where
         let step = given (λ y. Ok record { heading = heading_or i.alias i.value; value = y }) x (bound_expr entries scope i.value) e in
         let made : BoundItem = record { heading = heading_or i.alias i.value; value = step.0 } in
         subst ItemThere (ok_is made x step.2) (expr_there i.value step.0 step.1)
-
-    items_there : (known : List BoundItem) (is : List ast.SelectItem) (xs : List BoundItem) → All ItemThere known → bound_items entries scope known is ≡ Ok xs → All ItemThere xs
-    items_there known [] xs h e = subst (λ (xs : List BoundItem). All ItemThere xs) (ok_is known xs e) h
-    items_there known (i ∷ more) xs h e =
-        let step = given (λ x. bound_items entries scope (known ++ x ∷ []) more) xs (bound_item entries scope i) e in
-        items_there (known ++ step.0 ∷ []) more xs (All-append ItemThere known (step.0 ∷ []) h (the_one ItemThere step.0 (item_there i step.0 step.1))) step.2
 
     -- the columns of an entry, from an index on
     each_column : (n : ℕ) (e : Entry) → slice_get entries n ≡ Some e → (k : ℕ) (cs : List Column) → ((j : ℕ) → slice_get e.table.columns (k + j) ≡ slice_get cs j) → All ItemThere (column_items n k cs)
@@ -228,15 +213,15 @@ module _ (entries : List Entry) where
     pub select_there : (s : ast.SelectList) (xs : List BoundItem) → bound_select entries scope s ≡ Ok xs → All ItemThere xs
     select_there (ast.All offset) xs e =
         subst (λ (xs : List BoundItem). All ItemThere xs) (ok_is (every_item 0 entries) xs e) (each_entry 0 entries (λ k. let same : 0 + k ≡ k = omega arith in ap (slice_get entries) same))
-    select_there (ast.Items items) xs e = items_there [] items xs (All-nil ItemThere) e
+    select_there (ast.Items items) xs e = each_holds (bound_item entries scope) ItemThere item_there items xs e
 
   -- ---- the ON of each entry
 
   abbrev OnThere : Option BoundExpr → Type 0
   OnThere x = All (IsThere entries) (condition_columns x)
 
-  pub ons_there : (number : ℕ) (known : List (Option BoundExpr)) (more : List Entry) (ons : List (Option BoundExpr)) → All OnThere known → bound_ons entries number known more ≡ Ok ons → All OnThere ons
-  ons_there number known [] ons h e = subst (λ (ons : List (Option BoundExpr)). All OnThere ons) (ok_is known ons e) h
-  ons_there number known (y ∷ more) ons h e =
-      let step = given (λ x. bound_ons entries (number + 1) (known ++ x ∷ []) more) ons (bound_condition entries (on_scope number y) y.on) e in
-      ons_there (number + 1) (known ++ step.0 ∷ []) more ons (All-append OnThere known (step.0 ∷ []) h (the_one OnThere step.0 (condition_there (on_scope number y) y.on step.0 step.1))) step.2
+  pub ons_there : (number : ℕ) (more : List Entry) (ons : List (Option BoundExpr)) → bound_ons entries number more ≡ Ok ons → All OnThere ons
+  ons_there number [] ons e = subst (λ (ons : List (Option BoundExpr)). All OnThere ons) (ok_is [] ons e) (All-nil OnThere)
+  ons_there number (y ∷ more) ons e =
+      let step = first_given (bound_condition entries (on_scope number y) y.on) (bound_ons entries (number + 1) more) ons e in
+      subst (λ (ons : List (Option BoundExpr)). All OnThere ons) step.4 (All-cons OnThere step.0 step.1 (condition_there (on_scope number y) y.on step.0 step.2) (ons_there (number + 1) more step.1 step.3))

@@ -1,5 +1,5 @@
 -- Each column that an admitted query names is there and granted, and some part of each of its tables.
-use Rattle.std.proofs.Common.{◌≡◌, ◌⊎◌, inl, inr, ℕ, ◌+◌, Bool, true, false, not, ◌&&◌, ◌||◌, cond, List, [], ◌∷◌, ◌++◌, length, length-append, Contains, Option, Some, None, Ok, refl, sym, ap, subst, ◌∙◌, arith}
+use Rattle.std.proofs.Common.{◌≡◌, ◌⊎◌, inl, inr, ℕ, ◌+◌, Bool, true, false, not, ◌&&◌, ◌||◌, cond, List, [], ◌∷◌, ◌++◌, length, Contains, Option, Some, None, Ok, refl, sym, ap, subst, ◌∙◌, arith}
 use Rattle.std.specs.Prelude.{slice_index_or}
 use Rattle.std.proofs.lemmas.Option.{slice_get-get_or}
 use Rattle.std.specs.List.{All, Any, cons_option, filter_map, flat_map, list_any, slice_get}
@@ -22,7 +22,7 @@ use Rattle.access.proofs.NamedEntries.{entries_are_needed}
 use Rattle.access.proofs.NamedMentions.{named_are_needed}
 use Rattle.resolve.specs.BoundQueries.{bound_condition, bound_ons}
 use Rattle.resolve.specs.Resolved.{Bound}
-use Rattle.resolve.proofs.EntryTables.{given}
+use Rattle.scope.proofs.Found.{first_given}
 use Rattle.memory.proofs.Cases.{ok_is, some_is}
 use Rattle.query_laws.specs.Admitted.{IsGranted, NamedAreGranted, TablesAreGranted}
 use Rattle.query_laws.proofs.Found.{IsThere, columns_there, condition_there, of_each, ons_there, select_there}
@@ -101,12 +101,12 @@ module _ (cat : Catalog) (role : Name) where
 
 -- ---- as many ONs as entries
 
-as_many_ons : (es : List Entry) (n : ℕ) (known : List (Option BoundExpr)) (more : List Entry) (ons : List (Option BoundExpr)) → bound_ons es n known more ≡ Ok ons → length ons ≡ length known + length more
-as_many_ons es n known [] ons e = let k = ap length (ok_is known ons e) in omega arith
-as_many_ons es n known (y ∷ more) ons e =
-    let step = given (λ x. bound_ons es (n + 1) (known ++ x ∷ []) more) ons (bound_condition es (on_scope n y) y.on) e in
-    let k = as_many_ons es (n + 1) (known ++ step.0 ∷ []) more ons step.2 in
-    let l = length-append known (step.0 ∷ []) in
+as_many_ons : (es : List Entry) (n : ℕ) (more : List Entry) (ons : List (Option BoundExpr)) → bound_ons es n more ≡ Ok ons → length ons ≡ length more
+as_many_ons es n [] ons e = sym (ap length (ok_is [] ons e))
+as_many_ons es n (y ∷ more) ons e =
+    let step = first_given (bound_condition es (on_scope n y) y.on) (bound_ons es (n + 1) more) ons e in
+    let k = as_many_ons es (n + 1) more step.1 step.3 in
+    let l = ap length step.4 in
     omega arith
 
 -- ---- the columns of a query
@@ -115,8 +115,8 @@ named_there : (es : List Entry) (q : ast.Query) (b : BoundQuery) → HasParts es
 named_there es q b parts =
     All-append (IsThere es) (flat_map item_columns b.items) _ (of_each (IsThere es) item_columns b.items (select_there es (everywhere es) q.select b.items parts.items))
     (All-append (IsThere es) (flat_map condition_columns b.ons ++ condition_columns b.filter) _
-    (All-append (IsThere es) (flat_map condition_columns b.ons) _ (of_each (IsThere es) condition_columns b.ons (ons_there es 0 [] es b.ons (All-nil _) parts.ons)) (condition_there es (everywhere es) q.filter b.filter parts.filter))
-    (All-append (IsThere es) b.group_by _ (columns_there es (everywhere es) [] q.group_by b.group_by (All-nil _) parts.group_by) (condition_there es (everywhere es) q.having b.having parts.having)))
+    (All-append (IsThere es) (flat_map condition_columns b.ons) _ (of_each (IsThere es) condition_columns b.ons (ons_there es 0 es b.ons parts.ons)) (condition_there es (everywhere es) q.filter b.filter parts.filter))
+    (All-append (IsThere es) b.group_by _ (columns_there es (everywhere es) q.group_by b.group_by parts.group_by) (condition_there es (everywhere es) q.having b.having parts.having)))
 
 -- ---- the laws
 
@@ -141,7 +141,7 @@ tables_are_granted cat role text b e = each
         let made = is_made cat it.0 b it.1 in
         let named = of_bound cat role it.0 b made it.2 in
         let held = all_held cat role (needed b.entries b.query) it.2 in
-        let count = as_many_ons b.entries 0 [] b.entries b.query.ons made.parts.ons in
+        let count = as_many_ons b.entries 0 b.entries b.query.ons made.parts.ons in
         let at : slice_get b.entries k ≡ Some (slice_index_or b.entries k d) = slice_get-get_or b.entries k d l in
         entry_held cat role b.entries k (slice_index_or b.entries k d) (named_columns b.query) (needed b.entries b.query) at named held
         (entries_are_needed b.entries b.query k (slice_index_or b.entries k d) (omega (arith, l, count)) at)

@@ -1,6 +1,7 @@
 -- The parts that an admitted query is bound of, and that its checks found nothing and nothing is denied.
 use Rattle.std.proofs.Common.{◌≡◌, ℕ, Bool, List, [], Option, Some, None, Result, Ok, Err, refl, ap, subst}
 use Rattle.row_ast.specs.Ast as ast
+use Rattle.memory.specs.Results.{on_each}
 use Rattle.memory.proofs.Cases.{ok_is}
 use Rattle.value.specs.Names.{Name}
 use Rattle.expr.specs.declared.bound.ColumnId.{ColumnId}
@@ -9,12 +10,12 @@ use Rattle.expr.specs.Bound.{BoundExpr}
 use Rattle.expr.specs.BoundQuery.{BoundItem, BoundQuery}
 use Rattle.scope.specs.declared.error.BindError.{BindError}
 use Rattle.scope.specs.Entry.{Entry}
-use Rattle.scope.specs.Lookup.{everywhere}
+use Rattle.scope.specs.Lookup.{everywhere, find_column}
 use Rattle.typing.specs.Clauses.{clause_error, is_grouped}
 use Rattle.catalog.specs.Catalog.{Catalog}
-use Rattle.resolve.specs.BoundQueries.{bound_columns, bound_condition, bound_ons, bound_parts, bound_query, bound_select}
+use Rattle.resolve.specs.BoundQueries.{bound_condition, bound_ons, bound_parts, bound_query, bound_select}
 use Rattle.resolve.specs.Entries.{entries}
-use Rattle.resolve.specs.OrderBy.{output_keys}
+use Rattle.resolve.specs.OrderBy.{output_key}
 use Rattle.resolve.specs.Resolved.{Bound, bound, bound_with, checked, ordered, unless_fault, with_order}
 use Rattle.resolve.proofs.EntryTables.{given}
 use Rattle.access.specs.Access.{RequiredPrivilege, denial}
@@ -25,16 +26,16 @@ use Rattle.analysis.specs.Analysis.{admitted, admitted_query, permitted, query_r
 
 pub record HasParts (es : List Entry) (q : ast.Query) (b : BoundQuery) : Type 0 where
   pub items : bound_select es (everywhere es) q.select ≡ Ok b.items
-  pub ons : bound_ons es 0 [] es ≡ Ok b.ons
+  pub ons : bound_ons es 0 es ≡ Ok b.ons
   pub filter : bound_condition es (everywhere es) q.filter ≡ Ok b.filter
-  pub group_by : bound_columns es (everywhere es) [] q.group_by ≡ Ok b.group_by
+  pub group_by : on_each (find_column es (everywhere es)) q.group_by ≡ Ok b.group_by
   pub having : bound_condition es (everywhere es) q.having ≡ Ok b.having
   pub grouped : is_grouped es q ≡ b.is_grouped
 
 has_parts : (es : List Entry) (q : ast.Query) (grouped : Bool) (limit : Option ℕ) (items : Result (List BoundItem) BindError) (ons : Result (List (Option BoundExpr)) BindError)
     (filter : Result (Option BoundExpr) BindError) (group_by : Result (List ColumnId) BindError) (having : Result (Option BoundExpr) BindError) (b : BoundQuery)
-    → bound_select es (everywhere es) q.select ≡ items → bound_ons es 0 [] es ≡ ons → bound_condition es (everywhere es) q.filter ≡ filter
-    → bound_columns es (everywhere es) [] q.group_by ≡ group_by → bound_condition es (everywhere es) q.having ≡ having → is_grouped es q ≡ grouped
+    → bound_select es (everywhere es) q.select ≡ items → bound_ons es 0 es ≡ ons → bound_condition es (everywhere es) q.filter ≡ filter
+    → on_each (find_column es (everywhere es)) q.group_by ≡ group_by → bound_condition es (everywhere es) q.having ≡ having → is_grouped es q ≡ grouped
     → bound_parts grouped limit items ons filter group_by having ≡ Ok b → HasParts es q b
 has_parts es q grouped limit (Err fault) ons filter group_by having b i o f g h d e = absurd (cc)
 has_parts es q grouped limit (Ok items) (Err fault) filter group_by having b i o f g h d e = absurd (cc)
@@ -66,7 +67,7 @@ is_made cat q b e =
     let es = found.0 in
     let columns = given (checked es q) b (bound_query es q) found.2 in
     let types = given (ordered es q) b (unless_fault (clause_error es columns.0.group_by q) columns.0) columns.2 in
-    let keys = given (λ keys. Ok record { entries = es; query = with_order types.0 keys }) b (output_keys types.0.items [] q.order_by) types.2 in
+    let keys = given (λ keys. Ok record { entries = es; query = with_order types.0 keys }) b (on_each (output_key types.0.items) q.order_by) types.2 in
     let checks = no_fault (clause_error es columns.0.group_by q) columns.0 types.0 types.1 in
     let parts = has_parts es q _ _ _ _ _ _ _ columns.0 refl refl refl refl refl refl columns.1 in
     subst (IsMade q) (ok_is (record { entries = es; query = with_order types.0 keys.0 }) b keys.2)

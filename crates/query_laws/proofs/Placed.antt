@@ -1,9 +1,9 @@
 -- The aggregates of an admitted query, and the columns beside them, are where they may be.
-use Rattle.std.proofs.Common.{◌≡◌, ℕ, ◌+◌, Bool, true, false, not, ◌&&◌, ◌||◌, if◌then◌else◌, List, [], ◌∷◌, ◌++◌, Option, Some, None, Result, Ok, refl, sym, ap, subst, ◌∙◌, true≢false}
+use Rattle.std.proofs.Common.{◌≡◌, ℕ, ◌+◌, Bool, true, false, not, ◌&&◌, ◌||◌, if◌then◌else◌, List, [], ◌∷◌, ◌++◌, map, Option, Some, None, Result, Ok, refl, sym, ap, subst, ◌∙◌, true≢false}
 use Rattle.std.specs.Prelude.{is_some, option_to_list}
 use Rattle.std.specs.List.{All, list_any}
 use Rattle.std.proofs.lemmas.List.Elements.{All-append, All-cons, All-nil, All-weaker}
-use Rattle.memory.specs.Results.{and_then}
+use Rattle.memory.specs.Results.{and_then, on_each}
 use Rattle.memory.proofs.Cases.{ok_is, some_is_not}
 use Rattle.value.specs.Columns.{Column}
 use Rattle.value.specs.declared.operators.Aggregate.{Aggregate}
@@ -20,11 +20,12 @@ use Rattle.scope.specs.declared.lookup.Scope.{Scope}
 use Rattle.scope.specs.Entry.{Entry}
 use Rattle.scope.specs.Lookup.{everywhere, find_column, on_scope}
 use Rattle.scope.specs.BoundExprs.{bound_arms, bound_expr, bound_members, bound_otherwise, pair}
-use Rattle.typing.specs.Offsets.{least_of}
+use Rattle.typing.specs.Offsets.{least_of, least_of_all}
 use Rattle.typing.specs.Grouping.{misplaced, misplaced_arms, misplaced_call, misplaced_column, misplaced_members, misplaced_otherwise}
-use Rattle.typing.specs.Clauses.{are_grouped, every_grouped, first_fault, is_grouped, misplaced_by, misplaced_condition, misplaced_in, misplaced_items, misplaced_ons, misplaced_select, misplaced_star, mistyped_in}
-use Rattle.resolve.specs.BoundQueries.{bound_columns, bound_condition, bound_item, bound_items, bound_ons, bound_select, column_items, every_item, heading_or}
+use Rattle.typing.specs.Clauses.{are_grouped, every_grouped, first_fault, is_grouped, misplaced_by, misplaced_condition, misplaced_in, misplaced_ons, misplaced_select, misplaced_star, mistyped_in}
+use Rattle.resolve.specs.BoundQueries.{bound_condition, bound_item, bound_ons, bound_select, column_items, every_item, heading_or}
 use Rattle.resolve.specs.Resolved.{Bound}
+use Rattle.scope.proofs.Found.{first_given, pair_given}
 use Rattle.resolve.proofs.EntryTables.{given}
 use Rattle.query_laws.specs.Admitted.{AggregatesArePlaced, HasPlainArgument, IsOfGroups, IsPlaced, IsPlain}
 use Rattle.query_laws.specs.Outside.{all_outside, arms_outside, otherwise_outside, outside_aggregates}
@@ -67,10 +68,6 @@ module _ (group_by : List ColumnId) where
   EachFits b [] = Unit {0}
   EachFits b (x ∷ xs) = FitsExpr b x × EachFits b xs
 
-  one_later : (b : Bool) (xs : List BoundExpr) (x : BoundExpr) → EachFits b xs → FitsExpr b x → EachFits b (xs ++ x ∷ [])
-  one_later b [] x h l = (l, tt)
-  one_later b (y ∷ ys) x h l = (h.0, one_later b ys x h.1 l)
-
   all_fit : (b : Bool) (xs : List BoundExpr) → EachFits b xs → Fits b (all_outside (bound_exprs_of xs)) (all_aggregates (bound_exprs_of xs))
   all_fit b [] h = none_fit b
   all_fit b (x ∷ xs) h = both_fit b (outside_aggregates x) (all_outside (bound_exprs_of xs)) (aggregates x) (all_aggregates (bound_exprs_of xs)) h.0 (all_fit b xs h.1)
@@ -78,10 +75,6 @@ module _ (group_by : List ColumnId) where
   abbrev ArmsFit : Bool → List (BoundExpr × BoundExpr) → Type 0
   ArmsFit b [] = Unit {0}
   ArmsFit b (a ∷ as_) = FitsExpr b a.0 × FitsExpr b a.1 × ArmsFit b as_
-
-  arm_later : (b : Bool) (xs : List (BoundExpr × BoundExpr)) (a : BoundExpr × BoundExpr) → ArmsFit b xs → FitsExpr b a.0 → FitsExpr b a.1 → ArmsFit b (xs ++ a ∷ [])
-  arm_later b [] a h k l = (k, l, tt)
-  arm_later b (y ∷ ys) a h k l = (h.0, h.1, arm_later b ys a h.2 k l)
 
   arms_fit : (b : Bool) (xs : List (BoundExpr × BoundExpr)) → ArmsFit b xs → Fits b (arms_outside (bound_arms_of xs)) (arms_aggregates (bound_arms_of xs))
   arms_fit b [] h = none_fit b
@@ -150,51 +143,34 @@ module _ (group_by : List ColumnId) where
       expr_fits b (ast.In negated n values e) same clear = after b (bound_expr entries scope e) _ (λ x is. it_fits b (bound.In negated n values x) (expr_fits b e same clear x is))
       expr_fits b (ast.IsNull negated n e) same clear = after b (bound_expr entries scope e) _ (λ x is. it_fits b (bound.IsNull negated n x) (expr_fits b e same clear x is))
       expr_fits b (ast.Not n e) same clear = after b (bound_expr entries scope e) _ (λ x is. it_fits b (bound.Not n x) (expr_fits b e same clear x is))
-      expr_fits b (ast.And n ms) same clear = after b (bound_members entries scope [] ms) _ (λ xs is. it_fits b (bound.And n (bound_exprs_of xs)) (all_fit b xs (members_fit b None [] ms xs same clear tt is)))
-      expr_fits b (ast.Or n ms) same clear = after b (bound_members entries scope [] ms) _ (λ xs is. it_fits b (bound.Or n (bound_exprs_of xs)) (all_fit b xs (members_fit b None [] ms xs same clear tt is)))
+      expr_fits b (ast.And n ms) same clear = after b (bound_members entries scope ms) _ (λ xs is. it_fits b (bound.And n (bound_exprs_of xs)) (all_fit b xs (members_fit b ms xs same clear is)))
+      expr_fits b (ast.Or n ms) same clear = after b (bound_members entries scope ms) _ (λ xs is. it_fits b (bound.Or n (bound_exprs_of xs)) (all_fit b xs (members_fit b ms xs same clear is)))
       expr_fits b (ast.Cast n to e) same clear = after b (bound_expr entries scope e) _ (λ x is. it_fits b (bound.Cast n to x) (expr_fits b e same clear x is))
       expr_fits b (ast.Case n as_ o) same clear =
-          let parts = neither (misplaced_arms entries checked group_by b None as_) (misplaced_otherwise entries checked group_by b o) clear in
-          after b (bound_arms entries scope [] as_) _ (λ xs is_xs. after b (bound_otherwise entries scope o) _ (λ y is_y.
+          let parts = neither (misplaced_arms entries checked group_by b as_) (misplaced_otherwise entries checked group_by b o) clear in
+          after b (bound_arms entries scope as_) _ (λ xs is_xs. after b (bound_otherwise entries scope o) _ (λ y is_y.
           it_fits b (bound.Case n (bound_arms_of xs) y)
-          (both_fit b (arms_outside (bound_arms_of xs)) (otherwise_outside y) (arms_aggregates (bound_arms_of xs)) (otherwise_aggregates y) (arms_fit b xs (each_arm b None [] as_ xs same parts.0 tt is_xs)) (otherwise_fits b o y same parts.1 is_y))))
+          (both_fit b (arms_outside (bound_arms_of xs)) (otherwise_outside y) (arms_aggregates (bound_arms_of xs)) (otherwise_aggregates y) (arms_fit b xs (each_arm b as_ xs same parts.0 is_xs)) (otherwise_fits b o y same parts.1 is_y))))
       expr_fits b (ast.CountStar n) same clear = it_fits b (bound.CountStar n) (count_fits b n clear)
       expr_fits b (ast.Call f n e) same clear =
           after b (bound_expr entries scope e) _ (λ x is. it_fits b (bound.Call f n x) (call_fits b f n x (misplaced entries checked group_by false e) clear (λ inner. expr_fits false e never inner x is)))
 
-      members_fit : (b : Bool) (before : Option ℕ) (known : List BoundExpr) (ms : ast.Exprs) (xs : List BoundExpr) → Agrees b → misplaced_members entries checked group_by b before ms ≡ None → EachFits b known → bound_members entries scope known ms ≡ Ok xs → EachFits b xs
-      members_fit b before known ast.no_expr xs same clear h e = subst (EachFits b) (ok_is known xs e) h
-      members_fit b before known (ast.one_expr m ms) xs same clear h e =
-          let step = given (λ x. bound_members entries scope (known ++ x ∷ []) ms) xs (bound_expr entries scope m) e in
-          let parts = neither before (misplaced entries checked group_by b m) (members_clear b (least_of before (misplaced entries checked group_by b m)) ms clear) in
-          members_fit b (least_of before (misplaced entries checked group_by b m)) (known ++ step.0 ∷ []) ms xs same clear (one_later b known step.0 h (expr_fits b m same parts.1 step.0 step.1)) step.2
+      members_fit : (b : Bool) (ms : ast.Exprs) (xs : List BoundExpr) → Agrees b → misplaced_members entries checked group_by b ms ≡ None → bound_members entries scope ms ≡ Ok xs → EachFits b xs
+      members_fit b ast.no_expr xs same clear e = subst (EachFits b) (ok_is [] xs e) tt
+      members_fit b (ast.one_expr m ms) xs same clear e =
+          let step = first_given (bound_expr entries scope m) (bound_members entries scope ms) xs e in
+          let parts = neither (misplaced entries checked group_by b m) (misplaced_members entries checked group_by b ms) clear in
+          subst (EachFits b) step.4 (expr_fits b m same parts.0 step.0 step.2, members_fit b ms step.1 same parts.1 step.3)
 
-      -- no member before has an offset
-      members_clear : (b : Bool) (before : Option ℕ) (ms : ast.Exprs) → misplaced_members entries checked group_by b before ms ≡ None → before ≡ None
-      members_clear b before ast.no_expr e = e
-      members_clear b before (ast.one_expr m ms) e = (neither before (misplaced entries checked group_by b m) (members_clear b (least_of before (misplaced entries checked group_by b m)) ms e)).0
-
-      each_arm : (b : Bool) (before : Option ℕ) (known : List (BoundExpr × BoundExpr)) (as_ : ast.Arms) (xs : List (BoundExpr × BoundExpr)) → Agrees b → misplaced_arms entries checked group_by b before as_ ≡ None → ArmsFit b known → bound_arms entries scope known as_ ≡ Ok xs → ArmsFit b xs
-      each_arm b before known ast.no_arm xs same clear h e = subst (ArmsFit b) (ok_is known xs e) h
-      each_arm b before known (ast.one_arm when result as_) xs same clear h e =
-          let step = given (λ p. bound_arms entries scope (known ++ p ∷ []) as_) xs (pair (bound_expr entries scope when) (bound_expr entries scope result)) e in
-          let first = given (λ x. and_then (bound_expr entries scope result) (λ y. Ok (x, y))) step.0 (bound_expr entries scope when) step.1 in
-          let second = given (λ y. Ok (first.0, y)) step.0 (bound_expr entries scope result) first.2 in
-          let is : (first.0, second.0) ≡ step.0 = ok_is (first.0, second.0) step.0 second.2 in
-          let arm = least_of (misplaced entries checked group_by b when) (misplaced entries checked group_by b result) in
-          let parts = neither before arm (arms_clear b (least_of before arm) as_ clear) in
-          let both = neither (misplaced entries checked group_by b when) (misplaced entries checked group_by b result) parts.1 in
-          each_arm b (least_of before arm) (known ++ step.0 ∷ []) as_ xs same clear
-          (arm_later b known step.0 h
-          (subst (λ (p : BoundExpr × BoundExpr). FitsExpr b p.0) is (expr_fits b when same both.0 first.0 first.1))
-          (subst (λ (p : BoundExpr × BoundExpr). FitsExpr b p.1) is (expr_fits b result same both.1 second.0 second.1)))
-          step.2
-
-      arms_clear : (b : Bool) (before : Option ℕ) (as_ : ast.Arms) → misplaced_arms entries checked group_by b before as_ ≡ None → before ≡ None
-      arms_clear b before ast.no_arm e = e
-      arms_clear b before (ast.one_arm when result as_) e =
-          let arm = least_of (misplaced entries checked group_by b when) (misplaced entries checked group_by b result) in
-          (neither before arm (arms_clear b (least_of before arm) as_ e)).0
+      each_arm : (b : Bool) (as_ : ast.Arms) (xs : List (BoundExpr × BoundExpr)) → Agrees b → misplaced_arms entries checked group_by b as_ ≡ None → bound_arms entries scope as_ ≡ Ok xs → ArmsFit b xs
+      each_arm b ast.no_arm xs same clear e = subst (ArmsFit b) (ok_is [] xs e) tt
+      each_arm b (ast.one_arm when result as_) xs same clear e =
+          let step = first_given (pair (bound_expr entries scope when) (bound_expr entries scope result)) (bound_arms entries scope as_) xs e in
+          let arm = pair_given (bound_expr entries scope when) (bound_expr entries scope result) step.0 step.2 in
+          let parts = neither (least_of (misplaced entries checked group_by b when) (misplaced entries checked group_by b result)) (misplaced_arms entries checked group_by b as_) clear in
+          let both = neither (misplaced entries checked group_by b when) (misplaced entries checked group_by b result) parts.0 in
+          subst (ArmsFit b) (ap (λ (p : BoundExpr × BoundExpr). p ∷ step.1) arm.4 ∙ step.4)
+          (expr_fits b when same both.0 arm.0 arm.2, expr_fits b result same both.1 arm.1 arm.3, each_arm b as_ step.1 same parts.1 step.3)
 
       otherwise_fits : (b : Bool) (o : ast.Otherwise) (y : BoundOtherwise) → Agrees b → misplaced_otherwise entries checked group_by b o ≡ None → bound_otherwise entries scope o ≡ Ok y → Fits b (otherwise_outside y) (otherwise_aggregates y)
       otherwise_fits b ast.Nothing y same clear e = subst (λ (y : BoundOtherwise). Fits b (otherwise_outside y) (otherwise_aggregates y)) (ok_is bound.Nothing y e) (none_fit b)
@@ -222,26 +198,16 @@ module _ (group_by : List ColumnId) where
     abbrev OnFits : Option BoundExpr → Type 0
     OnFits on = All (FitsExpr false) (option_to_list on)
 
-    ons_clear : (before : Option ℕ) (more : List Entry) → misplaced_ons entries group_by before more ≡ None → before ≡ None
-    ons_clear before [] e = e
-    ons_clear before (y ∷ more) e = (neither before (misplaced_condition entries group_by false y.on) (ons_clear (least_of before (misplaced_condition entries group_by false y.on)) more e)).0
-
-    ons_fit : (before : Option ℕ) (n : ℕ) (known : List (Option BoundExpr)) (more : List Entry) (ons : List (Option BoundExpr)) → misplaced_ons entries group_by before more ≡ None → All OnFits known → bound_ons entries n known more ≡ Ok ons → All OnFits ons
-    ons_fit before n known [] ons clear h e = subst (λ (ons : List (Option BoundExpr)). All OnFits ons) (ok_is known ons e) h
-    ons_fit before n known (y ∷ more) ons clear h e =
-        let here = misplaced_condition entries group_by false y.on in
-        let step = given (λ x. bound_ons entries (n + 1) (known ++ x ∷ []) more) ons (bound_condition entries (on_scope n y) y.on) e in
-        let parts = neither before here (ons_clear (least_of before here) more clear) in
-        ons_fit (least_of before here) (n + 1) (known ++ step.0 ∷ []) more ons clear
-        (All-append OnFits known (step.0 ∷ []) h (the_one OnFits step.0 (condition_fits (on_scope n y) false y.on step.0 (λ e. absurd (true≢false (sym e))) parts.1 step.1))) step.2
+    ons_fit : (n : ℕ) (more : List Entry) (ons : List (Option BoundExpr)) → least_of_all (map (λ e. misplaced_condition entries group_by false e.on) more) ≡ None → bound_ons entries n more ≡ Ok ons → All OnFits ons
+    ons_fit n [] ons clear e = subst (λ (ons : List (Option BoundExpr)). All OnFits ons) (ok_is [] ons e) (All-nil OnFits)
+    ons_fit n (y ∷ more) ons clear e =
+        let step = first_given (bound_condition entries (on_scope n y) y.on) (bound_ons entries (n + 1) more) ons e in
+        let parts = neither (misplaced_condition entries group_by false y.on) (least_of_all (map (λ (e : Entry). misplaced_condition entries group_by false e.on) more)) clear in
+        subst (λ (ons : List (Option BoundExpr)). All OnFits ons) step.4
+        (All-cons OnFits step.0 step.1 (condition_fits (on_scope n y) false y.on step.0 (λ e. absurd (true≢false (sym e))) parts.0 step.2) (ons_fit (n + 1) more step.1 parts.1 step.3))
 
     abbrev ItemFits : Bool → BoundItem → Type 0
     ItemFits b i = FitsExpr b i.value
-
-    items_clear : (b : Bool) (before : Option ℕ) (is : List ast.SelectItem) → misplaced_items entries group_by b before is ≡ None → before ≡ None
-    items_clear b before [] e = e
-    items_clear b before (i ∷ more) e =
-        (neither before (misplaced entries (everywhere entries) group_by b i.value) (items_clear b (least_of before (misplaced entries (everywhere entries) group_by b i.value)) more e)).0
 
     item_fits : (b : Bool) (i : ast.SelectItem) (x : BoundItem) → misplaced entries (everywhere entries) group_by b i.value ≡ None → bound_item entries (everywhere entries) i ≡ Ok x → ItemFits b x
     item_fits b i x clear e =
@@ -249,13 +215,12 @@ module _ (group_by : List ColumnId) where
         let made : BoundItem = record { heading = heading_or i.alias i.value; value = step.0 } in
         subst (ItemFits b) (ok_is made x step.2) (expr_fits entries (everywhere entries) (everywhere entries) b i.value (λ e. refl) clear step.0 step.1)
 
-    items_fit : (b : Bool) (before : Option ℕ) (known : List BoundItem) (is : List ast.SelectItem) (xs : List BoundItem) → misplaced_items entries group_by b before is ≡ None → All (ItemFits b) known → bound_items entries (everywhere entries) known is ≡ Ok xs → All (ItemFits b) xs
-    items_fit b before known [] xs clear h e = subst (λ (xs : List BoundItem). All (ItemFits b) xs) (ok_is known xs e) h
-    items_fit b before known (i ∷ more) xs clear h e =
-        let here = misplaced entries (everywhere entries) group_by b i.value in
-        let step = given (λ x. bound_items entries (everywhere entries) (known ++ x ∷ []) more) xs (bound_item entries (everywhere entries) i) e in
-        let parts = neither before here (items_clear b (least_of before here) more clear) in
-        items_fit b (least_of before here) (known ++ step.0 ∷ []) more xs clear (All-append (ItemFits b) known (step.0 ∷ []) h (the_one (ItemFits b) step.0 (item_fits b i step.0 parts.1 step.1))) step.2
+    items_fit : (b : Bool) (is : List ast.SelectItem) (xs : List BoundItem) → least_of_all (map (λ i. misplaced entries (everywhere entries) group_by b i.value) is) ≡ None → on_each (bound_item entries (everywhere entries)) is ≡ Ok xs → All (ItemFits b) xs
+    items_fit b [] xs clear e = subst (λ (xs : List BoundItem). All (ItemFits b) xs) (ok_is [] xs e) (All-nil (ItemFits b))
+    items_fit b (i ∷ more) xs clear e =
+        let step = first_given (bound_item entries (everywhere entries) i) (on_each (bound_item entries (everywhere entries)) more) xs e in
+        let parts = neither (misplaced entries (everywhere entries) group_by b i.value) (least_of_all (map (λ (i : ast.SelectItem). misplaced entries (everywhere entries) group_by b i.value) more)) clear in
+        subst (λ (xs : List BoundItem). All (ItemFits b) xs) step.4 (All-cons (ItemFits b) step.0 step.1 (item_fits b i step.0 parts.0 step.2) (items_fit b more step.1 parts.1 step.3))
 
     -- all columns of all entries
     first_holds : (a b : Bool) → (a && b) ≡ true → (a ≡ true) × (b ≡ true)
@@ -291,7 +256,7 @@ module _ (group_by : List ColumnId) where
     select_fits : (b : Bool) (s : ast.SelectList) (xs : List BoundItem) → misplaced_select entries group_by b s ≡ None → bound_select entries (everywhere entries) s ≡ Ok xs → All (ItemFits b) xs
     select_fits b (ast.All offset) xs clear e =
         subst (λ (xs : List BoundItem). All (ItemFits b) xs) (ok_is (every_item 0 entries) xs e) (star_fits b (every_grouped group_by 0 entries) offset refl clear)
-    select_fits b (ast.Items items) xs clear e = items_fit b None [] items xs clear (All-nil (ItemFits b)) e
+    select_fits b (ast.Items items) xs clear e = items_fit b items xs clear e
 
 -- ---- a query that is not grouped
 
@@ -299,7 +264,7 @@ none_of : (a b : Bool) → (a || b) ≡ false → (a ≡ false) × (b ≡ false)
 none_of true b e = absurd (true≢false e)
 none_of false b e = (refl, e)
 
-no_columns : (entries : List Entry) (cs : List ast.ColumnRef) (ids : List ColumnId) → not (is_empty cs) ≡ false → bound_columns entries (everywhere entries) [] cs ≡ Ok ids → ids ≡ []
+no_columns : (entries : List Entry) (cs : List ast.ColumnRef) (ids : List ColumnId) → not (is_empty cs) ≡ false → on_each (find_column entries (everywhere entries)) cs ≡ Ok ids → ids ≡ []
 no_columns entries [] ids h e = sym (ok_is [] ids e)
 no_columns entries (c ∷ cs) ids h e = absurd (true≢false h)
 
@@ -316,7 +281,7 @@ is_placed q b made =
     let grouped = is_grouped es q in
     let is : grouped ≡ b.query.is_grouped = made.parts.grouped in
     let clear : misplaced_by es keys grouped q ≡ None = no_fault (misplaced_in es keys q) (mistyped_in es q) made.right in
-    let ons = misplaced_ons es keys None es in
+    let ons = misplaced_ons es keys in
     let filter = misplaced_condition es keys false q.filter in
     let having = misplaced_condition es keys grouped q.having in
     let first = neither (misplaced_select es keys grouped q.select) (least_of ons (least_of filter having)) clear in
@@ -325,7 +290,7 @@ is_placed q b made =
     let items_are = select_fits keys es grouped q.select b.query.items first.0 made.parts.items in
     let having_is = condition_fits keys es (everywhere es) grouped q.having b.query.having (λ e. refl) third.1 made.parts.having in
     record {
-      ons = ons_fit keys es None 0 [] es b.query.ons second.0 (All-nil _) made.parts.ons;
+      ons = ons_fit keys es 0 es b.query.ons second.0 made.parts.ons;
       filter = condition_fits keys es (everywhere es) false q.filter b.query.filter (λ e. refl) third.0 made.parts.filter;
       items = subst (λ g. All (λ (i : BoundItem). IsOfPlace keys g i.value) b.query.items) is (All-weaker (ItemFits keys es grouped) (λ (i : BoundItem). IsOfPlace keys grouped i.value) (λ i. of_place keys grouped i.value) b.query.items items_are);
       having = subst (λ g. All (IsOfPlace keys g) (option_to_list b.query.having)) is (All-weaker (FitsExpr keys grouped) (IsOfPlace keys grouped) (of_place keys grouped) (option_to_list b.query.having) having_is);

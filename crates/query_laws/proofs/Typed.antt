@@ -1,8 +1,9 @@
 -- The parts of an admitted query have types by the rules.
-use Rattle.std.proofs.Common.{◌≡◌, ℕ, ◌+◌, Bool, true, false, List, [], ◌∷◌, ◌++◌, Option, Some, None, Ok, Err, refl, subst}
+use Rattle.std.proofs.Common.{◌≡◌, ℕ, ◌+◌, Bool, true, false, List, [], ◌∷◌, ◌++◌, map, Option, Some, None, Ok, Err, refl, subst}
 use Rattle.std.specs.Prelude.{option_to_list}
 use Rattle.std.specs.List.{All}
 use Rattle.std.proofs.lemmas.List.Elements.{All-append, All-cons, All-nil}
+use Rattle.memory.specs.Results.{on_each}
 use Rattle.memory.proofs.Cases.{ok_is}
 use Rattle.value.specs.Columns.{Column}
 use Rattle.value.specs.declared.types.ColType.TheVariants.{Boolean}
@@ -15,13 +16,14 @@ use Rattle.scope.specs.declared.lookup.Scope.{Scope}
 use Rattle.scope.specs.Entry.{Entry}
 use Rattle.scope.specs.Lookup.{everywhere, on_scope}
 use Rattle.scope.specs.BoundExprs.{bound_expr}
-use Rattle.typing.specs.Offsets.{least_of}
-use Rattle.typing.specs.Clauses.{first_fault, misplaced_in, mistyped, mistyped_condition, mistyped_in, mistyped_items, mistyped_ons, mistyped_select}
+use Rattle.typing.specs.Offsets.{least_of, least_of_all}
+use Rattle.typing.specs.Clauses.{first_fault, misplaced_in, mistyped, mistyped_condition, mistyped_in, mistyped_ons, mistyped_select}
 use Rattle.typing.specs.Typing.{TypeOf, Typed, column_type, fits, type_if, typed, typed_condition}
 use Rattle.type_laws.proofs.Admitted.{types_by_rules}
 use Rattle.type_laws.proofs.Fitting.{fits_by_test}
-use Rattle.resolve.specs.BoundQueries.{bound_condition, bound_item, bound_items, bound_ons, bound_select, column_items, every_item, heading_or}
+use Rattle.resolve.specs.BoundQueries.{bound_condition, bound_item, bound_ons, bound_select, column_items, every_item, heading_or}
 use Rattle.resolve.specs.Resolved.{Bound}
+use Rattle.scope.proofs.Found.{first_given}
 use Rattle.resolve.proofs.EntryTables.{given}
 use Rattle.query_laws.specs.Typed.{AdmittedAreTyped, HasSomeType, IsCondition, IsTyped}
 use Rattle.query_laws.proofs.Found.{the_one}
@@ -62,17 +64,12 @@ module _ (entries : List Entry) where
       let step = given (λ y. Ok (Some y)) x (bound_expr entries scope c.predicate) e in
       subst AreConditions (ok_is (Some step.0) x step.2) (the_one (IsCondition entries) step.0 (condition_typed scope c.offset c.predicate step.0 clear step.1))
 
-  ons_clear : (before : Option ℕ) (n : ℕ) (more : List Entry) → mistyped_ons entries n before more ≡ None → before ≡ None
-  ons_clear before n [] e = e
-  ons_clear before n (y ∷ more) e = (neither before (mistyped_condition entries (on_scope n y) y.on) (ons_clear (least_of before (mistyped_condition entries (on_scope n y) y.on)) (n + 1) more e)).0
-
-  ons_typed : (before : Option ℕ) (n : ℕ) (known : List (Option BoundExpr)) (more : List Entry) (ons : List (Option BoundExpr)) → mistyped_ons entries n before more ≡ None → All AreConditions known → bound_ons entries n known more ≡ Ok ons → All AreConditions ons
-  ons_typed before n known [] ons clear h e = subst (λ (ons : List (Option BoundExpr)). All AreConditions ons) (ok_is known ons e) h
-  ons_typed before n known (y ∷ more) ons clear h e =
-      let here = mistyped_condition entries (on_scope n y) y.on in
-      let step = given (λ x. bound_ons entries (n + 1) (known ++ x ∷ []) more) ons (bound_condition entries (on_scope n y) y.on) e in
-      let parts = neither before here (ons_clear (least_of before here) (n + 1) more clear) in
-      ons_typed (least_of before here) (n + 1) (known ++ step.0 ∷ []) more ons clear (All-append AreConditions known (step.0 ∷ []) h (the_one AreConditions step.0 (some_typed (on_scope n y) y.on step.0 parts.1 step.1))) step.2
+  ons_typed : (n : ℕ) (more : List Entry) (ons : List (Option BoundExpr)) → mistyped_ons entries n more ≡ None → bound_ons entries n more ≡ Ok ons → All AreConditions ons
+  ons_typed n [] ons clear e = subst (λ (ons : List (Option BoundExpr)). All AreConditions ons) (ok_is [] ons e) (All-nil AreConditions)
+  ons_typed n (y ∷ more) ons clear e =
+      let step = first_given (bound_condition entries (on_scope n y) y.on) (bound_ons entries (n + 1) more) ons e in
+      let parts = neither (mistyped_condition entries (on_scope n y) y.on) (mistyped_ons entries (n + 1) more) clear in
+      subst (λ (ons : List (Option BoundExpr)). All AreConditions ons) step.4 (All-cons AreConditions step.0 step.1 (some_typed (on_scope n y) y.on step.0 parts.0 step.2) (ons_typed (n + 1) more step.1 parts.1 step.3))
 
   -- ---- items
 
@@ -85,17 +82,12 @@ module _ (entries : List Entry) where
       let made : BoundItem = record { heading = heading_or i.alias i.value; value = step.0 } in
       subst IsTypedItem (ok_is made x step.2) (expr_typed (everywhere entries) i.value step.0 clear step.1)
 
-  items_clear : (before : Option ℕ) (is : List ast.SelectItem) → mistyped_items entries before is ≡ None → before ≡ None
-  items_clear before [] e = e
-  items_clear before (i ∷ more) e = (neither before (mistyped (typed entries (everywhere entries) i.value)) (items_clear (least_of before (mistyped (typed entries (everywhere entries) i.value))) more e)).0
-
-  items_typed : (before : Option ℕ) (known : List BoundItem) (is : List ast.SelectItem) (xs : List BoundItem) → mistyped_items entries before is ≡ None → All IsTypedItem known → bound_items entries (everywhere entries) known is ≡ Ok xs → All IsTypedItem xs
-  items_typed before known [] xs clear h e = subst (λ (xs : List BoundItem). All IsTypedItem xs) (ok_is known xs e) h
-  items_typed before known (i ∷ more) xs clear h e =
-      let here = mistyped (typed entries (everywhere entries) i.value) in
-      let step = given (λ x. bound_items entries (everywhere entries) (known ++ x ∷ []) more) xs (bound_item entries (everywhere entries) i) e in
-      let parts = neither before here (items_clear (least_of before here) more clear) in
-      items_typed (least_of before here) (known ++ step.0 ∷ []) more xs clear (All-append IsTypedItem known (step.0 ∷ []) h (the_one IsTypedItem step.0 (item_typed i step.0 parts.1 step.1))) step.2
+  items_typed : (is : List ast.SelectItem) (xs : List BoundItem) → least_of_all (map (λ i. mistyped (typed entries (everywhere entries) i.value)) is) ≡ None → on_each (bound_item entries (everywhere entries)) is ≡ Ok xs → All IsTypedItem xs
+  items_typed [] xs clear e = subst (λ (xs : List BoundItem). All IsTypedItem xs) (ok_is [] xs e) (All-nil IsTypedItem)
+  items_typed (i ∷ more) xs clear e =
+      let step = first_given (bound_item entries (everywhere entries) i) (on_each (bound_item entries (everywhere entries)) more) xs e in
+      let parts = neither (mistyped (typed entries (everywhere entries) i.value)) (least_of_all (map (λ i. mistyped (typed entries (everywhere entries) i.value)) more)) clear in
+      subst (λ (xs : List BoundItem). All IsTypedItem xs) step.4 (All-cons IsTypedItem step.0 step.1 (item_typed i step.0 parts.0 step.2) (items_typed more step.1 parts.1 step.3))
 
   -- a column has the type of its column
   each_column : (n k : ℕ) (cs : List Column) → All IsTypedItem (column_items n k cs)
@@ -110,7 +102,7 @@ module _ (entries : List Entry) where
 
   select_typed : (s : ast.SelectList) (xs : List BoundItem) → mistyped_select entries s ≡ None → bound_select entries (everywhere entries) s ≡ Ok xs → All IsTypedItem xs
   select_typed (ast.All offset) xs clear e = subst (λ (xs : List BoundItem). All IsTypedItem xs) (ok_is (every_item 0 entries) xs e) (every_column 0 entries)
-  select_typed (ast.Items items) xs clear e = items_typed None [] items xs clear (All-nil IsTypedItem) e
+  select_typed (ast.Items items) xs clear e = items_typed items xs clear e
 
 -- ---- the law
 
@@ -118,7 +110,7 @@ is_typed : (q : ast.Query) (b : Bound) → IsMade q b → IsTyped b.entries b.qu
 is_typed q b made =
     let es = b.entries in
     let clear : mistyped_in es q ≡ None = no_fault (misplaced_in es b.query.group_by q) (mistyped_in es q) made.right in
-    let ons = mistyped_ons es 0 None es in
+    let ons = mistyped_ons es 0 es in
     let filter = mistyped_condition es (everywhere es) q.filter in
     let having = mistyped_condition es (everywhere es) q.having in
     let first = neither (mistyped_select es q.select) (least_of ons (least_of filter having)) clear in
@@ -126,7 +118,7 @@ is_typed q b made =
     let third = neither filter having second.1 in
     record {
       items = select_typed es q.select b.query.items first.0 made.parts.items;
-      ons = ons_typed es None 0 [] es b.query.ons second.0 (All-nil (AreConditions es)) made.parts.ons;
+      ons = ons_typed es 0 es b.query.ons second.0 made.parts.ons;
       filter = some_typed es (everywhere es) q.filter b.query.filter third.0 made.parts.filter;
       having = some_typed es (everywhere es) q.having b.query.having third.1 made.parts.having;
     }

@@ -1,5 +1,5 @@
 -- The entries of FROM are of tables of the catalogue.
-use Rattle.std.proofs.Common.{◌≡◌, ◌≤◌, ◌<◌, ◌+◌, arith, length, length-append, map, Bool, true, false, cond, List, [], ◌∷◌, ◌++◌, find, Option, Some, None, Result, Ok, Err, refl, sym, subst, ap, ◌∙◌}
+use Rattle.std.proofs.Common.{◌≡◌, ◌<◌, ◌+◌, arith, length, length-append, Bool, true, false, cond, List, [], ◌∷◌, ◌++◌, find, Option, Some, None, Result, Ok, Err, refl, sym, subst, ap, ◌∙◌}
 use Rattle.std.proofs.lemmas.Slice.Eq.{bytes_eq-Decides}
 use Rattle.std.specs.Str.{bytes_eq}
 use Rattle.value.specs.declared.refusal.Refusal.TheVariants as r
@@ -10,12 +10,14 @@ use Rattle.catalog.specs.Catalog.{Catalog, table_named}
 use Rattle.scope.specs.declared.error.BindError.{BindError}
 use Rattle.expr.specs.declared.query.OutputKey.{OutputKey}
 use Rattle.scope.specs.Entry.{Entry, fault}
-use Rattle.memory.specs.Results.{and_then}
+use Rattle.memory.specs.Results.{and_then, first_then, on_each}
+use Rattle.memory.proofs.Cases.{ok_is}
+use Rattle.scope.proofs.Found.{first_given}
 use Rattle.expr.specs.BoundQuery.{BoundQuery}
-use Rattle.resolve.specs.Entries.{JoinedTable, alias_of, entries, entries_in, entry_in, first_table, found_entry, is_used, joined, joined_by, with_item}
+use Rattle.resolve.specs.Entries.{JoinedTable, alias_of, entries, entries_in, entry_in, found_entry, is_used, item_tables, joined}
 use Rattle.typing.specs.Clauses.{clause_error}
 use Rattle.resolve.specs.BoundQueries.{bound_query}
-use Rattle.resolve.specs.OrderBy.{output_keys}
+use Rattle.resolve.specs.OrderBy.{output_key}
 use Rattle.resolve.specs.Resolved.{Bound, bound, bound_with, checked, ordered, unless_fault, with_order}
 use Rattle.resolve.specs.EntryTables.{AreTables, BindsTables}
 
@@ -48,37 +50,28 @@ module _ (cat : Catalog) where
       go true h = absurd (cc)
       go false h = let same : t ≡ e.table = cc in subst (λ (t : Table). table_named t.name cat ≡ Some t) same (by_own_name j.table.table t is)
 
-  one_more : (before : List Entry) (e : Entry) → AreTables cat before → table_named e.table.name cat ≡ Some e.table → AreTables cat (before ++ e ∷ [])
-  one_more [] e h is = (is, tt)
-  one_more (b ∷ before) e h is = (h.0, one_more before e h.1 is)
-
-  all_found : (before : List Entry) (js : List JoinedTable) (es : List Entry) → AreTables cat before → entries_in cat before js ≡ Ok es → AreTables cat es
-  all_found before [] es h e = let same : before ≡ es = cc in subst (AreTables cat) same h
-  all_found before (j ∷ more) es h e =
-      let step = given (λ e. entries_in cat (before ++ e ∷ []) more) es (entry_in cat before j) e in
-      all_found (before ++ step.0 ∷ []) more es (one_more before step.0 h (of_found before j step.0 _ refl step.1)) step.2
+  all_found : (before : List Entry) (js : List JoinedTable) (es : List Entry) → entries_in cat before js ≡ Ok es → AreTables cat es
+  all_found before [] es e = let same : [] ≡ es = ok_is [] es e in subst (AreTables cat) same tt
+  all_found before (j ∷ more) es e =
+      let step = given (λ e. first_then (Ok e) (entries_in cat (before ++ e ∷ []) more)) es (entry_in cat before j) e in
+      let rest = first_given (Ok step.0) (entries_in cat (before ++ step.0 ∷ []) more) es step.2 in
+      let same : step.0 ∷ rest.1 ≡ es = ap (λ e. e ∷ rest.1) (ok_is step.0 rest.0 rest.2) ∙ rest.4 in
+      subst (AreTables cat) same (of_found before j step.0 _ refl step.1, all_found (before ++ step.0 ∷ []) more rest.1 rest.3)
 
   -- ---- an entry for each table
 
-  entry_count : (before : List Entry) (js : List JoinedTable) (es : List Entry) → entries_in cat before js ≡ Ok es → length es ≡ length before + length js
-  entry_count before [] es e = let same : before ≡ es = cc in let n = ap length same in omega arith
+  entry_count : (before : List Entry) (js : List JoinedTable) (es : List Entry) → entries_in cat before js ≡ Ok es → length es ≡ length js
+  entry_count before [] es e = sym (ap length (ok_is [] es e))
   entry_count before (j ∷ more) es e =
-      let step = given (λ e. entries_in cat (before ++ e ∷ []) more) es (entry_in cat before j) e in
-      let n = entry_count (before ++ step.0 ∷ []) more es step.2 in
-      let m = length-append before (step.0 ∷ []) in
+      let step = given (λ e. first_then (Ok e) (entries_in cat (before ++ e ∷ []) more)) es (entry_in cat before j) e in
+      let rest = first_given (Ok step.0) (entries_in cat (before ++ step.0 ∷ []) more) es step.2 in
+      let n = entry_count (before ++ step.0 ∷ []) more rest.1 rest.3 in
+      let m = ap length rest.4 in
       omega arith
 
-no_fewer : (before : List JoinedTable) (from : List ast.FromItem) → length before ≤ length (joined before from)
-no_fewer before [] = omega arith
-no_fewer before (f ∷ more) =
-    let n = no_fewer (with_item before f) more in
-    let m = length-append (before ++ first_table (length before) f.first ∷ []) (map (joined_by (length before)) f.joins) in
-    let k = length-append before (first_table (length before) f.first ∷ []) in
-    omega arith
-
-some_joined : (from : List ast.FromItem) → 0 < length from → 0 < length (joined [] from)
+some_joined : (from : List ast.FromItem) → 0 < length from → 0 < length (joined 0 from)
 some_joined [] h = absurd (omega arith)
-some_joined (f ∷ more) h = let n = no_fewer (with_item [] f) more in omega arith
+some_joined (f ∷ more) h = let n = length-append (item_tables 0 f) (joined (0 + length (item_tables 0 f)) more) in omega arith
 
 -- binding keeps the entries
 of_keys : (es : List Entry) (q : BoundQuery) (b : Bound) (keys : List OutputKey) → ◌≡◌ {A = Result Bound BindError} (Ok record { entries = es; query = with_order q keys }) (Ok b) → es ≡ b.entries
@@ -88,19 +81,19 @@ same_entries : (es : List Entry) (q : ast.Query) (b : Bound) → bound_with q es
 same_entries es q b e =
     let columns = given (checked es q) b (bound_query es q) e in
     let types = given (ordered es q) b (unless_fault (clause_error es columns.0.group_by q) columns.0) columns.2 in
-    let keys = given (λ keys. Ok record { entries = es; query = with_order types.0 keys }) b (output_keys types.0.items [] q.order_by) types.2 in
+    let keys = given (λ keys. Ok record { entries = es; query = with_order types.0 keys }) b (on_each (output_key types.0.items) q.order_by) types.2 in
     of_keys es types.0 b keys.0 keys.2
 
 pub binds_tables : BindsTables
 binds_tables cat q b e =
     let found = given (bound_with q) b (entries cat q.from) e in
-    subst (AreTables cat) (same_entries found.0 q b found.2) (all_found cat [] (joined [] q.from) found.0 tt found.1)
+    subst (AreTables cat) (same_entries found.0 q b found.2) (all_found cat [] (joined 0 q.from) found.0 found.1)
 
 -- an entry for each table of FROM
-pub as_many_entries : (cat : Catalog) (q : ast.Query) (b : Bound) → bound cat q ≡ Ok b → length b.entries ≡ length (joined [] q.from)
+pub as_many_entries : (cat : Catalog) (q : ast.Query) (b : Bound) → bound cat q ≡ Ok b → length b.entries ≡ length (joined 0 q.from)
 as_many_entries cat q b e =
     let found = given (bound_with q) b (entries cat q.from) e in
-    let n = entry_count cat [] (joined [] q.from) found.0 found.1 in
+    let n = entry_count cat [] (joined 0 q.from) found.0 found.1 in
     let same = ap length (same_entries found.0 q b found.2) in
     omega arith
 

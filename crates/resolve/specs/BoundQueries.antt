@@ -11,7 +11,7 @@ use Rattle.expr.specs.Bound.{BoundExpr}
 use Rattle.scope.specs.declared.error.BindError.{BindError}
 use Rattle.scope.specs.declared.lookup.Scope.{Scope}
 use Rattle.scope.specs.Entry.{Entry}
-use Rattle.memory.specs.Results.{and_then}
+use Rattle.memory.specs.Results.{and_then, first_then, on_each}
 use Rattle.scope.specs.Lookup.{everywhere, find_column, on_scope}
 use Rattle.expr.specs.BoundQuery.{BoundItem, BoundQuery}
 use Rattle.scope.specs.BoundExprs.{bound_expr}
@@ -41,11 +41,6 @@ heading_or None e = own_heading e
 abbrev pub bound_item : List Entry → Scope → ast.SelectItem → Result BoundItem BindError
 bound_item entries scope i = and_then (bound_expr entries scope i.value) (λ e. Ok record { heading = heading_or i.alias i.value; value = e })
 
--- after those before
-abbrev pub bound_items : List Entry → Scope → List BoundItem → List ast.SelectItem → Result (List BoundItem) BindError
-bound_items entries scope known [] = Ok known
-bound_items entries scope known (i ∷ more) = and_then (bound_item entries scope i) (λ x. bound_items entries scope (known ++ x ∷ []) more)
-
 abbrev pub column_item : Column → ColumnId → BoundItem
 column_item c id = record { heading = c.name; value = bound.Column id }
 
@@ -61,7 +56,7 @@ every_item entry (e ∷ more) = column_items entry 0 e.table.columns ++ every_it
 
 abbrev pub bound_select : List Entry → Scope → ast.SelectList → Result (List BoundItem) BindError
 bound_select entries scope (ast.All offset) = Ok (every_item 0 entries)
-bound_select entries scope (ast.Items items) = bound_items entries scope [] items
+bound_select entries scope (ast.Items items) = on_each (bound_item entries scope) items
 
 -- ---- conditions
 
@@ -69,17 +64,10 @@ abbrev pub bound_condition : List Entry → Scope → Option ast.Condition → R
 bound_condition entries scope None = Ok None
 bound_condition entries scope (Some c) = and_then (bound_expr entries scope c.predicate) (λ e. Ok (Some e))
 
--- the ON of each entry, after those before
-abbrev pub bound_ons : List Entry → ℕ → List (Option BoundExpr) → List Entry → Result (List (Option BoundExpr)) BindError
-bound_ons entries number known [] = Ok known
-bound_ons entries number known (e ∷ more) = and_then (bound_condition entries (on_scope number e) e.on) (λ x. bound_ons entries (number + 1) (known ++ x ∷ []) more)
-
--- ---- GROUP BY
-
--- after those before
-abbrev pub bound_columns : List Entry → Scope → List ColumnId → List ast.ColumnRef → Result (List ColumnId) BindError
-bound_columns entries scope known [] = Ok known
-bound_columns entries scope known (c ∷ more) = and_then (find_column entries scope c) (λ id. bound_columns entries scope (known ++ id ∷ []) more)
+-- the ON of each entry, from an index on
+abbrev pub bound_ons : List Entry → ℕ → List Entry → Result (List (Option BoundExpr)) BindError
+bound_ons entries number [] = Ok []
+bound_ons entries number (e ∷ more) = first_then (bound_condition entries (on_scope number e) e.on) (bound_ons entries (number + 1) more)
 
 -- ---- the query
 
@@ -91,7 +79,7 @@ bound_parts is_grouped limit items ons filter group_by having =
 
 abbrev pub bound_within : Scope → List Entry → ast.Query → Result BoundQuery BindError
 bound_within scope entries q =
-    bound_parts (is_grouped entries q) q.limit (bound_select entries scope q.select) (bound_ons entries 0 [] entries) (bound_condition entries scope q.filter) (bound_columns entries scope [] q.group_by) (bound_condition entries scope q.having)
+    bound_parts (is_grouped entries q) q.limit (bound_select entries scope q.select) (bound_ons entries 0 entries) (bound_condition entries scope q.filter) (on_each (find_column entries scope) q.group_by) (bound_condition entries scope q.having)
 
 -- the query with its columns found among the entries, or the first name that does not resolve; its ORDER BY, which
 -- names output columns, is bound after its checks

@@ -1,5 +1,5 @@
 -- The entries of FROM, in written order.
-use Rattle.std.specs.Prelude.{ℕ, Bool, false, ◌||◌, List, [], ◌∷◌, ◌++◌, length, map, Option, Some, None, Result, Ok, Err, if◌then◌else◌}
+use Rattle.std.specs.Prelude.{ℕ, ◌+◌, Bool, false, ◌||◌, List, [], ◌∷◌, ◌++◌, length, map, Option, Some, None, Result, Ok, Err, if◌then◌else◌}
 use Rattle.std.specs.Str.{bytes_eq}
 use Rattle.value.specs.declared.refusal.Refusal.TheVariants as r
 use Rattle.row_ast.specs.Ast as ast
@@ -8,7 +8,7 @@ use Rattle.row_objects.specs.Objects.{Table}
 use Rattle.catalog.specs.Catalog.{Catalog, table_named}
 use Rattle.scope.specs.declared.error.BindError.{BindError}
 use Rattle.scope.specs.Entry.{Entry, fault}
-use Rattle.memory.specs.Results.{and_then}
+use Rattle.memory.specs.Results.{and_then, first_then}
 
 -- a table of FROM, the index of the first one of its comma item, and its ON
 pub record JoinedTable : Type 0 where
@@ -25,14 +25,14 @@ joined_by first (ast.Cross table) = record { table = table; first = first; on = 
 abbrev pub first_table : ℕ → ast.TableRef → JoinedTable
 first_table first table = record { table = table; first = first; on = None }
 
--- a comma item, after the tables before it
-abbrev pub with_item : List JoinedTable → ast.FromItem → List JoinedTable
-with_item before f = (before ++ first_table (length before) f.first ∷ []) ++ map (joined_by (length before)) f.joins
+-- the tables of a comma item, of which the first has an index
+abbrev pub item_tables : ℕ → ast.FromItem → List JoinedTable
+item_tables first f = first_table first f.first ∷ map (joined_by first) f.joins
 
--- comma items, after the tables before them
-abbrev pub joined : List JoinedTable → List ast.FromItem → List JoinedTable
-joined before [] = before
-joined before (f ∷ more) = joined (with_item before f) more
+-- the tables of comma items, from an index on
+abbrev pub joined : ℕ → List ast.FromItem → List JoinedTable
+joined first [] = []
+joined first (f ∷ more) = item_tables first f ++ joined (first + length (item_tables first f)) more
 
 -- ---- the tables in the catalogue
 
@@ -59,10 +59,10 @@ found_entry before j (Some t) =
 abbrev pub entry_in : Catalog → List Entry → JoinedTable → Result Entry BindError
 entry_in cat before j = found_entry before j (table_named j.table.table cat)
 
--- the entries, after those before them, or the first error
+-- the entries of tables after others, or the first error
 abbrev pub entries_in : Catalog → List Entry → List JoinedTable → Result (List Entry) BindError
-entries_in cat before [] = Ok before
-entries_in cat before (j ∷ more) = and_then (entry_in cat before j) (λ e. entries_in cat (before ++ e ∷ []) more)
+entries_in cat before [] = Ok []
+entries_in cat before (j ∷ more) = and_then (entry_in cat before j) (λ e. first_then (Ok e) (entries_in cat (before ++ e ∷ []) more))
 
 abbrev pub entries : Catalog → List ast.FromItem → Result (List Entry) BindError
-entries cat from = entries_in cat [] (joined [] from)
+entries cat from = entries_in cat [] (joined 0 from)

@@ -1,5 +1,5 @@
 -- The keys of ORDER BY.
-use Rattle.std.specs.Prelude.{ℕ, zero, suc, nat_lt, ◌+◌, List, [], ◌∷◌, ◌++◌, length, Result, Ok, Err, if◌then◌else◌}
+use Rattle.std.specs.Prelude.{ℕ, zero, suc, nat_lt, ◌+◌, List, [], ◌∷◌, length, Result, Ok, Err, if◌then◌else◌}
 use Rattle.std.specs.Str.{bytes_eq}
 use Rattle.value.specs.declared.refusal.Refusal.TheVariants as r
 use Rattle.row_ast.specs.Ast as ast
@@ -32,8 +32,3 @@ target_index items offset (ast.Position n) = index_within offset (length items) 
 
 abbrev pub output_key : List BoundItem → ast.SortKey → Result OutputKey BindError
 output_key items k = and_then (target_index items k.offset k.target) (λ index. Ok record { index = index; descending = k.descending })
-
--- after those before
-abbrev pub output_keys : List BoundItem → List OutputKey → List ast.SortKey → Result (List OutputKey) BindError
-output_keys items known [] = Ok known
-output_keys items known (k ∷ more) = and_then (output_key items k) (λ key. output_keys items (known ++ key ∷ []) more)

@@ -1,16 +1,16 @@
 -- A query whose names are found, and whose aggregates and types are in order.
-use Rattle.std.specs.Prelude.{List, [], Option, Some, None, Result, Ok, Err}
+use Rattle.std.specs.Prelude.{List, Option, Some, None, Result, Ok, Err}
 use Rattle.row_ast.specs.Ast as ast
 use Rattle.catalog.specs.Catalog.{Catalog}
 use Rattle.scope.specs.declared.error.BindError.{BindError}
 use Rattle.expr.specs.declared.query.OutputKey.{OutputKey}
 use Rattle.scope.specs.Entry.{Entry}
-use Rattle.memory.specs.Results.{and_then}
+use Rattle.memory.specs.Results.{and_then, on_each}
 use Rattle.expr.specs.BoundQuery.{BoundQuery}
 use Rattle.typing.specs.Clauses.{clause_error}
 use Rattle.resolve.specs.Entries.{entries}
 use Rattle.resolve.specs.BoundQueries.{bound_query}
-use Rattle.resolve.specs.OrderBy.{output_keys}
+use Rattle.resolve.specs.OrderBy.{output_key}
 
 pub record Bound : Type 0 where
   pub entries : List Entry
@@ -25,7 +25,7 @@ abbrev pub with_order : BoundQuery → List OutputKey → BoundQuery
 with_order b keys = record { items = b.items; ons = b.ons; filter = b.filter; group_by = b.group_by; having = b.having; is_grouped = b.is_grouped; order_by = keys; limit = b.limit }
 
 abbrev pub ordered : List Entry → ast.Query → BoundQuery → Result Bound BindError
-ordered es q b = and_then (output_keys b.items [] q.order_by) (λ keys. Ok record { entries = es; query = with_order b keys })
+ordered es q b = and_then (on_each (output_key b.items) q.order_by) (λ keys. Ok record { entries = es; query = with_order b keys })
 
 abbrev pub checked : List Entry → ast.Query → BoundQuery → Result Bound BindError
 checked es q b = and_then (unless_fault (clause_error es b.group_by q) b) (ordered es q)

@@ -1,6 +1,6 @@
 //! The entries of FROM.
 
-ghost use Rattle.std.specs.Prelude.{◌≡◌, ◌++◌, OnOk, IfOk, [], Some, map};
+ghost use Rattle.std.specs.Prelude.{◌≡◌, ◌++◌, OnOk, IfOk, [], Some, length, map};
 ghost use Rattle.memory.specs.Gives.{Gives};
 ghost use Rattle.row_ast.specs.View.{from_item_of, join_of, table_ref_of};
 ghost use Rattle.row_objects.specs.View.{table_of};
@@ -59,7 +59,7 @@ fn push_item<'s, A: Heap>(
     tables: &mut Items<JoinedTable<'s, A>, A>,
     item: &'s FromItem<A>,
 ) -> Result<(), AllocError>
-    ensures { OnOk result (map (λ j. joined_table_of j) tables.new ≡ spec.with_item (map (λ j. joined_table_of j) tables.old) (from_item_of item.now)) }
+    ensures { OnOk result (map (λ j. joined_table_of j) tables.new ≡ map (λ j. joined_table_of j) tables.old ++ spec.item_tables (length tables.old) (from_item_of item.now)) }
 {
     let first = tables.len();
     tables.push(JoinedTable {
@@ -76,7 +76,7 @@ fn joined<'s, A: Heap>(
     alloc: A,
     from: &'s [FromItem<A>],
 ) -> Result<Items<JoinedTable<'s, A>, A>, AllocError>
-    ensures { IfOk result (λ tables. map (λ j. joined_table_of j) tables ≡ spec.joined [] (map (λ f. from_item_of f) from.now)) }
+    ensures { IfOk result (λ tables. map (λ j. joined_table_of j) tables ≡ spec.joined 0 (map (λ f. from_item_of f) from.now)) }
 {
     let mut tables = Items::new(alloc);
     for item in from {

@@ -1,7 +1,8 @@
 //! The keys of ORDER BY.
 
-ghost use Rattle.std.specs.Prelude.{◌≡◌, [], length, map};
+ghost use Rattle.std.specs.Prelude.{◌≡◌, length, map};
 ghost use Rattle.memory.specs.Gives.{Gives};
+ghost use Rattle.memory.specs.Results.{on_each};
 ghost use Rattle.row_ast.specs.View.{sort_key_of, sort_target_of};
 ghost use Rattle.expr.specs.View.{bound_items_of};
 ghost use Rattle.resolve.specs.OrderBy as spec;
@@ -83,7 +84,7 @@ pub(crate) fn output_keys<A: Heap>(
     items: &[BoundItem<A>],
     order_by: &[SortKey<A>],
 ) -> Result<Items<OutputKey, A>, Failure<BindError>>
-    ensures { Gives (λ keys. keys) result (spec.output_keys (bound_items_of items.now) [] (map (λ k. sort_key_of k) order_by.now)) }
+    ensures { Gives (λ keys. keys) result (on_each (spec.output_key (bound_items_of items.now)) (map (λ k. sort_key_of k) order_by.now)) }
 {
     let mut keys = Items::new(alloc);
     for key in order_by {

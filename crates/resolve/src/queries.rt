@@ -1,11 +1,13 @@
 //! Queries with their columns found.
 
-ghost use Rattle.std.specs.Prelude.{◌≡◌, ◌++◌, OnOk, IfOk, [], map, option_map};
+ghost use Rattle.std.specs.Prelude.{◌≡◌, ◌++◌, OnOk, IfOk, map, option_map};
 ghost use Rattle.memory.specs.Gives.{Gives};
+ghost use Rattle.memory.specs.Results.{on_each};
 ghost use Rattle.value.specs.Columns.{column_of, columns_of};
 ghost use Rattle.row_ast.specs.View.{column_ref_of, condition_of, expr_of, query_of, select_item_of, select_list_of};
 ghost use Rattle.expr.specs.View.{bound_expr_of, bound_item_of, bound_items_of, bound_query_of};
 ghost use Rattle.resolve.specs.BoundQueries as spec;
+ghost use Rattle.scope.specs.Lookup.{find_column};
 ghost use Rattle.scope.specs.View.{entries_of};
 
 use expr::{BoundCondition, BoundExpr, BoundItem, BoundQuery, ColumnId};
@@ -66,7 +68,7 @@ fn bind_items<A: Heap>(
     scope: Scope,
     items: &[SelectItem<A>],
 ) -> Result<Items<BoundItem<A>, A>, Failure<BindError>>
-    ensures { Gives (λ items. bound_items_of items) result (spec.bound_items (entries_of entries.now) scope [] (map (λ i. select_item_of i) items.now)) }
+    ensures { Gives (λ items. bound_items_of items) result (on_each (spec.bound_item (entries_of entries.now) scope) (map (λ i. select_item_of i) items.now)) }
 {
     let mut all = Items::new(alloc);
     for item in items {
@@ -168,7 +170,7 @@ fn bind_ons<A: Heap>(
     alloc: A,
     entries: &[Entry<'_, A>],
 ) -> Result<Items<BoundCondition<A>, A>, Failure<BindError>>
-    ensures { Gives (λ ons. map (λ o. option_map (λ b. bound_expr_of b.value) o) ons) result (spec.bound_ons (entries_of entries.now) 0 [] (entries_of entries.now)) }
+    ensures { Gives (λ ons. map (λ o. option_map (λ b. bound_expr_of b.value) o) ons) result (spec.bound_ons (entries_of entries.now) 0 (entries_of entries.now)) }
 {
     let mut ons = Items::new(alloc);
     for (number, entry) in entries.iter().enumerate() {
@@ -186,7 +188,7 @@ fn bind_columns<A: Heap>(
     scope: Scope,
     columns: &[ColumnRef<A>],
 ) -> Result<Items<ColumnId, A>, Failure<BindError>>
-    ensures { Gives (λ ids. ids) result (spec.bound_columns (entries_of entries.now) scope [] (map (λ c. column_ref_of c) columns.now)) }
+    ensures { Gives (λ ids. ids) result (on_each (find_column (entries_of entries.now) scope) (map (λ c. column_ref_of c) columns.now)) }
 {
     let mut ids = Items::new(alloc);
     for column in columns {

@@ -1,7 +1,7 @@
 -- The steps of binding, and its end.
 use Rattle.std.proofs.Common.{◌≡◌, ℕ, ◌+◌, ◌<◌, ◌≤◌, List, [], ◌∷◌, ◌++◌, length, map, get_or, drop, Some, None, Result, Ok, Err, Vec, Box, refl, sym, ap, ◌∙◌}
 use Rattle.std.specs.Result.{MatchResult}
-use Rattle.std.proofs.lemmas.List.{map-append}
+use Rattle.std.proofs.lemmas.List.{append-nil, map-append}
 use Rattle.memory.specs.Gives.{Gives}
 use Rattle.memory.specs.declared.failure.Failure.{Failure}
 use Rattle.memory.specs.declared.failure.Failure.TheVariants as failure
@@ -20,7 +20,8 @@ use Rattle.row_ast.proofs.Walks.{exprs_step, exprs_over, arms_step, arms_over}
 use Rattle.scope.specs.declared.error.BindError.{BindError}
 use Rattle.scope.specs.declared.lookup.Scope.{Scope}
 use Rattle.scope.specs.Entry.{Entry}
-use Rattle.memory.specs.Results.{and_then}
+use Rattle.memory.specs.Results.{and_then, first_then}
+use Rattle.memory.proofs.Each.{after, after_first}
 use Rattle.scope.specs.BoundExprs as spec
 use Rattle.scope.specs.BoundExprs.{bound_expr, bound_members, bound_arms, pair}
 
@@ -29,36 +30,36 @@ module _ (entries : List Entry) (scope : Scope) {A : Type 0} (r : Result (Box (c
   pub bound_as : (e f : Ast) → e ≡ f → Gives (λ b. bound_expr_of b.value) r (bound_expr entries scope f) → Gives (λ b. bound_expr_of b.value) r (bound_expr entries scope e)
   bound_as e f is h = rw is h
 
--- a function of the known part and one more
-grown_then : {X Y E : Type 0} (s : Result X E) (known : List X) (g : List X → Result Y E) → and_then (and_then s (λ x. Ok (known ++ x ∷ []))) g ≡ and_then s (λ x. g (known ++ x ∷ []))
-grown_then (Ok x) known g = refl
-grown_then (Err e) known g = refl
+-- the known part with one more, and then the rest
+grown_then : {X E : Type 0} (s : Result X E) (known : List X) (rest : Result (List X) E) → and_then (and_then s (λ x. Ok (known ++ x ∷ []))) (λ new. after new rest) ≡ after known (first_then s rest)
+grown_then (Ok x) known rest = sym (after_first known x rest)
+grown_then (Err e) known rest = refl
 
 module _ (entries : List Entry) (scope : Scope) {A : Type 0} where
   module _ (es : List (Expr A)) (k : ℕ) where
-    pub members_over : (known : List BoundExpr) (whole : Result (List BoundExpr) BindError) → bound_members entries scope known (exprs (drop k es)) ≡ whole → length es ≤ k → whole ≡ Ok known
-    members_over known whole so_far l = sym so_far ∙ ap (bound_members entries scope known) (exprs_over es k l)
+    pub members_over : (known : List BoundExpr) (whole : Result (List BoundExpr) BindError) → after known (bound_members entries scope (exprs (drop k es))) ≡ whole → length es ≤ k → whole ≡ Ok known
+    members_over known whole so_far l = sym so_far ∙ ap (λ xs. after known (bound_members entries scope xs)) (exprs_over es k l) ∙ ap Ok (append-nil known)
 
-    module _ (e : Expr A) (more : k < length es) (is : e ≡ get_or es k e) (known : List BoundExpr) (whole : Result (List BoundExpr) BindError) (so_far : bound_members entries scope known (exprs (drop k es)) ≡ whole) where
-      pub members_opened : and_then (and_then (bound_expr entries scope (expr_of e)) (λ x. Ok (known ++ x ∷ []))) (λ new. bound_members entries scope new (exprs (drop (k + 1) es))) ≡ whole
+    module _ (e : Expr A) (more : k < length es) (is : e ≡ get_or es k e) (known : List BoundExpr) (whole : Result (List BoundExpr) BindError) (so_far : after known (bound_members entries scope (exprs (drop k es))) ≡ whole) where
+      pub members_opened : and_then (and_then (bound_expr entries scope (expr_of e)) (λ x. Ok (known ++ x ∷ []))) (λ new. after new (bound_members entries scope (exprs (drop (k + 1) es)))) ≡ whole
       members_opened =
-          grown_then (bound_expr entries scope (expr_of e)) known (λ new. bound_members entries scope new (exprs (drop (k + 1) es))) ∙ ap (bound_members entries scope known) (sym (exprs_step es k e more is)) ∙ so_far
+          grown_then (bound_expr entries scope (expr_of e)) known (bound_members entries scope (exprs (drop (k + 1) es))) ∙ ap (λ xs. after known (bound_members entries scope xs)) (sym (exprs_step es k e more is)) ∙ so_far
 
-      pub members_next : (new : List BoundExpr) → and_then (bound_expr entries scope (expr_of e)) (λ x. Ok (known ++ x ∷ [])) ≡ Ok new → bound_members entries scope new (exprs (drop (k + 1) es)) ≡ whole
-      members_next new h = ap (λ r. and_then r (λ new. bound_members entries scope new (exprs (drop (k + 1) es)))) (sym h) ∙ members_opened
+      pub members_next : (new : List BoundExpr) → and_then (bound_expr entries scope (expr_of e)) (λ x. Ok (known ++ x ∷ [])) ≡ Ok new → after new (bound_members entries scope (exprs (drop (k + 1) es))) ≡ whole
+      members_next new h = ap (λ r. and_then r (λ new. after new (bound_members entries scope (exprs (drop (k + 1) es))))) (sym h) ∙ members_opened
 
   module _ (as_ : List (Arm A)) (k : ℕ) where
-    pub arms_bound_over : (known : List (BoundExpr × BoundExpr)) (whole : Result (List (BoundExpr × BoundExpr)) BindError) → bound_arms entries scope known (arms (drop k as_)) ≡ whole → length as_ ≤ k → whole ≡ Ok known
-    arms_bound_over known whole so_far l = sym so_far ∙ ap (bound_arms entries scope known) (arms_over as_ k l)
+    pub arms_bound_over : (known : List (BoundExpr × BoundExpr)) (whole : Result (List (BoundExpr × BoundExpr)) BindError) → after known (bound_arms entries scope (arms (drop k as_))) ≡ whole → length as_ ≤ k → whole ≡ Ok known
+    arms_bound_over known whole so_far l = sym so_far ∙ ap (λ xs. after known (bound_arms entries scope xs)) (arms_over as_ k l) ∙ ap Ok (append-nil known)
 
-    module _ (a : Arm A) (more : k < length as_) (is : a ≡ get_or as_ k a) (known : List (BoundExpr × BoundExpr)) (whole : Result (List (BoundExpr × BoundExpr)) BindError) (so_far : bound_arms entries scope known (arms (drop k as_)) ≡ whole) where
-      pub arms_opened : and_then (and_then (pair (bound_expr entries scope (expr_of a.when)) (bound_expr entries scope (expr_of a.result))) (λ p. Ok (known ++ p ∷ []))) (λ new. bound_arms entries scope new (arms (drop (k + 1) as_))) ≡ whole
+    module _ (a : Arm A) (more : k < length as_) (is : a ≡ get_or as_ k a) (known : List (BoundExpr × BoundExpr)) (whole : Result (List (BoundExpr × BoundExpr)) BindError) (so_far : after known (bound_arms entries scope (arms (drop k as_))) ≡ whole) where
+      pub arms_opened : and_then (and_then (pair (bound_expr entries scope (expr_of a.when)) (bound_expr entries scope (expr_of a.result))) (λ p. Ok (known ++ p ∷ []))) (λ new. after new (bound_arms entries scope (arms (drop (k + 1) as_)))) ≡ whole
       arms_opened =
-          grown_then (pair (bound_expr entries scope (expr_of a.when)) (bound_expr entries scope (expr_of a.result))) known (λ new. bound_arms entries scope new (arms (drop (k + 1) as_)))
-          ∙ ap (bound_arms entries scope known) (sym (arms_step as_ k a more is)) ∙ so_far
+          grown_then (pair (bound_expr entries scope (expr_of a.when)) (bound_expr entries scope (expr_of a.result))) known (bound_arms entries scope (arms (drop (k + 1) as_)))
+          ∙ ap (λ xs. after known (bound_arms entries scope xs)) (sym (arms_step as_ k a more is)) ∙ so_far
 
-      pub arms_next : (new : List (BoundExpr × BoundExpr)) → and_then (pair (bound_expr entries scope (expr_of a.when)) (bound_expr entries scope (expr_of a.result))) (λ p. Ok (known ++ p ∷ [])) ≡ Ok new → bound_arms entries scope new (arms (drop (k + 1) as_)) ≡ whole
-      arms_next new h = ap (λ r. and_then r (λ new. bound_arms entries scope new (arms (drop (k + 1) as_)))) (sym h) ∙ arms_opened
+      pub arms_next : (new : List (BoundExpr × BoundExpr)) → and_then (pair (bound_expr entries scope (expr_of a.when)) (bound_expr entries scope (expr_of a.result))) (λ p. Ok (known ++ p ∷ [])) ≡ Ok new → after new (bound_arms entries scope (arms (drop (k + 1) as_))) ≡ whole
+      arms_next new h = ap (λ r. and_then r (λ new. after new (bound_arms entries scope (arms (drop (k + 1) as_))))) (sym h) ∙ arms_opened
 
 -- ---- one more, as it is viewed, unless it failed or memory ran out
 

@@ -1,12 +1,12 @@
 -- Expressions with each column found and all else kept, or the first name that does not resolve.
-use Rattle.std.specs.Prelude.{ℕ, List, [], ◌∷◌, ◌++◌, Result, Ok}
+use Rattle.std.specs.Prelude.{ℕ, List, [], Result, Ok}
 use Rattle.row_ast.specs.Ast as ast
 use Rattle.expr.specs.Bound as bound
 use Rattle.expr.specs.Bound.{BoundExpr, BoundOtherwise, bound_exprs_of, bound_arms_of}
 use Rattle.scope.specs.declared.error.BindError.{BindError}
 use Rattle.scope.specs.declared.lookup.Scope.{Scope}
 use Rattle.scope.specs.Entry.{Entry}
-use Rattle.memory.specs.Results.{and_then}
+use Rattle.memory.specs.Results.{and_then, first_then}
 use Rattle.scope.specs.Lookup.{find_column}
 
 abbrev pub conjunction : ℕ → Result (List BoundExpr) BindError → Result BoundExpr BindError
@@ -37,21 +37,21 @@ module _ (entries : List Entry) (scope : Scope) where
     bound_expr (ast.In negated offset values e) = and_then (bound_expr e) (λ x. Ok (bound.In negated offset values x))
     bound_expr (ast.IsNull negated offset e) = and_then (bound_expr e) (λ x. Ok (bound.IsNull negated offset x))
     bound_expr (ast.Not offset e) = and_then (bound_expr e) (λ x. Ok (bound.Not offset x))
-    bound_expr (ast.And offset es) = conjunction offset (bound_members [] es)
-    bound_expr (ast.Or offset es) = disjunction offset (bound_members [] es)
+    bound_expr (ast.And offset es) = conjunction offset (bound_members es)
+    bound_expr (ast.Or offset es) = disjunction offset (bound_members es)
     bound_expr (ast.Cast offset to e) = and_then (bound_expr e) (λ x. Ok (bound.Cast offset to x))
-    bound_expr (ast.Case offset as_ o) = choice offset (bound_arms [] as_) (bound_otherwise o)
+    bound_expr (ast.Case offset as_ o) = choice offset (bound_arms as_) (bound_otherwise o)
     bound_expr (ast.CountStar offset) = Ok (bound.CountStar offset)
     bound_expr (ast.Call f offset e) = and_then (bound_expr e) (λ x. Ok (bound.Call f offset x))
 
-    -- after those before
-    pub bound_members : List BoundExpr → ast.Exprs → Result (List BoundExpr) BindError
-    bound_members known ast.no_expr = Ok known
-    bound_members known (ast.one_expr e es) = and_then (bound_expr e) (λ x. bound_members (known ++ x ∷ []) es)
+    -- each of them, or the first error
+    pub bound_members : ast.Exprs → Result (List BoundExpr) BindError
+    bound_members ast.no_expr = Ok []
+    bound_members (ast.one_expr e es) = first_then (bound_expr e) (bound_members es)
 
-    pub bound_arms : List (BoundExpr × BoundExpr) → ast.Arms → Result (List (BoundExpr × BoundExpr)) BindError
-    bound_arms known ast.no_arm = Ok known
-    bound_arms known (ast.one_arm when result as_) = and_then (pair (bound_expr when) (bound_expr result)) (λ p. bound_arms (known ++ p ∷ []) as_)
+    pub bound_arms : ast.Arms → Result (List (BoundExpr × BoundExpr)) BindError
+    bound_arms ast.no_arm = Ok []
+    bound_arms (ast.one_arm when result as_) = first_then (pair (bound_expr when) (bound_expr result)) (bound_arms as_)
 
     pub bound_otherwise : ast.Otherwise → Result BoundOtherwise BindError
     bound_otherwise ast.Nothing = Ok bound.Nothing

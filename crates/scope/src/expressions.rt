@@ -1,6 +1,6 @@
 //! Expressions with their columns found.
 
-ghost use Rattle.std.specs.Prelude.{[], map};
+ghost use Rattle.std.specs.Prelude.{map};
 ghost use Rattle.memory.specs.Gives.{Gives};
 ghost use Rattle.row_ast.specs.View.{expr_of, exprs, arms as arms_of};
 ghost use Rattle.expr.specs.View.{bound_arm_pair, bound_expr_of};
@@ -135,7 +135,7 @@ fn bind_members<A: Heap>(
     scope: Scope,
     members: &[Expr<A>],
 ) -> Members<A>
-    ensures { Gives (λ v. map bound_expr_of v.items) result (spec.bound_members (entries_of entries.now) scope [] (exprs members.now)) }
+    ensures { Gives (λ v. map bound_expr_of v.items) result (spec.bound_members (entries_of entries.now) scope (exprs members.now)) }
 {
     let mut all = Items::new(alloc);
     for member in members {
@@ -150,7 +150,7 @@ fn bind_members<A: Heap>(
 // The same of the arms of a CASE.
 #[cycle(bind)]
 fn bind_arms<A: Heap>(alloc: A, entries: &[Entry<'_, A>], scope: Scope, arms: &[Arm<A>]) -> Arms<A>
-    ensures { Gives (λ v. map bound_arm_pair v.items) result (spec.bound_arms (entries_of entries.now) scope [] (arms_of arms.now)) }
+    ensures { Gives (λ v. map bound_arm_pair v.items) result (spec.bound_arms (entries_of entries.now) scope (arms_of arms.now)) }
 {
     let mut all = Items::new(alloc);
     for next in arms {

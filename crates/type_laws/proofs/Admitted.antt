@@ -1,5 +1,5 @@
 -- What type checking admits is typed by the rules.
-use Rattle.std.proofs.Common.{◌≡◌, ◌⊎◌, inl, inr, ℕ, Bool, true, false, ◌&&◌, List, [], ◌∷◌, ◌++◌, Option, Some, None, Result, Ok, Err, IfOk, IfSome, refl, sym, ◌∙◌}
+use Rattle.std.proofs.Common.{◌≡◌, ◌⊎◌, inl, inr, ℕ, Bool, true, false, ◌&&◌, List, ◌∷◌, Option, Some, None, Result, Ok, Err, IfOk, IfSome, refl, sym, ◌∙◌}
 use Rattle.std.proofs.lemmas.Option.{IfSome_then}
 use Rattle.std.proofs.lemmas.Result.{IfOk-at_ok}
 use Rattle.memory.specs.Results.{and_then}
@@ -13,14 +13,14 @@ use Rattle.scope.specs.declared.lookup.Scope.{Scope}
 use Rattle.scope.specs.Entry.{Entry}
 use Rattle.scope.specs.Lookup.{find_column}
 use Rattle.scope.specs.BoundExprs.{bound_expr, bound_members, bound_arms, bound_otherwise, pair}
-use Rattle.typing.specs.Typing.{TypeOf, Typed, fits, common, common_with, found_type, typed, typed_members, typed_arms, typed_otherwise, and_condition, and_arm, case_type, result_type}
+use Rattle.typing.specs.Typing.{ArmsTyped, TypeOf, Typed, arm_type, both_arms, both_hold, case_type, common, common_of, fits, found_type, is_condition, result_type, typed, typed_arms, typed_members, typed_otherwise}
 use Rattle.type_laws.specs.Rules.{IsOfFitting, IsOfType, AreConditions, ArmsFit, IsArmType, IsElseType}
 use Rattle.type_laws.specs.Laws.{TypesByRules}
 use Rattle.type_laws.proofs.Fitting.{fits_by_test}
 use Rattle.type_laws.proofs.Commons.{IsCommon, common_fits}
-use Rattle.type_laws.proofs.Parts.{one_more, fit_further, arm_more, type_before, type_last}
+use Rattle.type_laws.proofs.Parts.{fit_further}
 use Rattle.type_laws.proofs.Bound.{one, two, three}
-use Rattle.type_laws.proofs.Results.{both_true, ok_or_fault, ok_then}
+use Rattle.type_laws.proofs.Results.{both_true, ok_first, ok_or_fault, ok_then}
 use Rattle.type_laws.proofs.Operations.{negation_rule, arithmetic_rule, comparison_rule, between_rule, membership_rule, null_check_rule, not_rule, cast_rule, call_rule, conditions_rule}
 
 module _ (entries : List Entry) where
@@ -38,28 +38,28 @@ module _ (entries : List Entry) where
   abbrev KnownMembers : Result Bool ℕ → List BoundExpr → Type 0
   KnownMembers known xs = IfOk known (λ holds. holds ≡ true → AreConditions entries (bound_exprs_of xs))
 
-  member_agrees : (known : Result Bool ℕ) (xs : List BoundExpr) (a : Typed) (x : BoundExpr) → KnownMembers known xs → Agrees a x → KnownMembers (and_condition known a) (xs ++ x ∷ [])
-  member_agrees (Ok holds) xs (Ok a) x h k = λ e. let tests = both_true holds (fits Boolean a) e in one_more entries xs x (h tests.0) (a, k, fits_by_test Boolean a tests.1)
-  member_agrees (Ok holds) xs (Err j) x h k = tt
-  member_agrees (Err i) xs (Ok a) x h k = tt
-  member_agrees (Err i) xs (Err j) x h k = tt
+  member_agrees : (a : Typed) (more : Result Bool ℕ) (x : BoundExpr) (xs : List BoundExpr) → Agrees a x → KnownMembers more xs → KnownMembers (both_hold (is_condition a) more) (x ∷ xs)
+  member_agrees (Ok a) (Ok holds) x xs h k = λ e. let tests = both_true (fits Boolean a) holds e in ((a, h, fits_by_test Boolean a tests.0), k tests.1)
+  member_agrees (Ok a) (Err j) x xs h k = tt
+  member_agrees (Err i) (Ok holds) x xs h k = tt
+  member_agrees (Err i) (Err j) x xs h k = tt
 
   -- ---- arms
 
-  -- the type that type checking has found so far is that of NULL or of one result, and those of all fit
-  abbrev IsSoFar : List (BoundExpr × BoundExpr) → TypeOf → Type 0
-  IsSoFar xs t = ArmsFit entries (bound_arms_of xs) t × ((t ≡ None) ⊎ IsArmType entries (bound_arms_of xs) t)
+  -- the type that type checking has found is that of NULL or of one result, and those of all fit
+  abbrev IsFound : List (BoundExpr × BoundExpr) → TypeOf → Type 0
+  IsFound xs t = ArmsFit entries (bound_arms_of xs) t × ((t ≡ None) ⊎ IsArmType entries (bound_arms_of xs) t)
 
-  abbrev AreSoFar : List (BoundExpr × BoundExpr) → Bool × Option TypeOf → Type 0
-  AreSoFar xs p = p.0 ≡ true → IfSome p.1 (IsSoFar xs)
+  abbrev AreFound : List (BoundExpr × BoundExpr) → Bool × Option TypeOf → Type 0
+  AreFound xs p = p.0 ≡ true → IfSome p.1 (IsFound xs)
 
-  arm_so_far : (xs : List (BoundExpr × BoundExpr)) (x : BoundExpr × BoundExpr) (a r c : TypeOf) → IsSoFar xs a → IsOfFitting (IsOfType entries x.0) (Some Boolean) → IsOfType entries x.1 r → IsCommon a r c → IsSoFar (xs ++ x ∷ []) c
-  arm_so_far xs x a r c h w k m = (arm_more entries xs x c (fit_further entries xs a c h.0 m.0) w (r, k, m.1), is_some_type h.1 m.2)
+  arm_found : (x : BoundExpr × BoundExpr) (xs : List (BoundExpr × BoundExpr)) (r a c : TypeOf) → IsOfFitting (IsOfType entries x.0) (Some Boolean) → IsOfType entries x.1 r → IsFound xs a → IsCommon r a c → IsFound (x ∷ xs) c
+  arm_found x xs r a c w k h m = ((w, (r, k, m.0), fit_further entries xs a c h.0 m.1), is_some_type m.2 h.1)
     where
-      is_some_type : (a ≡ None) ⊎ IsArmType entries (bound_arms_of xs) a → (c ≡ a) ⊎ (c ≡ r) → (c ≡ None) ⊎ IsArmType entries (bound_arms_of (xs ++ x ∷ [])) c
-      is_some_type (inl e) (inl f) = inl (f ∙ e)
-      is_some_type (inr q) (inl f) = inr (type_before entries xs x c (rw f q))
-      is_some_type q (inr f) = inr (type_last entries xs x c (rw f k))
+      is_some_type : (c ≡ r) ⊎ (c ≡ a) → (a ≡ None) ⊎ IsArmType entries (bound_arms_of xs) a → (c ≡ None) ⊎ IsArmType entries (bound_arms_of (x ∷ xs)) c
+      is_some_type (inl f) q = inr (inl (rw f k))
+      is_some_type (inr f) (inl e) = inl (f ∙ e)
+      is_some_type (inr f) (inr q) = inr (inr (rw f q))
 
   else_type : (xs : List (BoundExpr × BoundExpr)) (o : BoundOtherwise) (a b c : TypeOf) → (a ≡ None) ⊎ IsArmType entries (bound_arms_of xs) a → IsElseType entries o b → IsCommon a b c
       → IsArmType entries (bound_arms_of xs) c ⊎ IsElseType entries o c
@@ -68,14 +68,14 @@ module _ (entries : List Entry) where
   else_type xs o a b c (inr q) k (m, n, inl f) = inl (rw f q)
   else_type xs o a b c (inl e) k (m, inl g, inl f) = let same : b ≡ c = g ∙ sym (f ∙ e) in inr (rw (sym same) k)
 
-  arms_and_else : (xs : List (BoundExpr × BoundExpr)) (o : BoundOtherwise) (offset : ℕ) (holds : Bool) (known : Option TypeOf) (b : TypeOf) → AreSoFar xs (holds, known) → IsElseType entries o b
+  arms_and_else : (xs : List (BoundExpr × BoundExpr)) (o : BoundOtherwise) (offset : ℕ) (holds : Bool) (known : Option TypeOf) (b : TypeOf) → AreFound xs (holds, known) → IsElseType entries o b
       → IfOk (result_type offset holds known b) (IsOfType entries (bound.Case offset (bound_arms_of xs) o))
   arms_and_else xs o offset false known b h k = tt
   arms_and_else xs o offset true None b h k = tt
   arms_and_else xs o offset true (Some a) b h k =
       ok_or_fault _ offset (common a b) (IfSome_then (common a b) (common_fits a b) (λ c m. (fit_further entries xs a c (h refl).0 m.0, (b, k, m.1), else_type xs o a b c (h refl).1 k m)))
 
-  case_agrees : (xs : List (BoundExpr × BoundExpr)) (o : BoundOtherwise) (offset : ℕ) (known : Result (Bool × Option TypeOf) ℕ) (b : Typed) → IfOk known (AreSoFar xs) → IfOk b (IsElseType entries o)
+  case_agrees : (xs : List (BoundExpr × BoundExpr)) (o : BoundOtherwise) (offset : ℕ) (known : ArmsTyped) (b : Typed) → IfOk known (AreFound xs) → IfOk b (IsElseType entries o)
       → Agrees (case_type offset known b) (bound.Case offset (bound_arms_of xs) o)
   case_agrees xs o offset (Ok p) (Ok b) h k = arms_and_else xs o offset p.0 p.1 b h k
   case_agrees xs o offset (Ok p) (Err j) h k = tt
@@ -85,23 +85,22 @@ module _ (entries : List Entry) where
   abbrev AgreesArm : Typed → Typed → BoundExpr × BoundExpr → Type 0
   AgreesArm a b x = Agrees a x.0 × Agrees b x.1
 
-  known_and_arm : (xs : List (BoundExpr × BoundExpr)) (x : BoundExpr × BoundExpr) (holds : Bool) (known : Option TypeOf) (w r : TypeOf) → AreSoFar xs (holds, known) → IsOfType entries x.0 w → IsOfType entries x.1 r
-      → AreSoFar (xs ++ x ∷ []) (holds && fits Boolean w, common_with known r)
-  known_and_arm xs x holds None w r h k m = λ e. tt
-  known_and_arm xs x holds (Some a) w r h k m = λ e.
-      let tests = both_true holds (fits Boolean w) e in
-      IfSome_then (common a r) (common_fits a r) (λ c q. arm_so_far xs x a r c (h tests.0) (w, k, fits_by_test Boolean w tests.1) m q)
+  arm_and_more : (x : BoundExpr × BoundExpr) (xs : List (BoundExpr × BoundExpr)) (w r : TypeOf) (holds : Bool) (o : Option TypeOf) → IsOfType entries x.0 w → IsOfType entries x.1 r → AreFound xs (holds, o)
+      → AreFound (x ∷ xs) (fits Boolean w && holds, common_of (Some r) o)
+  arm_and_more x xs w r holds None k m h = λ e. tt
+  arm_and_more x xs w r holds (Some a) k m h = λ e.
+      let tests = both_true (fits Boolean w) holds e in
+      IfSome_then (common r a) (common_fits r a) (λ c q. arm_found x xs r a c (w, k, fits_by_test Boolean w tests.0) m (h tests.1) q)
 
-  arm_agrees : (xs : List (BoundExpr × BoundExpr)) (x : BoundExpr × BoundExpr) (known : Result (Bool × Option TypeOf) ℕ) (a b : Typed) → IfOk known (AreSoFar xs) → AgreesArm a b x
-      → IfOk (and_arm known a b) (AreSoFar (xs ++ x ∷ []))
-  arm_agrees xs x (Ok p) (Ok w) (Ok r) h k = known_and_arm xs x p.0 p.1 w r h k.0 k.1
-  arm_agrees xs x (Ok p) (Ok w) (Err j) h k = tt
-  arm_agrees xs x (Ok p) (Err i) (Ok r) h k = tt
-  arm_agrees xs x (Ok p) (Err i) (Err j) h k = tt
-  arm_agrees xs x (Err n) (Ok w) (Ok r) h k = tt
-  arm_agrees xs x (Err n) (Ok w) (Err j) h k = tt
-  arm_agrees xs x (Err n) (Err i) (Ok r) h k = tt
-  arm_agrees xs x (Err n) (Err i) (Err j) h k = tt
+  arm_agrees : (x : BoundExpr × BoundExpr) (xs : List (BoundExpr × BoundExpr)) (a b : Typed) (more : ArmsTyped) → AgreesArm a b x → IfOk more (AreFound xs) → IfOk (both_arms (arm_type a b) more) (AreFound (x ∷ xs))
+  arm_agrees x xs (Ok w) (Ok r) (Ok p) h k = arm_and_more x xs w r p.0 p.1 h.0 h.1 k
+  arm_agrees x xs (Ok w) (Err j) (Ok p) h k = tt
+  arm_agrees x xs (Err i) (Ok r) (Ok p) h k = tt
+  arm_agrees x xs (Err i) (Err j) (Ok p) h k = tt
+  arm_agrees x xs (Ok w) (Ok r) (Err n) h k = tt
+  arm_agrees x xs (Ok w) (Err j) (Err n) h k = tt
+  arm_agrees x xs (Err i) (Ok r) (Err n) h k = tt
+  arm_agrees x xs (Err i) (Err j) (Err n) h k = tt
 
   -- ---- expressions
 
@@ -134,32 +133,32 @@ module _ (entries : List Entry) where
           one (Agrees (type (ast.IsNull negated offset e))) (Agrees (type e)) (bind e) (bound.IsNull negated offset) (agrees e) (λ x. null_check_rule offset (IsOfType entries x) (type e))
       agrees (ast.Not offset e) = one (Agrees (type (ast.Not offset e))) (Agrees (type e)) (bind e) (bound.Not offset) (agrees e) (λ x. not_rule offset (IsOfType entries x) (type e))
       agrees (ast.And offset es) =
-          ok_then (KnownMembers (typed_members entries scope (Ok true) es)) (Agrees (type (ast.And offset es))) (bound_members entries scope [] es) _ (members_agree es (Ok true) [] (λ e. tt)) (λ xs.
-          conditions_rule offset (AreConditions entries (bound_exprs_of xs)) (typed_members entries scope (Ok true) es))
+          ok_then (KnownMembers (typed_members entries scope es)) (Agrees (type (ast.And offset es))) (bound_members entries scope es) _ (members_agree es) (λ xs.
+          conditions_rule offset (AreConditions entries (bound_exprs_of xs)) (typed_members entries scope es))
       agrees (ast.Or offset es) =
-          ok_then (KnownMembers (typed_members entries scope (Ok true) es)) (Agrees (type (ast.Or offset es))) (bound_members entries scope [] es) _ (members_agree es (Ok true) [] (λ e. tt)) (λ xs.
-          conditions_rule offset (AreConditions entries (bound_exprs_of xs)) (typed_members entries scope (Ok true) es))
+          ok_then (KnownMembers (typed_members entries scope es)) (Agrees (type (ast.Or offset es))) (bound_members entries scope es) _ (members_agree es) (λ xs.
+          conditions_rule offset (AreConditions entries (bound_exprs_of xs)) (typed_members entries scope es))
       agrees (ast.Cast offset to e) = one (Agrees (type (ast.Cast offset to e))) (Agrees (type e)) (bind e) (bound.Cast offset to) (agrees e) (λ x. cast_rule offset (IsOfType entries x) to (type e))
       agrees (ast.Case offset as_ o) =
-          ok_then _ (Agrees (type (ast.Case offset as_ o))) (bound_arms entries scope [] as_) _ (arms_agree as_ (Ok (true, Some None)) [] (λ e. (tt, inl refl))) (λ xs h.
+          ok_then _ (Agrees (type (ast.Case offset as_ o))) (bound_arms entries scope as_) _ (arms_agree as_) (λ xs h.
           ok_then _ (Agrees (type (ast.Case offset as_ o))) (bound_otherwise entries scope o) _ (else_agrees o) (λ x k.
-          case_agrees xs x offset (typed_arms entries scope (Ok (true, Some None)) as_) (typed_otherwise entries scope o) h k))
+          case_agrees xs x offset (typed_arms entries scope as_) (typed_otherwise entries scope o) h k))
       agrees (ast.CountStar offset) = refl
       agrees (ast.Call f offset e) = one (Agrees (type (ast.Call f offset e))) (Agrees (type e)) (bind e) (bound.Call f offset) (agrees e) (λ x. call_rule offset (IsOfType entries x) f (type e))
 
-      members_agree : (es : ast.Exprs) (known : Result Bool ℕ) (xs : List BoundExpr) → KnownMembers known xs → IfOk (bound_members entries scope xs es) (KnownMembers (typed_members entries scope known es))
-      members_agree ast.no_expr known xs h = h
-      members_agree (ast.one_expr e es) known xs h =
-          ok_then (Agrees (type e)) _ (bind e) (λ x. bound_members entries scope (xs ++ x ∷ []) es) (agrees e) (λ x k.
-          members_agree es (and_condition known (type e)) (xs ++ x ∷ []) (member_agrees known xs (type e) x h k))
+      members_agree : (es : ast.Exprs) → IfOk (bound_members entries scope es) (KnownMembers (typed_members entries scope es))
+      members_agree ast.no_expr = λ e. tt
+      members_agree (ast.one_expr e es) =
+          ok_first (Agrees (type e)) (KnownMembers (typed_members entries scope es)) (KnownMembers (typed_members entries scope (ast.one_expr e es))) (bind e) (bound_members entries scope es) (agrees e) (members_agree es)
+          (member_agrees (type e) (typed_members entries scope es))
 
-      arms_agree : (as_ : ast.Arms) (known : Result (Bool × Option TypeOf) ℕ) (xs : List (BoundExpr × BoundExpr)) → IfOk known (AreSoFar xs)
-          → IfOk (bound_arms entries scope xs as_) (λ ys. IfOk (typed_arms entries scope known as_) (AreSoFar ys))
-      arms_agree ast.no_arm known xs h = h
-      arms_agree (ast.one_arm when result as_) known xs h =
-          ok_then (AgreesArm (type when) (type result)) _ (pair (bind when) (bind result)) (λ x. bound_arms entries scope (xs ++ x ∷ []) as_)
-          (two (AgreesArm (type when) (type result)) (Agrees (type when)) (Agrees (type result)) (bind when) (bind result) (λ x y. (x, y)) (agrees when) (agrees result) (λ x y h k. (h, k))) (λ x k.
-          arms_agree as_ (and_arm known (type when) (type result)) (xs ++ x ∷ []) (arm_agrees xs x known (type when) (type result) h k))
+      arms_agree : (as_ : ast.Arms) → IfOk (bound_arms entries scope as_) (λ ys. IfOk (typed_arms entries scope as_) (AreFound ys))
+      arms_agree ast.no_arm = λ e. (tt, inl refl)
+      arms_agree (ast.one_arm when result as_) =
+          ok_first (AgreesArm (type when) (type result)) (λ ys. IfOk (typed_arms entries scope as_) (AreFound ys)) (λ ys. IfOk (typed_arms entries scope (ast.one_arm when result as_)) (AreFound ys))
+          (pair (bind when) (bind result)) (bound_arms entries scope as_)
+          (two (AgreesArm (type when) (type result)) (Agrees (type when)) (Agrees (type result)) (bind when) (bind result) (λ x y. (x, y)) (agrees when) (agrees result) (λ x y h k. (h, k))) (arms_agree as_)
+          (λ x xs. arm_agrees x xs (type when) (type result) (typed_arms entries scope as_))
 
       else_agrees : (o : ast.Otherwise) → IfOk (bound_otherwise entries scope o) (λ x. IfOk (typed_otherwise entries scope o) (IsElseType entries x))
       else_agrees ast.Nothing = refl

@@ -1,11 +1,11 @@
 -- The type that several types fit.
-use Rattle.std.proofs.Common.{◌≡◌, ◌⊎◌, inl, inr, Bool, true, false, cond, All, List, [], ◌∷◌, Option, Some, None, IfSome, refl, sym, ap, ◌∙◌}
-use Rattle.std.proofs.lemmas.List.Elements.{All-cons, All-head, All-nil, All-tail}
+use Rattle.std.proofs.Common.{◌≡◌, ◌⊎◌, inl, inr, Bool, true, false, cond, All, List, [], ◌∷◌, map, Option, Some, None, IfSome, refl, sym, ap, ◌∙◌}
+use Rattle.std.proofs.lemmas.List.Elements.{All-cons, All-head, All-nil, All-tail, All-weaker}
 use Rattle.std.proofs.lemmas.Option.{IfSome_then}
 use Rattle.value.specs.Datum.{Datum}
 use Rattle.value.specs.declared.types.ColType.{ColType}
 use Rattle.value.specs.declared.types.ColType.TheVariants.{Bigint}
-use Rattle.typing.specs.Typing.{TypeOf, common, common_of_all, common_with, is_type, type_of}
+use Rattle.typing.specs.Typing.{TypeOf, common, common_of_all, common_of, is_type, type_of}
 use Rattle.type_laws.specs.Rules.{IsFitting, HasType}
 use Rattle.type_laws.proofs.Fitting.{fits_both, fits_further, is_itself, same_type}
 
@@ -22,10 +22,10 @@ common_fits (Some a) (Some b) = go (is_type a b) (same_type a b)
     go true h = (inr refl, inr (ap Some (sym (h refl))), inl refl)
     go false h = tt
 
-pub three_fit : (a b c : TypeOf) → IfSome (common_with (common a b) c) (λ d. IsFitting a d × IsFitting b d × IsFitting c d)
+pub three_fit : (a b c : TypeOf) → IfSome (common_of (common a b) (Some c)) (λ d. IsFitting a d × IsFitting b d × IsFitting c d)
 three_fit a b c = go (common a b) (common_fits a b)
   where
-    go : (o : Option TypeOf) → IfSome o (IsCommon a b) → IfSome (common_with o c) (λ d. IsFitting a d × IsFitting b d × IsFitting c d)
+    go : (o : Option TypeOf) → IfSome o (IsCommon a b) → IfSome (common_of o (Some c)) (λ d. IsFitting a d × IsFitting b d × IsFitting c d)
     go None h = tt
     go (Some e) h = IfSome_then (common e c) (common_fits e c) (λ d p. (fits_further a e d h.0 p.0, fits_further b e d h.1 p.0, p.1))
 
@@ -58,25 +58,33 @@ some_type (Some t) = (t, inr refl)
 
 -- ---- with values
 
-none_in_common : (values : List Datum) → common_of_all None values ≡ None
-none_in_common [] = refl
-none_in_common (value ∷ values) = none_in_common values
+values_fit : (values : List Datum) → IfSome (common_of_all (map type_of values)) (λ c. All (HasType c) values)
+values_fit [] = All-nil (HasType None)
+values_fit (value ∷ values) = go (common_of_all (map type_of values)) (values_fit values)
+  where
+    go : (o : Option TypeOf) → IfSome o (λ c. All (HasType c) values) → IfSome (common_of (Some (type_of value)) o) (λ c. All (HasType c) (value ∷ values))
+    go None h = tt
+    go (Some b) h =
+        IfSome_then (common (type_of value) b) (common_fits (type_of value) b) (λ c p.
+        All-cons (HasType c) value values p.0 (All-weaker (HasType b) (HasType c) (λ other q. fits_further (type_of other) b c q p.1) values h))
 
--- what they have in common with a type, they have in common with what it fits
-with_value : (a : TypeOf) (value : Datum) (values : List Datum) (o : Option TypeOf) → IfSome o (IsCommon a (type_of value))
-    → ((b : TypeOf) → IfSome (common_of_all (Some b) values) (λ c. IsFitting b c × All (HasType c) values))
-    → IfSome (common_of_all o values) (λ c. IsFitting a c × All (HasType c) (value ∷ values))
-with_value a value values None h more = rw (none_in_common values) tt
-with_value a value values (Some b) h more =
-    IfSome_then (common_of_all (Some b) values) (more b) (λ c p. (fits_further a b c h.0 p.0, All-cons (HasType c) value values (fits_further (type_of value) b c h.1 p.0) p.1))
+-- what a type and values have in common, they fit
+pub all_fit : (a : TypeOf) (values : List Datum) → IfSome (common_of_all (a ∷ map type_of values)) (λ c. IsFitting a c × All (HasType c) values)
+all_fit a values = go (common_of_all (map type_of values)) (values_fit values)
+  where
+    go : (o : Option TypeOf) → IfSome o (λ c. All (HasType c) values) → IfSome (common_of (Some a) o) (λ c. IsFitting a c × All (HasType c) values)
+    go None h = tt
+    go (Some b) h = IfSome_then (common a b) (common_fits a b) (λ c p. (p.0, All-weaker (HasType b) (HasType c) (λ other q. fits_further (type_of other) b c q p.1) values h))
 
-pub all_fit : (a : TypeOf) (values : List Datum) → IfSome (common_of_all (Some a) values) (λ c. IsFitting a c × All (HasType c) values)
-all_fit a [] = (inr refl, All-nil (HasType a))
-all_fit a (value ∷ values) = with_value a value values (common a (type_of value)) (common_fits a (type_of value)) (λ b. all_fit b values)
+values_have_common : (values : List Datum) (t : TypeOf) → All (HasType t) values → (c : TypeOf) × (common_of_all (map type_of values) ≡ Some c) × IsFitting c t
+values_have_common [] t h = (None, refl, inl refl)
+values_have_common (value ∷ values) t h =
+    let rest = values_have_common values t (All-tail (HasType t) value values h) in
+    let b = have_common (type_of value) rest.0 t (All-head (HasType t) value values h) rest.2 in
+    (b.0, ap (common_of (Some (type_of value))) rest.1 ∙ b.1, b.2)
 
-pub have_all_common : (a : TypeOf) (values : List Datum) (t : TypeOf) → IsFitting a t → All (HasType t) values → (c : TypeOf) × (common_of_all (Some a) values ≡ Some c)
-have_all_common a [] t h k = (a, refl)
-have_all_common a (value ∷ values) t h k =
-    let b = have_common a (type_of value) t h (All-head (HasType t) value values k) in
-    let rest = have_all_common b.0 values t b.2 (All-tail (HasType t) value values k) in
-    (rest.0, ap (λ o. common_of_all o values) b.1 ∙ rest.1)
+pub have_all_common : (a : TypeOf) (values : List Datum) (t : TypeOf) → IsFitting a t → All (HasType t) values → (c : TypeOf) × (common_of_all (a ∷ map type_of values) ≡ Some c)
+have_all_common a values t h k =
+    let rest = values_have_common values t k in
+    let b = have_common a rest.0 t h rest.2 in
+    (b.0, ap (common_of (Some a)) rest.1 ∙ b.1)

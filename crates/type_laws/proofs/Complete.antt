@@ -1,6 +1,6 @@
 -- Type checking admits what the rules type.
-use Rattle.std.proofs.Common.{◌≡◌, ◌⊎◌, inl, inr, ℕ, Bool, true, List, [], ◌∷◌, ◌++◌, Option, Some, None, Result, Ok, Err, IfOk, refl, sym, ap, ap₂, ◌∙◌}
-use Rattle.std.proofs.lemmas.Result.{IfOk-at_ok, IfOk-weaker}
+use Rattle.std.proofs.Common.{◌≡◌, ◌⊎◌, inl, inr, ℕ, Bool, true, ◌&&◌, List, ◌∷◌, Option, Some, None, Result, Ok, Err, IfOk, refl, sym, ap, ap₂, ◌∙◌}
+use Rattle.std.proofs.lemmas.Result.{IfOk-at_ok}
 use Rattle.memory.specs.Results.{and_then}
 use Rattle.memory.proofs.Cases.{ok_is}
 use Rattle.value.specs.declared.types.ColType.TheVariants.{Boolean}
@@ -13,14 +13,13 @@ use Rattle.scope.specs.declared.lookup.Scope.{Scope}
 use Rattle.scope.specs.Entry.{Entry}
 use Rattle.scope.specs.Lookup.{find_column}
 use Rattle.scope.specs.BoundExprs.{bound_expr, bound_members, bound_arms, bound_otherwise, pair}
-use Rattle.typing.specs.Typing.{TypeOf, Typed, found_type, typed, typed_members, typed_arms, typed_otherwise, and_condition, and_arm, case_type, common_or_fault, conditions_type}
+use Rattle.typing.specs.Typing.{ArmsTyped, TypeOf, Typed, arm_type, both_arms, both_hold, case_type, common_or_fault, conditions_type, found_type, is_condition, typed, typed_arms, typed_members, typed_otherwise}
 use Rattle.type_laws.specs.Rules.{IsFitting, IsOfFitting, IsOfType, AreConditions, ArmsFit, IsArmType, IsElseType}
 use Rattle.type_laws.specs.Laws.{WhatRulesTypeIsAdmitted}
 use Rattle.type_laws.proofs.Fitting.{test_passes}
 use Rattle.type_laws.proofs.Commons.{have_common}
-use Rattle.type_laws.proofs.Parts.{one_less, arm_less, type_less}
 use Rattle.type_laws.proofs.Bound.{one, two, three}
-use Rattle.type_laws.proofs.Results.{ok_then}
+use Rattle.type_laws.proofs.Results.{ok_first, ok_then}
 use Rattle.type_laws.proofs.Typable.{Finds, negation_found, arithmetic_found, comparison_found, between_found, membership_found, null_check_found, not_found, cast_found, call_found}
 
 -- what is found is one type
@@ -38,53 +37,45 @@ module _ (entries : List Entry) where
 
   -- ---- members
 
-  abbrev MembersAdmitted : Result Bool ℕ → Result Bool ℕ → List BoundExpr → List BoundExpr → Type 0
-  MembersAdmitted known all xs ys = AreConditions entries (bound_exprs_of ys) → AreConditions entries (bound_exprs_of xs) × (known ≡ Ok true → all ≡ Ok true)
+  abbrev MembersAdmitted : Result Bool ℕ → List BoundExpr → Type 0
+  MembersAdmitted known xs = AreConditions entries (bound_exprs_of xs) → known ≡ Ok true
 
-  member_admitted : (known all : Result Bool ℕ) (a : Typed) (xs ys : List BoundExpr) (x : BoundExpr) → Admits a x → MembersAdmitted (and_condition known a) all (xs ++ x ∷ []) ys → MembersAdmitted known all xs ys
-  member_admitted known all a xs ys x h m = λ c.
-      let p = m c in
-      let less = one_less entries xs x p.0 in
-      let b = less.1 in
-      (less.0, λ k. p.1 (ap₂ and_condition k (h b.0 b.1) ∙ ap Ok (test_passes Boolean b.0 b.2)))
+  member_admitted : (a : Typed) (more : Result Bool ℕ) (x : BoundExpr) (xs : List BoundExpr) → Admits a x → MembersAdmitted more xs → MembersAdmitted (both_hold (is_condition a) more) (x ∷ xs)
+  member_admitted a more x xs h m = λ ((b, is_b, fit), rest). ap₂ both_hold (ap is_condition (h b is_b)) (m rest) ∙ ap (λ (holds : Bool). Ok (holds && true)) (test_passes Boolean b fit)
 
-  conditions_admitted : (offset : ℕ) (all : Result Bool ℕ) (ys : List BoundExpr) → MembersAdmitted (Ok true) all [] ys → Finds (λ t. AreConditions entries (bound_exprs_of ys) × (t ≡ Some Boolean)) (conditions_type offset all)
-  conditions_admitted offset all ys m t (c, e) = ap (conditions_type offset) ((m c).1 refl) ∙ ap Ok (sym e)
+  conditions_admitted : (offset : ℕ) (all : Result Bool ℕ) (xs : List BoundExpr) → MembersAdmitted all xs → Finds (λ t. AreConditions entries (bound_exprs_of xs) × (t ≡ Some Boolean)) (conditions_type offset all)
+  conditions_admitted offset all xs m t (c, e) = ap (conditions_type offset) (m c) ∙ ap Ok (sym e)
 
   -- ---- arms
 
-  -- type checking has found a type so far that fits, and the type itself where some result is of it
-  abbrev HasSoFar : Result (Bool × Option TypeOf) ℕ → List (BoundExpr × BoundExpr) → TypeOf → Type 0
-  HasSoFar known xs t = (a : TypeOf) × (known ≡ Ok (true, Some a)) × IsFitting a t × (IsArmType entries (bound_arms_of xs) t → a ≡ t)
+  -- type checking has found a type that fits, and the type itself where some result is of it
+  abbrev HasFound : ArmsTyped → List (BoundExpr × BoundExpr) → TypeOf → Type 0
+  HasFound known xs t = (a : TypeOf) × (known ≡ Ok (true, Some a)) × IsFitting a t × (IsArmType entries (bound_arms_of xs) t → a ≡ t)
 
-  abbrev ArmsAdmitted : Result (Bool × Option TypeOf) ℕ → Result (Bool × Option TypeOf) ℕ → List (BoundExpr × BoundExpr) → List (BoundExpr × BoundExpr) → Type 0
-  ArmsAdmitted known all xs ys = (t : TypeOf) → ArmsFit entries (bound_arms_of ys) t → ArmsFit entries (bound_arms_of xs) t × (HasSoFar known xs t → HasSoFar all ys t)
+  abbrev ArmsAdmitted : ArmsTyped → List (BoundExpr × BoundExpr) → Type 0
+  ArmsAdmitted known xs = (t : TypeOf) → ArmsFit entries (bound_arms_of xs) t → HasFound known xs t
 
   abbrev AdmitsArm : Typed → Typed → BoundExpr × BoundExpr → Type 0
   AdmitsArm a b x = Admits a x.0 × Admits b x.1
 
-  arm_admitted : (known all : Result (Bool × Option TypeOf) ℕ) (w r : Typed) (xs ys : List (BoundExpr × BoundExpr)) (x : BoundExpr × BoundExpr) → AdmitsArm w r x
-      → ArmsAdmitted (and_arm known w r) all (xs ++ x ∷ []) ys → ArmsAdmitted known all xs ys
-  arm_admitted known all w r xs ys x h m = λ t fit.
-      let p = m t fit in
-      let less = arm_less entries xs x t p.0 in
-      (less.0, λ k. p.1 (extended t less.1 less.2 k))
+  arm_admitted : (w r : Typed) (more : ArmsTyped) (x : BoundExpr × BoundExpr) (xs : List (BoundExpr × BoundExpr)) → AdmitsArm w r x → ArmsAdmitted more xs → ArmsAdmitted (both_arms (arm_type w r) more) (x ∷ xs)
+  arm_admitted w r more x xs h m = λ t fit. extended t fit.0 fit.1 (m t fit.2)
     where
-      extended : (t : TypeOf) → IsOfFitting (IsOfType entries x.0) (Some Boolean) → IsOfFitting (IsOfType entries x.1) t → HasSoFar known xs t → HasSoFar (and_arm known w r) (xs ++ x ∷ []) t
+      extended : (t : TypeOf) → IsOfFitting (IsOfType entries x.0) (Some Boolean) → IsOfFitting (IsOfType entries x.1) t → HasFound more xs t → HasFound (both_arms (arm_type w r) more) (x ∷ xs) t
       extended t (a, is_a, fit_a) (b, is_b, fit_b) (c, e, fit_c, k) =
-          let n = have_common c b t fit_c fit_b in
-          let known_is = ap (λ known. and_arm known w r) e ∙ ap₂ (and_arm (Ok (true, Some c))) (h.0 a is_a) (h.1 b is_b) in
-          (n.0, known_is ∙ ap₂ (λ holds o. Ok (holds, o)) (test_passes Boolean a fit_a) n.1, n.2, λ some. n.3 (either (type_less entries xs x t some)))
+          let n = have_common b c t fit_b fit_c in
+          let parts_are = ap₂ both_arms (ap₂ arm_type (h.0 a is_a) (h.1 b is_b)) e in
+          (n.0, parts_are ∙ ap₂ (λ (holds : Bool) (o : Option TypeOf). Ok (holds && true, o)) (test_passes Boolean a fit_a) n.1, n.2, λ some. n.3 (either some))
         where
-          either : IsArmType entries (bound_arms_of xs) t ⊎ IsOfType entries x.1 t → (c ≡ t) ⊎ (b ≡ t)
-          either (inl q) = inl (k q)
-          either (inr q) = inr (found_once (IsOfType entries x.1) r h.1 b t is_b q)
+          either : IsOfType entries x.1 t ⊎ IsArmType entries (bound_arms_of xs) t → (b ≡ t) ⊎ (c ≡ t)
+          either (inl q) = inl (found_once (IsOfType entries x.1) r h.1 b t is_b q)
+          either (inr q) = inr (k q)
 
-  case_admitted : (offset : ℕ) (all : Result (Bool × Option TypeOf) ℕ) (other : Typed) (ys : List (BoundExpr × BoundExpr)) (o : BoundOtherwise) → ArmsAdmitted (Ok (true, Some None)) all [] ys → Finds (IsElseType entries o) other
+  case_admitted : (offset : ℕ) (all : ArmsTyped) (other : Typed) (ys : List (BoundExpr × BoundExpr)) (o : BoundOtherwise) → ArmsAdmitted all ys → Finds (IsElseType entries o) other
       → Admits (case_type offset all other) (bound.Case offset (bound_arms_of ys) o)
-  case_admitted offset all other ys o m h t (fit, (b, is_b, fit_b), one) = last ((m t fit).1 (None, refl, inl refl, λ none. absurd none))
+  case_admitted offset all other ys o m h t (fit, (b, is_b, fit_b), one) = last (m t fit)
     where
-      last : HasSoFar all ys t → case_type offset all other ≡ Ok t
+      last : HasFound all ys t → case_type offset all other ≡ Ok t
       last (a, e, fit_a, k) =
           let n = have_common a b t fit_a fit_b in
           ap₂ (case_type offset) e (h b is_b) ∙ (ap (common_or_fault offset) n.1 ∙ ap Ok (n.3 (either one)))
@@ -123,33 +114,29 @@ module _ (entries : List Entry) where
           one (Admits (type (ast.IsNull negated offset e))) (Admits (type e)) (bind e) (bound.IsNull negated offset) (admits e) (λ x. null_check_found offset (IsOfType entries x) (type e))
       admits (ast.Not offset e) = one (Admits (type (ast.Not offset e))) (Admits (type e)) (bind e) (bound.Not offset) (admits e) (λ x. not_found offset (IsOfType entries x) (type e))
       admits (ast.And offset es) =
-          ok_then (MembersAdmitted (Ok true) (typed_members entries scope (Ok true) es) []) (Admits (type (ast.And offset es))) (bound_members entries scope [] es) _ (members_admitted es (Ok true) [])
-          (conditions_admitted offset (typed_members entries scope (Ok true) es))
+          ok_then (MembersAdmitted (typed_members entries scope es)) (Admits (type (ast.And offset es))) (bound_members entries scope es) _ (members_admitted es) (conditions_admitted offset (typed_members entries scope es))
       admits (ast.Or offset es) =
-          ok_then (MembersAdmitted (Ok true) (typed_members entries scope (Ok true) es) []) (Admits (type (ast.Or offset es))) (bound_members entries scope [] es) _ (members_admitted es (Ok true) [])
-          (conditions_admitted offset (typed_members entries scope (Ok true) es))
+          ok_then (MembersAdmitted (typed_members entries scope es)) (Admits (type (ast.Or offset es))) (bound_members entries scope es) _ (members_admitted es) (conditions_admitted offset (typed_members entries scope es))
       admits (ast.Cast offset to e) = one (Admits (type (ast.Cast offset to e))) (Admits (type e)) (bind e) (bound.Cast offset to) (admits e) (λ x. cast_found offset (IsOfType entries x) to (type e))
       admits (ast.Case offset as_ o) =
-          ok_then (ArmsAdmitted (Ok (true, Some None)) (typed_arms entries scope (Ok (true, Some None)) as_) []) (Admits (type (ast.Case offset as_ o))) (bound_arms entries scope [] as_) _ (arms_admitted as_ (Ok (true, Some None)) []) (λ xs h.
+          ok_then (ArmsAdmitted (typed_arms entries scope as_)) (Admits (type (ast.Case offset as_ o))) (bound_arms entries scope as_) _ (arms_admitted as_) (λ xs h.
           ok_then (λ x. Finds (IsElseType entries x) (typed_otherwise entries scope o)) (Admits (type (ast.Case offset as_ o))) (bound_otherwise entries scope o) _ (else_admitted o) (λ x.
-          case_admitted offset (typed_arms entries scope (Ok (true, Some None)) as_) (typed_otherwise entries scope o) xs x h))
+          case_admitted offset (typed_arms entries scope as_) (typed_otherwise entries scope o) xs x h))
       admits (ast.CountStar offset) = λ t h. ap Ok (sym h)
       admits (ast.Call f offset e) = one (Admits (type (ast.Call f offset e))) (Admits (type e)) (bind e) (bound.Call f offset) (admits e) (λ x. call_found offset (IsOfType entries x) f (type e))
 
-      members_admitted : (es : ast.Exprs) (known : Result Bool ℕ) (xs : List BoundExpr) → IfOk (bound_members entries scope xs es) (MembersAdmitted known (typed_members entries scope known es) xs)
-      members_admitted ast.no_expr known xs = λ c. (c, λ k. k)
-      members_admitted (ast.one_expr e es) known xs =
-          ok_then (Admits (type e)) _ (bind e) (λ x. bound_members entries scope (xs ++ x ∷ []) es) (admits e) (λ x h.
-          IfOk-weaker (bound_members entries scope (xs ++ x ∷ []) es) _ _ (λ ys. member_admitted known (typed_members entries scope (and_condition known (type e)) es) (type e) xs ys x h)
-          (members_admitted es (and_condition known (type e)) (xs ++ x ∷ [])))
+      members_admitted : (es : ast.Exprs) → IfOk (bound_members entries scope es) (MembersAdmitted (typed_members entries scope es))
+      members_admitted ast.no_expr = λ c. refl
+      members_admitted (ast.one_expr e es) =
+          ok_first (Admits (type e)) (MembersAdmitted (typed_members entries scope es)) (MembersAdmitted (typed_members entries scope (ast.one_expr e es))) (bind e) (bound_members entries scope es) (admits e) (members_admitted es)
+          (member_admitted (type e) (typed_members entries scope es))
 
-      arms_admitted : (as_ : ast.Arms) (known : Result (Bool × Option TypeOf) ℕ) (xs : List (BoundExpr × BoundExpr)) → IfOk (bound_arms entries scope xs as_) (ArmsAdmitted known (typed_arms entries scope known as_) xs)
-      arms_admitted ast.no_arm known xs = λ t fit. (fit, λ k. k)
-      arms_admitted (ast.one_arm when result as_) known xs =
-          ok_then (AdmitsArm (type when) (type result)) _ (pair (bind when) (bind result)) (λ x. bound_arms entries scope (xs ++ x ∷ []) as_)
-          (two (AdmitsArm (type when) (type result)) (Admits (type when)) (Admits (type result)) (bind when) (bind result) (λ x y. (x, y)) (admits when) (admits result) (λ x y h k. (h, k))) (λ x h.
-          IfOk-weaker (bound_arms entries scope (xs ++ x ∷ []) as_) _ _ (λ ys. arm_admitted known (typed_arms entries scope (and_arm known (type when) (type result)) as_) (type when) (type result) xs ys x h)
-          (arms_admitted as_ (and_arm known (type when) (type result)) (xs ++ x ∷ [])))
+      arms_admitted : (as_ : ast.Arms) → IfOk (bound_arms entries scope as_) (ArmsAdmitted (typed_arms entries scope as_))
+      arms_admitted ast.no_arm = λ t fit. (None, refl, inl refl, λ none. absurd none)
+      arms_admitted (ast.one_arm when result as_) =
+          ok_first (AdmitsArm (type when) (type result)) (ArmsAdmitted (typed_arms entries scope as_)) (ArmsAdmitted (typed_arms entries scope (ast.one_arm when result as_))) (pair (bind when) (bind result)) (bound_arms entries scope as_)
+          (two (AdmitsArm (type when) (type result)) (Admits (type when)) (Admits (type result)) (bind when) (bind result) (λ x y. (x, y)) (admits when) (admits result) (λ x y h k. (h, k))) (arms_admitted as_)
+          (arm_admitted (type when) (type result) (typed_arms entries scope as_))
 
       else_admitted : (o : ast.Otherwise) → IfOk (bound_otherwise entries scope o) (λ x. Finds (IsElseType entries x) (typed_otherwise entries scope o))
       else_admitted ast.Nothing = λ t h. ap Ok (sym h)

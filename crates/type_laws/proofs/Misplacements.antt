@@ -8,7 +8,7 @@ use Rattle.scope.specs.Lookup.{find_column}
 use Rattle.typing.specs.Offsets.{least_of}
 use Rattle.typing.specs.Grouping.{misplaced, misplaced_arms, misplaced_call, misplaced_column, misplaced_members, misplaced_otherwise}
 use Rattle.type_laws.specs.Faults.{MisplacedIsLeast, misplacements, misplacements_of_arms, misplacements_of_call, misplacements_of_members, misplacements_of_otherwise}
-use Rattle.type_laws.proofs.Leasts.{least_in, least_cons, least_one, least_two, least_more, least_of_none}
+use Rattle.type_laws.proofs.Leasts.{least_in, least_cons, least_one, least_two}
 
 call_least : (of_groups : Bool) (offset : ℕ) (a : Option ℕ) (is : List ℕ) → a ≡ least_in is → misplaced_call of_groups offset a ≡ least_in (misplacements_of_call of_groups offset is)
 call_least true offset a is h = h
@@ -36,26 +36,25 @@ module _ (entries : List Entry) (scope : Scope) (group_by : List ColumnId) where
     misplaced_least g (ast.In negated offset values e) = misplaced_least g e
     misplaced_least g (ast.IsNull negated offset e) = misplaced_least g e
     misplaced_least g (ast.Not offset e) = misplaced_least g e
-    misplaced_least g (ast.And offset es) = members_least g None es
-    misplaced_least g (ast.Or offset es) = members_least g None es
+    misplaced_least g (ast.And offset es) = members_least g es
+    misplaced_least g (ast.Or offset es) = members_least g es
     misplaced_least g (ast.Cast offset to e) = misplaced_least g e
     misplaced_least g (ast.Case offset as_ o) =
-        least_two (misplaced_arms entries scope group_by g None as_) (misplaced_otherwise entries scope group_by g o) (misplacements_of_arms entries scope group_by g as_) (misplacements_of_otherwise entries scope group_by g o)
-        (arms_least g None as_) (otherwise_least g o)
+        least_two (misplaced_arms entries scope group_by g as_) (misplaced_otherwise entries scope group_by g o) (misplacements_of_arms entries scope group_by g as_) (misplacements_of_otherwise entries scope group_by g o)
+        (arms_least g as_) (otherwise_least g o)
     misplaced_least g (ast.CountStar offset) = call_least g offset None [] refl
     misplaced_least g (ast.Call f offset e) = call_least g offset (found false e) (all false e) (misplaced_least false e)
 
-    -- after those before
-    members_least : (g : Bool) (known : Option ℕ) (es : ast.Exprs) → misplaced_members entries scope group_by g known es ≡ least_of known (least_in (misplacements_of_members entries scope group_by g es))
-    members_least g known ast.no_expr = sym (least_of_none known)
-    members_least g known (ast.one_expr e es) =
-        least_more (found g e) (misplaced_members entries scope group_by g known (ast.one_expr e es)) (all g e) (misplacements_of_members entries scope group_by g es) known (misplaced_least g e) (members_least g (least_of known (found g e)) es)
+    members_least : (g : Bool) (es : ast.Exprs) → misplaced_members entries scope group_by g es ≡ least_in (misplacements_of_members entries scope group_by g es)
+    members_least g ast.no_expr = refl
+    members_least g (ast.one_expr e es) =
+        least_two (found g e) (misplaced_members entries scope group_by g es) (all g e) (misplacements_of_members entries scope group_by g es) (misplaced_least g e) (members_least g es)
 
-    arms_least : (g : Bool) (known : Option ℕ) (as_ : ast.Arms) → misplaced_arms entries scope group_by g known as_ ≡ least_of known (least_in (misplacements_of_arms entries scope group_by g as_))
-    arms_least g known ast.no_arm = sym (least_of_none known)
-    arms_least g known (ast.one_arm when result as_) =
-        least_more (least_of (found g when) (found g result)) (misplaced_arms entries scope group_by g known (ast.one_arm when result as_)) (all g when ++ all g result) (misplacements_of_arms entries scope group_by g as_) known
-        (least_two (found g when) (found g result) (all g when) (all g result) (misplaced_least g when) (misplaced_least g result)) (arms_least g (least_of known (least_of (found g when) (found g result))) as_)
+    arms_least : (g : Bool) (as_ : ast.Arms) → misplaced_arms entries scope group_by g as_ ≡ least_in (misplacements_of_arms entries scope group_by g as_)
+    arms_least g ast.no_arm = refl
+    arms_least g (ast.one_arm when result as_) =
+        least_two (least_of (found g when) (found g result)) (misplaced_arms entries scope group_by g as_) (all g when ++ all g result) (misplacements_of_arms entries scope group_by g as_)
+        (least_two (found g when) (found g result) (all g when) (all g result) (misplaced_least g when) (misplaced_least g result)) (arms_least g as_)
 
     otherwise_least : (g : Bool) (o : ast.Otherwise) → misplaced_otherwise entries scope group_by g o ≡ least_in (misplacements_of_otherwise entries scope group_by g o)
     otherwise_least g ast.Nothing = refl

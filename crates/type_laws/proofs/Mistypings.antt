@@ -1,5 +1,5 @@
 -- Type checking finds the least offset of an operation that is mistyped.
-use Rattle.std.proofs.Common.{◌≡◌, ℕ, ◌&&◌, Bool, true, List, [], ◌∷◌, ◌++◌, Option, Some, None, Result, Ok, Err, refl, sym, ap, ◌∙◌, append_assoc}
+use Rattle.std.proofs.Common.{◌≡◌, ℕ, ◌&&◌, List, [], ◌∷◌, ◌++◌, map, Option, Some, None, Result, Ok, Err, refl, sym, ap, ◌∙◌, append_assoc}
 use Rattle.memory.specs.Results.{and_then}
 use Rattle.value.specs.declared.types.ColType.TheVariants.{Bigint, Boolean}
 use Rattle.row_ast.specs.Ast as ast
@@ -9,9 +9,9 @@ use Rattle.bags.specs.Least.{lesser}
 use Rattle.std.specs.Ordering.{nat_cmp}
 use Rattle.typing.specs.Offsets.{both, least_of}
 use Rattle.typing.specs.Clauses.{mistyped}
-use Rattle.typing.specs.Typing.{TypeOf, Typed, aggregate_type, and_arm, and_condition, between_type, can_cast, common, common_of_all, common_type, common_with, fits, result_type, truth_if_common, type_if, typed, typed_arms, typed_members, typed_otherwise}
+use Rattle.typing.specs.Typing.{Typed, aggregate_type, arm_type, between_type, can_cast, common, common_of, common_of_all, common_type, fits, is_condition, result_type, truth_if_common, type_if, type_of, typed, typed_arms, typed_members, typed_otherwise}
 use Rattle.type_laws.specs.Faults.{MistypedIsLeast, inner_or_own, mistypings, mistypings_of_arms, mistypings_of_members, mistypings_of_otherwise}
-use Rattle.type_laws.proofs.Leasts.{least_in, least_one, least_two, least_more, least_of_none}
+use Rattle.type_laws.proofs.Leasts.{least_in, least_one, least_two}
 
 -- ---- the offset of an error
 
@@ -59,13 +59,8 @@ module _ {X Y : Type 0} (a : Result X ℕ) (b : Result Y ℕ) (xs ys : List ℕ)
 between_least : (offset : ℕ) (a b c : Typed) (xs ys zs : List ℕ) → error_at a ≡ least_in xs → error_at b ≡ least_in ys → error_at c ≡ least_in zs
     → error_at (between_type offset a b c) ≡ least_in (inner_or_own (xs ++ (ys ++ zs)) (between_type offset a b c))
 between_least offset a b c xs ys zs h k l =
-    operation_least (λ p. truth_if_common offset (common_with p.0 p.1)) (both (common_type a b) c) (xs ++ (ys ++ zs))
+    operation_least (λ p. truth_if_common offset (common_of p.0 (Some p.1))) (both (common_type a b) c) (xs ++ (ys ++ zs))
     (both_least (common_type a b) c (xs ++ ys) zs (made_at (λ p. common p.0 p.1) (both a b) ∙ both_least a b xs ys h k) l ∙ ap least_in (append_assoc xs ys zs))
-
--- one more part, and those that follow
-part_more : {X Y Z : Type 0} (f : X × Y → Z) (known : Result X ℕ) (a : Result Y ℕ) (o : Option ℕ) (xs ys : List ℕ) → error_at a ≡ least_in xs → o ≡ least_of (error_at (made f (both known a))) (least_in ys)
-    → o ≡ least_of (error_at known) (least_in (xs ++ ys))
-part_more f known a o xs ys h k = least_more (error_at a) o xs ys (error_at known) h (k ∙ ap (λ e. least_of e (least_in ys)) (made_at f (both known a) ∙ both_at known a))
 
 -- ---- expressions
 
@@ -86,33 +81,32 @@ module _ (entries : List Entry) (scope : Scope) where
         operation_of_two (type e) (type f) (all e) (all f) (λ p. type_if offset (fits Bigint p.0 && fits Bigint p.1) (Some Bigint)) (mistyped_least e) (mistyped_least f)
     mistyped_least (ast.Comparison op offset e f) = operation_of_two (type e) (type f) (all e) (all f) (λ p. truth_if_common offset (common p.0 p.1)) (mistyped_least e) (mistyped_least f)
     mistyped_least (ast.Between negated offset e low high) = between_least offset (type e) (type low) (type high) (all e) (all low) (all high) (mistyped_least e) (mistyped_least low) (mistyped_least high)
-    mistyped_least (ast.In negated offset values e) = operation_least (λ t. truth_if_common offset (common_of_all (Some t) values)) (type e) (all e) (mistyped_least e)
+    mistyped_least (ast.In negated offset values e) = operation_least (λ t. truth_if_common offset (common_of_all (t ∷ map type_of values))) (type e) (all e) (mistyped_least e)
     mistyped_least (ast.IsNull negated offset e) = operation_least (λ t. Ok (Some Boolean)) (type e) (all e) (mistyped_least e)
     mistyped_least (ast.Not offset e) = operation_least (λ t. type_if offset (fits Boolean t) (Some Boolean)) (type e) (all e) (mistyped_least e)
     mistyped_least (ast.And offset es) =
-        operation_least (λ holds. type_if offset holds (Some Boolean)) (typed_members entries scope (Ok true) es) (mistypings_of_members entries scope es) (members_least (Ok true) es)
+        operation_least (λ holds. type_if offset holds (Some Boolean)) (typed_members entries scope es) (mistypings_of_members entries scope es) (members_least es)
     mistyped_least (ast.Or offset es) =
-        operation_least (λ holds. type_if offset holds (Some Boolean)) (typed_members entries scope (Ok true) es) (mistypings_of_members entries scope es) (members_least (Ok true) es)
+        operation_least (λ holds. type_if offset holds (Some Boolean)) (typed_members entries scope es) (mistypings_of_members entries scope es) (members_least es)
     mistyped_least (ast.Cast offset to e) = operation_least (λ t. type_if offset (can_cast to t) (Some to)) (type e) (all e) (mistyped_least e)
     mistyped_least (ast.Case offset as_ o) =
-        operation_of_two (typed_arms entries scope (Ok (true, Some None)) as_) (typed_otherwise entries scope o) (mistypings_of_arms entries scope as_) (mistypings_of_otherwise entries scope o) (λ p. result_type offset p.0.0 p.0.1 p.1)
-        (arms_least (Ok (true, Some None)) as_) (otherwise_least o)
+        operation_of_two (typed_arms entries scope as_) (typed_otherwise entries scope o) (mistypings_of_arms entries scope as_) (mistypings_of_otherwise entries scope o) (λ p. result_type offset p.0.0 p.0.1 p.1)
+        (arms_least as_) (otherwise_least o)
     mistyped_least (ast.CountStar offset) = refl
     mistyped_least (ast.Call f offset e) = operation_least (aggregate_type offset f) (type e) (all e) (mistyped_least e)
 
-    -- after those before
-    members_least : (known : Result Bool ℕ) (es : ast.Exprs) → error_at (typed_members entries scope known es) ≡ least_of (error_at known) (least_in (mistypings_of_members entries scope es))
-    members_least known ast.no_expr = sym (least_of_none (error_at known))
-    members_least known (ast.one_expr e es) =
-        part_more (λ p. p.0 && fits Boolean p.1) known (type e) (error_at (typed_members entries scope known (ast.one_expr e es))) (all e) (mistypings_of_members entries scope es) (mistyped_least e)
-        (members_least (and_condition known (type e)) es)
+    members_least : (es : ast.Exprs) → error_at (typed_members entries scope es) ≡ least_in (mistypings_of_members entries scope es)
+    members_least ast.no_expr = refl
+    members_least (ast.one_expr e es) =
+        made_at (λ p. p.0 && p.1) (both (is_condition (type e)) (typed_members entries scope es))
+        ∙ both_least (is_condition (type e)) (typed_members entries scope es) (all e) (mistypings_of_members entries scope es) (made_at (fits Boolean) (type e) ∙ mistyped_least e) (members_least es)
 
-    arms_least : (known : Result (Bool × Option TypeOf) ℕ) (as_ : ast.Arms) → error_at (typed_arms entries scope known as_) ≡ least_of (error_at known) (least_in (mistypings_of_arms entries scope as_))
-    arms_least known ast.no_arm = sym (least_of_none (error_at known))
-    arms_least known (ast.one_arm when result as_) =
-        part_more (λ p. (p.0.0 && fits Boolean p.1.0, common_with p.0.1 p.1.1)) known (both (type when) (type result)) (error_at (typed_arms entries scope known (ast.one_arm when result as_)))
-        (all when ++ all result) (mistypings_of_arms entries scope as_) (both_least (type when) (type result) (all when) (all result) (mistyped_least when) (mistyped_least result))
-        (arms_least (and_arm known (type when) (type result)) as_)
+    arms_least : (as_ : ast.Arms) → error_at (typed_arms entries scope as_) ≡ least_in (mistypings_of_arms entries scope as_)
+    arms_least ast.no_arm = refl
+    arms_least (ast.one_arm when result as_) =
+        made_at (λ p. (p.0.0 && p.1.0, common_of p.0.1 p.1.1)) (both (arm_type (type when) (type result)) (typed_arms entries scope as_))
+        ∙ both_least (arm_type (type when) (type result)) (typed_arms entries scope as_) (all when ++ all result) (mistypings_of_arms entries scope as_)
+        (made_at (λ p. (fits Boolean p.0, Some p.1)) (both (type when) (type result)) ∙ both_least (type when) (type result) (all when) (all result) (mistyped_least when) (mistyped_least result)) (arms_least as_)
 
     otherwise_least : (o : ast.Otherwise) → error_at (typed_otherwise entries scope o) ≡ least_in (mistypings_of_otherwise entries scope o)
     otherwise_least ast.Nothing = refl

@@ -1,5 +1,5 @@
 -- The types that type checking gives to operations are those of the rules.
-use Rattle.std.proofs.Common.{◌≡◌, ℕ, Bool, true, ◌&&◌, All, List, Some, Result, Ok, Err, IfOk, refl}
+use Rattle.std.proofs.Common.{◌≡◌, ℕ, Bool, true, ◌&&◌, All, List, ◌∷◌, map, Some, Result, Ok, Err, IfOk, refl}
 use Rattle.std.proofs.lemmas.List.Elements.{All-weaker}
 use Rattle.std.proofs.lemmas.Option.{IfSome_then}
 use Rattle.value.specs.Datum.{Datum}
@@ -7,7 +7,7 @@ use Rattle.value.specs.declared.types.ColType.{ColType}
 use Rattle.value.specs.declared.types.ColType.TheVariants.{Bigint, Boolean}
 use Rattle.value.specs.declared.operators.Aggregate.{Aggregate}
 use Rattle.value.specs.declared.operators.Aggregate.TheVariants.{Count, Sum, Min, Max}
-use Rattle.typing.specs.Typing.{TypeOf, Typed, fits, common, common_with, common_of_all, can_cast, is_ordered, type_of, negation_type, arithmetic_type, comparison_type, membership_type, null_check_type, not_type, cast_type, call_type, between_type, conditions_type}
+use Rattle.typing.specs.Typing.{TypeOf, Typed, fits, common, common_of, common_of_all, can_cast, is_ordered, type_of, negation_type, arithmetic_type, comparison_type, membership_type, null_check_type, not_type, cast_type, call_type, between_type, conditions_type}
 use Rattle.type_laws.specs.Rules.{IsOfFitting, HasType, IsAggregateType}
 use Rattle.type_laws.proofs.Fitting.{fits_by_test, fits_further, not_boolean}
 use Rattle.type_laws.proofs.Commons.{common_fits, three_fit, some_type, all_fit}
@@ -26,7 +26,7 @@ module _ (offset : ℕ) where
 
     pub membership_rule : (a : Typed) (values : List Datum) → IfOk a P → IfOk (membership_type offset a values) (λ t. (c : ColType) × IsOfFitting P (Some c) × All (HasType (Some c)) values × (t ≡ Some Boolean))
     membership_rule (Ok a) values h =
-        ok_if_common _ offset (common_of_all (Some a) values) (IfSome_then (common_of_all (Some a) values) (all_fit a values) (λ d p.
+        ok_if_common _ offset (common_of_all (a ∷ map type_of values)) (IfSome_then (common_of_all (a ∷ map type_of values)) (all_fit a values) (λ d p.
         let c = some_type d in
         (c.0, (a, h, fits_further a d (Some c.0) p.0 c.1), All-weaker (HasType d) (HasType (Some c.0)) (λ value q. fits_further (type_of value) d (Some c.0) q c.1) values p.1, refl)))
     membership_rule (Err i) values h = tt
@@ -71,7 +71,7 @@ module _ (offset : ℕ) where
         pub between_rule : (a b c : Typed) → IfOk a P → IfOk b Q → IfOk c R
             → IfOk (between_type offset a b c) (λ t. (d : ColType) × IsOfFitting P (Some d) × IsOfFitting Q (Some d) × IsOfFitting R (Some d) × (t ≡ Some Boolean))
         between_rule (Ok a) (Ok b) (Ok c) h k m =
-            ok_if_common _ offset (common_with (common a b) c) (IfSome_then (common_with (common a b) c) (three_fit a b c) (λ e p.
+            ok_if_common _ offset (common_of (common a b) (Some c)) (IfSome_then (common_of (common a b) (Some c)) (three_fit a b c) (λ e p.
             let d = some_type e in
             (d.0, (a, h, fits_further a e (Some d.0) p.0 d.1), (b, k, fits_further b e (Some d.0) p.1 d.1), (c, m, fits_further c e (Some d.0) p.2 d.1), refl)))
         between_rule (Ok a) (Ok b) (Err j) h k m = tt

@@ -9,9 +9,9 @@ use Rattle.scope.specs.Lookup.{everywhere, on_scope}
 use Rattle.typing.specs.Offsets.{least_of}
 use Rattle.typing.specs.Grouping.{misplaced}
 use Rattle.typing.specs.Typing.{fits, type_if, typed, typed_condition}
-use Rattle.typing.specs.Clauses.{every_grouped, first_fault, is_grouped, misplaced_condition, misplaced_in, misplaced_items, misplaced_ons, misplaced_select, misplaced_star, mistyped, mistyped_condition, mistyped_in, mistyped_items, mistyped_ons, mistyped_select}
+use Rattle.typing.specs.Clauses.{every_grouped, first_fault, is_grouped, misplaced_condition, misplaced_in, misplaced_ons, misplaced_select, misplaced_star, mistyped, mistyped_condition, mistyped_in, mistyped_ons, mistyped_select}
 use Rattle.type_laws.specs.Faults.{QueryFaultIsLeast, misplacements, misplacements_in, misplacements_of_condition, misplacements_of_select, mistypings, mistypings_in, mistypings_of_condition, mistypings_of_ons, mistypings_of_select}
-use Rattle.type_laws.proofs.Leasts.{least_in, least_one, least_more, least_two, least_of_none}
+use Rattle.type_laws.proofs.Leasts.{least_each, least_in, least_one, least_two}
 use Rattle.type_laws.proofs.Misplacements.{misplaced_least}
 use Rattle.type_laws.proofs.Mistypings.{mistyped_least, mistyped_at, mistyped_is_least, operation_least}
 
@@ -24,49 +24,29 @@ module _ (entries : List Entry) where
   -- ---- misplaced parts
 
   module _ (group_by : List ColumnId) where
-    -- after those before
-    items_misplaced : (g : Bool) (known : Option ℕ) (items : List ast.SelectItem)
-        → misplaced_items entries group_by g known items ≡ least_of known (least_in (flat_map (λ i. misplacements entries (everywhere entries) group_by g i.value) items))
-    items_misplaced g known [] = sym (least_of_none known)
-    items_misplaced g known (i ∷ more) =
-        least_more (misplaced entries (everywhere entries) group_by g i.value) (misplaced_items entries group_by g known (i ∷ more)) (misplacements entries (everywhere entries) group_by g i.value)
-        (flat_map (λ i. misplacements entries (everywhere entries) group_by g i.value) more) known (misplaced_least entries (everywhere entries) group_by g i.value)
-        (items_misplaced g (least_of known (misplaced entries (everywhere entries) group_by g i.value)) more)
-
     select_misplaced : (g : Bool) (s : ast.SelectList) → misplaced_select entries group_by g s ≡ least_in (misplacements_of_select entries group_by g s)
     select_misplaced g (ast.All offset) = sym (least_one (misplaced_star g (every_grouped group_by 0 entries) offset))
-    select_misplaced g (ast.Items items) = items_misplaced g None items
+    select_misplaced g (ast.Items items) = least_each (λ i. misplaced entries (everywhere entries) group_by g i.value) (λ i. misplacements entries (everywhere entries) group_by g i.value) (λ i. misplaced_least entries (everywhere entries) group_by g i.value) items
 
     condition_misplaced : (g : Bool) (c : Option ast.Condition) → misplaced_condition entries group_by g c ≡ least_in (misplacements_of_condition entries group_by g c)
     condition_misplaced g None = refl
     condition_misplaced g (Some c) = misplaced_least entries (everywhere entries) group_by g c.predicate
 
-    ons_misplaced : (known : Option ℕ) (es : List Entry) → misplaced_ons entries group_by known es ≡ least_of known (least_in (flat_map (λ e. misplacements_of_condition entries group_by false e.on) es))
-    ons_misplaced known [] = sym (least_of_none known)
-    ons_misplaced known (e ∷ more) =
-        least_more (misplaced_condition entries group_by false e.on) (misplaced_ons entries group_by known (e ∷ more)) (misplacements_of_condition entries group_by false e.on)
-        (flat_map (λ e. misplacements_of_condition entries group_by false e.on) more) known (condition_misplaced false e.on) (ons_misplaced (least_of known (misplaced_condition entries group_by false e.on)) more)
+    ons_misplaced : misplaced_ons entries group_by ≡ least_in (flat_map (λ e. misplacements_of_condition entries group_by false e.on) entries)
+    ons_misplaced = least_each (λ e. misplaced_condition entries group_by false e.on) (λ e. misplacements_of_condition entries group_by false e.on) (λ e. condition_misplaced false e.on) entries
 
     query_misplaced : (q : ast.Query) → misplaced_in entries group_by q ≡ least_in (misplacements_in entries group_by q)
     query_misplaced q =
         let g : Bool = is_grouped entries q in
-        least_four (misplaced_select entries group_by g q.select) (misplaced_ons entries group_by None entries) (misplaced_condition entries group_by false q.filter) (misplaced_condition entries group_by g q.having)
+        least_four (misplaced_select entries group_by g q.select) (misplaced_ons entries group_by) (misplaced_condition entries group_by false q.filter) (misplaced_condition entries group_by g q.having)
         (misplacements_of_select entries group_by g q.select) (flat_map (λ e. misplacements_of_condition entries group_by false e.on) entries) (misplacements_of_condition entries group_by false q.filter)
-        (misplacements_of_condition entries group_by g q.having) (select_misplaced g q.select) (ons_misplaced None entries) (condition_misplaced false q.filter) (condition_misplaced g q.having)
+        (misplacements_of_condition entries group_by g q.having) (select_misplaced g q.select) ons_misplaced (condition_misplaced false q.filter) (condition_misplaced g q.having)
 
   -- ---- mistyped operations
 
-  -- after those before
-  items_mistyped : (known : Option ℕ) (items : List ast.SelectItem) → mistyped_items entries known items ≡ least_of known (least_in (flat_map (λ i. mistypings entries (everywhere entries) i.value) items))
-  items_mistyped known [] = sym (least_of_none known)
-  items_mistyped known (i ∷ more) =
-      least_more (mistyped (typed entries (everywhere entries) i.value)) (mistyped_items entries known (i ∷ more)) (mistypings entries (everywhere entries) i.value)
-      (flat_map (λ i. mistypings entries (everywhere entries) i.value) more) known (mistyped_is_least entries (everywhere entries) i.value)
-      (items_mistyped (least_of known (mistyped (typed entries (everywhere entries) i.value))) more)
-
   select_mistyped : (s : ast.SelectList) → mistyped_select entries s ≡ least_in (mistypings_of_select entries s)
   select_mistyped (ast.All offset) = refl
-  select_mistyped (ast.Items items) = items_mistyped None items
+  select_mistyped (ast.Items items) = least_each (λ i. mistyped (typed entries (everywhere entries) i.value)) (λ i. mistypings entries (everywhere entries) i.value) (λ i. mistyped_is_least entries (everywhere entries) i.value) items
 
   condition_mistyped : (scope : Scope) (c : Option ast.Condition) → mistyped_condition entries scope c ≡ least_in (mistypings_of_condition entries scope c)
   condition_mistyped scope None = refl
@@ -74,17 +54,17 @@ module _ (entries : List Entry) where
       mistyped_at (typed_condition entries scope c.offset c.predicate)
       ∙ operation_least (λ t. type_if c.offset (fits Boolean t) t) (typed entries scope c.predicate) (mistypings entries scope c.predicate) (mistyped_least entries scope c.predicate)
 
-  ons_mistyped : (number : ℕ) (known : Option ℕ) (es : List Entry) → mistyped_ons entries number known es ≡ least_of known (least_in (mistypings_of_ons entries number es))
-  ons_mistyped number known [] = sym (least_of_none known)
-  ons_mistyped number known (e ∷ more) =
-      least_more (mistyped_condition entries (on_scope number e) e.on) (mistyped_ons entries number known (e ∷ more)) (mistypings_of_condition entries (on_scope number e) e.on) (mistypings_of_ons entries (number + 1) more) known
-      (condition_mistyped (on_scope number e) e.on) (ons_mistyped (number + 1) (least_of known (mistyped_condition entries (on_scope number e) e.on)) more)
+  ons_mistyped : (number : ℕ) (es : List Entry) → mistyped_ons entries number es ≡ least_in (mistypings_of_ons entries number es)
+  ons_mistyped number [] = refl
+  ons_mistyped number (e ∷ more) =
+      least_two (mistyped_condition entries (on_scope number e) e.on) (mistyped_ons entries (number + 1) more) (mistypings_of_condition entries (on_scope number e) e.on) (mistypings_of_ons entries (number + 1) more)
+      (condition_mistyped (on_scope number e) e.on) (ons_mistyped (number + 1) more)
 
   query_mistyped : (q : ast.Query) → mistyped_in entries q ≡ least_in (mistypings_in entries q)
   query_mistyped q =
-      least_four (mistyped_select entries q.select) (mistyped_ons entries 0 None entries) (mistyped_condition entries (everywhere entries) q.filter) (mistyped_condition entries (everywhere entries) q.having)
+      least_four (mistyped_select entries q.select) (mistyped_ons entries 0 entries) (mistyped_condition entries (everywhere entries) q.filter) (mistyped_condition entries (everywhere entries) q.having)
       (mistypings_of_select entries q.select) (mistypings_of_ons entries 0 entries) (mistypings_of_condition entries (everywhere entries) q.filter) (mistypings_of_condition entries (everywhere entries) q.having)
-      (select_mistyped q.select) (ons_mistyped 0 None entries) (condition_mistyped (everywhere entries) q.filter) (condition_mistyped (everywhere entries) q.having)
+      (select_mistyped q.select) (ons_mistyped 0 entries) (condition_mistyped (everywhere entries) q.filter) (condition_mistyped (everywhere entries) q.having)
 
 pub query_fault_is_least : QueryFaultIsLeast
 query_fault_is_least entries group_by q = ap₂ first_fault (query_misplaced entries group_by q) (query_mistyped entries q)

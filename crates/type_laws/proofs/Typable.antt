@@ -1,11 +1,11 @@
 -- Type checking gives to operations the types of the rules.
-use Rattle.std.proofs.Common.{◌≡◌, ℕ, Bool, true, false, ◌&&◌, All, List, Option, Some, None, Ok, sym, ap, ap₂, ◌∙◌}
+use Rattle.std.proofs.Common.{◌≡◌, ℕ, Bool, true, false, ◌&&◌, All, List, ◌∷◌, map, Option, Some, None, Ok, sym, ap, ap₂, ◌∙◌}
 use Rattle.value.specs.Datum.{Datum}
 use Rattle.value.specs.declared.types.ColType.{ColType}
 use Rattle.value.specs.declared.types.ColType.TheVariants.{Bigint, Boolean}
 use Rattle.value.specs.declared.operators.Aggregate.{Aggregate}
 use Rattle.value.specs.declared.operators.Aggregate.TheVariants.{Count, Sum, Min, Max}
-use Rattle.typing.specs.Typing.{TypeOf, Typed, fits, common, common_with, common_of_all, can_cast, is_ordered, type_if, truth_if_common, negation_type, arithmetic_type, comparison_type, membership_type, null_check_type, not_type, cast_type, call_type, between_type}
+use Rattle.typing.specs.Typing.{TypeOf, Typed, fits, common, common_of, common_of_all, can_cast, is_ordered, type_if, type_of, truth_if_common, negation_type, arithmetic_type, comparison_type, membership_type, null_check_type, not_type, cast_type, call_type, between_type}
 use Rattle.type_laws.specs.Rules.{IsOfFitting, HasType, IsAggregateType}
 use Rattle.type_laws.proofs.Fitting.{has_order, test_passes}
 use Rattle.type_laws.proofs.Commons.{have_common, have_all_common}
@@ -29,7 +29,7 @@ module _ (offset : ℕ) where
 
     pub membership_found : (a : Typed) (values : List Datum) → Finds P a → Finds (λ t. (c : ColType) × IsOfFitting P (Some c) × All (HasType (Some c)) values × (t ≡ Some Boolean)) (membership_type offset a values)
     membership_found a values h t (c, (b, p, fit), all, e) =
-        let m = have_all_common b values (Some c) fit all in ap (λ a. membership_type offset a values) (h b p) ∙ compared (common_of_all (Some b) values) m.0 t m.1 e
+        let m = have_all_common b values (Some c) fit all in ap (λ a. membership_type offset a values) (h b p) ∙ compared (common_of_all (b ∷ map type_of values)) m.0 t m.1 e
 
     pub null_check_found : (a : Typed) → Finds P a → Finds (λ t. (b : TypeOf) × P b × (t ≡ Some Boolean)) (null_check_type a)
     null_check_found a h t (b, p, e) = ap null_check_type (h b p) ∙ ap Ok (sym e)
@@ -61,4 +61,4 @@ module _ (offset : ℕ) where
         between_found a b c h k l t (d, (x, p, fit_x), (y, q, fit_y), (z, r, fit_z), e) =
             let m = have_common x y (Some d) fit_x fit_y in
             let n = have_common m.0 z (Some d) m.2 fit_z in
-            ap₂ (λ a b. between_type offset a b c) (h x p) (k y q) ∙ (ap (between_type offset (Ok x) (Ok y)) (l z r) ∙ compared (common_with (common x y) z) n.0 t (ap (λ o. common_with o z) m.1 ∙ n.1) e)
+            ap₂ (λ a b. between_type offset a b c) (h x p) (k y q) ∙ (ap (between_type offset (Ok x) (Ok y)) (l z r) ∙ compared (common_of (common x y) (Some z)) n.0 t (ap (λ o. common_of o (Some z)) m.1 ∙ n.1) e)

@@ -1,5 +1,5 @@
 -- The checks of a query on aggregates and on types.
-use Rattle.std.specs.Prelude.{ℕ, ◌+◌, Bool, true, false, not, ◌&&◌, ◌||◌, List, [], ◌∷◌, Option, Some, None, is_some, Ok, Err, if◌then◌else◌}
+use Rattle.std.specs.Prelude.{ℕ, ◌+◌, Bool, true, false, not, ◌&&◌, ◌||◌, List, [], ◌∷◌, map, Option, Some, None, is_some, Ok, Err, if◌then◌else◌}
 use Rattle.std.specs.List.{list_any}
 use Rattle.value.specs.Columns.{Column}
 use Rattle.value.specs.declared.refusal.Refusal.TheVariants as r
@@ -10,18 +10,12 @@ use Rattle.scope.specs.declared.error.BindError.{BindError}
 use Rattle.scope.specs.declared.lookup.Scope.{Scope}
 use Rattle.scope.specs.Entry.{Entry, fault}
 use Rattle.scope.specs.Lookup.{everywhere, on_scope}
-use Rattle.typing.specs.Offsets.{least_of}
+use Rattle.typing.specs.Offsets.{least_of, least_of_all}
 use Rattle.typing.specs.Typing.{Typed, typed, typed_condition}
 use Rattle.expr.specs.Bound.{is_column}
 use Rattle.typing.specs.Grouping.{misplaced}
 
 -- ---- aggregates
-
--- after those before
-abbrev pub misplaced_items : List Entry → List ColumnId → Bool → Option ℕ → List ast.SelectItem → Option ℕ
-misplaced_items entries group_by of_groups known [] = known
-misplaced_items entries group_by of_groups known (i ∷ more) =
-    misplaced_items entries group_by of_groups (least_of known (misplaced entries (everywhere entries) group_by of_groups i.value)) more
 
 -- each column of an entry, from an index on, is one of GROUP BY
 abbrev pub are_grouped : List ColumnId → ℕ → ℕ → List Column → Bool
@@ -40,16 +34,15 @@ misplaced_star true grouped offset = if grouped then None else Some offset
 
 abbrev pub misplaced_select : List Entry → List ColumnId → Bool → ast.SelectList → Option ℕ
 misplaced_select entries group_by of_groups (ast.All offset) = misplaced_star of_groups (every_grouped group_by 0 entries) offset
-misplaced_select entries group_by of_groups (ast.Items items) = misplaced_items entries group_by of_groups None items
+misplaced_select entries group_by of_groups (ast.Items items) = least_of_all (map (λ i. misplaced entries (everywhere entries) group_by of_groups i.value) items)
 
 abbrev pub misplaced_condition : List Entry → List ColumnId → Bool → Option ast.Condition → Option ℕ
 misplaced_condition entries group_by of_groups None = None
 misplaced_condition entries group_by of_groups (Some c) = misplaced entries (everywhere entries) group_by of_groups c.predicate
 
--- in the ONs, after those before
-abbrev pub misplaced_ons : List Entry → List ColumnId → Option ℕ → List Entry → Option ℕ
-misplaced_ons entries group_by known [] = known
-misplaced_ons entries group_by known (e ∷ more) = misplaced_ons entries group_by (least_of known (misplaced_condition entries group_by false e.on)) more
+-- in the ONs
+abbrev pub misplaced_ons : List Entry → List ColumnId → Option ℕ
+misplaced_ons entries group_by = least_of_all (map (λ e. misplaced_condition entries group_by false e.on) entries)
 
 -- an aggregate in an item is one that WHERE may not have
 abbrev pub is_grouped : List Entry → ast.Query → Bool
@@ -58,7 +51,7 @@ is_grouped entries q = not (is_empty q.group_by) || (is_some q.having || is_some
 abbrev pub misplaced_by : List Entry → List ColumnId → Bool → ast.Query → Option ℕ
 misplaced_by entries group_by grouped q =
     least_of (misplaced_select entries group_by grouped q.select)
-    (least_of (misplaced_ons entries group_by None entries) (least_of (misplaced_condition entries group_by false q.filter) (misplaced_condition entries group_by grouped q.having)))
+    (least_of (misplaced_ons entries group_by) (least_of (misplaced_condition entries group_by false q.filter) (misplaced_condition entries group_by grouped q.having)))
 
 -- the least offset of an aggregate, or of a column beside one, that is not allowed there
 abbrev pub misplaced_in : List Entry → List ColumnId → ast.Query → Option ℕ
@@ -70,29 +63,24 @@ abbrev pub mistyped : Typed → Option ℕ
 mistyped (Ok t) = None
 mistyped (Err offset) = Some offset
 
--- after those before
-abbrev pub mistyped_items : List Entry → Option ℕ → List ast.SelectItem → Option ℕ
-mistyped_items entries known [] = known
-mistyped_items entries known (i ∷ more) = mistyped_items entries (least_of known (mistyped (typed entries (everywhere entries) i.value))) more
-
 abbrev pub mistyped_select : List Entry → ast.SelectList → Option ℕ
 mistyped_select entries (ast.All offset) = None
-mistyped_select entries (ast.Items items) = mistyped_items entries None items
+mistyped_select entries (ast.Items items) = least_of_all (map (λ i. mistyped (typed entries (everywhere entries) i.value)) items)
 
 abbrev pub mistyped_condition : List Entry → Scope → Option ast.Condition → Option ℕ
 mistyped_condition entries scope None = None
 mistyped_condition entries scope (Some c) = mistyped (typed_condition entries scope c.offset c.predicate)
 
--- in the ONs from an index on, after those before
-abbrev pub mistyped_ons : List Entry → ℕ → Option ℕ → List Entry → Option ℕ
-mistyped_ons entries number known [] = known
-mistyped_ons entries number known (e ∷ more) = mistyped_ons entries (number + 1) (least_of known (mistyped_condition entries (on_scope number e) e.on)) more
+-- in the ONs from an index on
+abbrev pub mistyped_ons : List Entry → ℕ → List Entry → Option ℕ
+mistyped_ons entries number [] = None
+mistyped_ons entries number (e ∷ more) = least_of (mistyped_condition entries (on_scope number e) e.on) (mistyped_ons entries (number + 1) more)
 
 -- the least offset of a type error
 abbrev pub mistyped_in : List Entry → ast.Query → Option ℕ
 mistyped_in entries q =
     least_of (mistyped_select entries q.select)
-    (least_of (mistyped_ons entries 0 None entries) (least_of (mistyped_condition entries (everywhere entries) q.filter) (mistyped_condition entries (everywhere entries) q.having)))
+    (least_of (mistyped_ons entries 0 entries) (least_of (mistyped_condition entries (everywhere entries) q.filter) (mistyped_condition entries (everywhere entries) q.having)))
 
 -- ---- both checks
 

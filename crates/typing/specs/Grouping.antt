@@ -35,21 +35,21 @@ module _ (entries : List Entry) (scope : Scope) (group_by : List ColumnId) where
     misplaced of_groups (ast.In negated offset values e) = misplaced of_groups e
     misplaced of_groups (ast.IsNull negated offset e) = misplaced of_groups e
     misplaced of_groups (ast.Not offset e) = misplaced of_groups e
-    misplaced of_groups (ast.And offset es) = misplaced_members of_groups None es
-    misplaced of_groups (ast.Or offset es) = misplaced_members of_groups None es
+    misplaced of_groups (ast.And offset es) = misplaced_members of_groups es
+    misplaced of_groups (ast.Or offset es) = misplaced_members of_groups es
     misplaced of_groups (ast.Cast offset to e) = misplaced of_groups e
-    misplaced of_groups (ast.Case offset as_ o) = least_of (misplaced_arms of_groups None as_) (misplaced_otherwise of_groups o)
+    misplaced of_groups (ast.Case offset as_ o) = least_of (misplaced_arms of_groups as_) (misplaced_otherwise of_groups o)
     misplaced of_groups (ast.CountStar offset) = misplaced_call of_groups offset None
     misplaced of_groups (ast.Call aggregate offset e) = misplaced_call of_groups offset (misplaced false e)
 
-    -- after those before
-    pub misplaced_members : Bool → Option ℕ → ast.Exprs → Option ℕ
-    misplaced_members of_groups known ast.no_expr = known
-    misplaced_members of_groups known (ast.one_expr e es) = misplaced_members of_groups (least_of known (misplaced of_groups e)) es
+    -- in any of them
+    pub misplaced_members : Bool → ast.Exprs → Option ℕ
+    misplaced_members of_groups ast.no_expr = None
+    misplaced_members of_groups (ast.one_expr e es) = least_of (misplaced of_groups e) (misplaced_members of_groups es)
 
-    pub misplaced_arms : Bool → Option ℕ → ast.Arms → Option ℕ
-    misplaced_arms of_groups known ast.no_arm = known
-    misplaced_arms of_groups known (ast.one_arm when result as_) = misplaced_arms of_groups (least_of known (least_of (misplaced of_groups when) (misplaced of_groups result))) as_
+    pub misplaced_arms : Bool → ast.Arms → Option ℕ
+    misplaced_arms of_groups ast.no_arm = None
+    misplaced_arms of_groups (ast.one_arm when result as_) = least_of (least_of (misplaced of_groups when) (misplaced of_groups result)) (misplaced_arms of_groups as_)
 
     pub misplaced_otherwise : Bool → ast.Otherwise → Option ℕ
     misplaced_otherwise of_groups ast.Nothing = None

@@ -1,5 +1,5 @@
 -- The type of an expression, or the least offset of a type error in it.
-use Rattle.std.specs.Prelude.{ℕ, Bool, true, false, ◌&&◌, List, [], ◌∷◌, Option, Some, None, option_map, option_and_then, slice_get, Result, Ok, Err, if◌then◌else◌}
+use Rattle.std.specs.Prelude.{ℕ, Bool, true, false, ◌&&◌, List, [], ◌∷◌, map, Option, Some, None, option_map, option_and_then, slice_get, Result, Ok, Err, if◌then◌else◌}
 use Rattle.value.specs.Datum.{Datum, null, int, text, bool}
 use Rattle.value.specs.declared.types.ColType.{ColType}
 use Rattle.value.specs.declared.types.ColType.TheVariants.{Bigint, Text, Boolean}
@@ -40,9 +40,16 @@ common None b = Some b
 common (Some a) None = Some (Some a)
 common (Some a) (Some b) = if is_type a b then Some (Some a) else None
 
-abbrev pub common_with : Option TypeOf → TypeOf → Option TypeOf
-common_with None b = None
-common_with (Some a) b = common a b
+-- the same of types that were found, if both were
+abbrev pub common_of : Option TypeOf → Option TypeOf → Option TypeOf
+common_of None b = None
+common_of (Some a) None = None
+common_of (Some a) (Some b) = common a b
+
+-- the one type that all fit, if there is one
+abbrev pub common_of_all : List TypeOf → Option TypeOf
+common_of_all [] = Some None
+common_of_all (t ∷ ts) = common_of (Some t) (common_of_all ts)
 
 -- CAST takes a number to a text and back, and each type to itself
 abbrev pub can_cast : ColType → TypeOf → Bool
@@ -69,11 +76,6 @@ type_of null = None
 type_of (int n) = Some Bigint
 type_of (text t) = Some Text
 type_of (bool b) = Some Boolean
-
--- with the type that those before have in common
-abbrev pub common_of_all : Option TypeOf → List Datum → Option TypeOf
-common_of_all known [] = known
-common_of_all known (d ∷ ds) = common_of_all (common_with known (type_of d)) ds
 
 -- none for a column that is not there, as no column that was found is (query_laws::law_admitted)
 abbrev pub column_type : List Entry → ColumnId → TypeOf
@@ -106,7 +108,7 @@ common_or_fault offset (Some t) = Ok t
 
 -- each WHEN is a condition, and the results have one type
 abbrev pub result_type : ℕ → Bool → Option TypeOf → TypeOf → Typed
-result_type offset holds known otherwise = if holds then common_or_fault offset (common_with known otherwise) else Err offset
+result_type offset holds known otherwise = if holds then common_or_fault offset (common_of known (Some otherwise)) else Err offset
 
 -- ---- operations
 
@@ -121,7 +123,7 @@ comparison_type offset a b = and_then (both a b) (λ p. truth_if_common offset (
 
 -- one of several values
 abbrev pub membership_type : ℕ → Typed → List Datum → Typed
-membership_type offset a values = and_then a (λ t. truth_if_common offset (common_of_all (Some t) values))
+membership_type offset a values = and_then a (λ t. truth_if_common offset (common_of_all (t ∷ map type_of values)))
 
 abbrev pub null_check_type : Typed → Typed
 null_check_type a = and_then a (λ t. Ok (Some Boolean))
@@ -139,21 +141,30 @@ abbrev pub common_type : Typed → Typed → Result (Option TypeOf) ℕ
 common_type a b = and_then (both a b) (λ p. Ok (common p.0 p.1))
 
 abbrev pub between_type : ℕ → Typed → Typed → Typed → Typed
-between_type offset a b c = and_then (both (common_type a b) c) (λ p. truth_if_common offset (common_with p.0 p.1))
+between_type offset a b c = and_then (both (common_type a b) c) (λ p. truth_if_common offset (common_of p.0 (Some p.1)))
 
--- one more member of an AND or OR
-abbrev pub and_condition : Result Bool ℕ → Typed → Result Bool ℕ
-and_condition known t = and_then (both known t) (λ p. Ok (p.0 && fits Boolean p.1))
+-- true where it is a condition
+abbrev pub is_condition : Typed → Result Bool ℕ
+is_condition t = and_then t (λ t. Ok (fits Boolean t))
+
+abbrev pub both_hold : Result Bool ℕ → Result Bool ℕ → Result Bool ℕ
+both_hold a b = and_then (both a b) (λ p. Ok (p.0 && p.1))
 
 abbrev pub conditions_type : ℕ → Result Bool ℕ → Typed
 conditions_type offset known = and_then known (λ holds. type_if offset holds (Some Boolean))
 
--- one more WHEN and its result
-abbrev pub and_arm : Result (Bool × Option TypeOf) ℕ → Typed → Typed → Result (Bool × Option TypeOf) ℕ
-and_arm known when result = and_then (both known (both when result)) (λ p. Ok (p.0.0 && fits Boolean p.1.0, common_with p.0.1 p.1.1))
+-- of arms: true where each WHEN is a condition, and the one type of the results
+abbrev pub ArmsTyped : Type 0
+ArmsTyped = Result (Bool × Option TypeOf) ℕ
 
-abbrev pub case_type : ℕ → Result (Bool × Option TypeOf) ℕ → Typed → Typed
-case_type offset known otherwise = and_then (both known otherwise) (λ p. result_type offset p.0.0 p.0.1 p.1)
+abbrev pub arm_type : Typed → Typed → ArmsTyped
+arm_type when result = and_then (both when result) (λ p. Ok (fits Boolean p.0, Some p.1))
+
+abbrev pub both_arms : ArmsTyped → ArmsTyped → ArmsTyped
+both_arms a b = and_then (both a b) (λ p. Ok (p.0.0 && p.1.0, common_of p.0.1 p.1.1))
+
+abbrev pub case_type : ℕ → ArmsTyped → Typed → Typed
+case_type offset arms otherwise = and_then (both arms otherwise) (λ p. result_type offset p.0.0 p.0.1 p.1)
 
 -- ---- expressions
 
@@ -170,22 +181,21 @@ module _ (entries : List Entry) (scope : Scope) where
     typed (ast.In negated offset values e) = membership_type offset (typed e) values
     typed (ast.IsNull negated offset e) = null_check_type (typed e)
     typed (ast.Not offset e) = not_type offset (typed e)
-    typed (ast.And offset es) = conditions_type offset (typed_members (Ok true) es)
-    typed (ast.Or offset es) = conditions_type offset (typed_members (Ok true) es)
+    typed (ast.And offset es) = conditions_type offset (typed_members es)
+    typed (ast.Or offset es) = conditions_type offset (typed_members es)
     typed (ast.Cast offset to e) = cast_type offset to (typed e)
-    typed (ast.Case offset as_ o) = case_type offset (typed_arms (Ok (true, Some None)) as_) (typed_otherwise o)
+    typed (ast.Case offset as_ o) = case_type offset (typed_arms as_) (typed_otherwise o)
     typed (ast.CountStar offset) = Ok (Some Bigint)
     typed (ast.Call aggregate offset e) = call_type offset aggregate (typed e)
 
-    -- true where each member is a condition, after those before
-    pub typed_members : Result Bool ℕ → ast.Exprs → Result Bool ℕ
-    typed_members known ast.no_expr = known
-    typed_members known (ast.one_expr e es) = typed_members (and_condition known (typed e)) es
+    -- true where each member is a condition
+    pub typed_members : ast.Exprs → Result Bool ℕ
+    typed_members ast.no_expr = Ok true
+    typed_members (ast.one_expr e es) = both_hold (is_condition (typed e)) (typed_members es)
 
-    -- true where each WHEN is a condition, and the one type of the results, after those before
-    pub typed_arms : Result (Bool × Option TypeOf) ℕ → ast.Arms → Result (Bool × Option TypeOf) ℕ
-    typed_arms known ast.no_arm = known
-    typed_arms known (ast.one_arm when result as_) = typed_arms (and_arm known (typed when) (typed result)) as_
+    pub typed_arms : ast.Arms → ArmsTyped
+    typed_arms ast.no_arm = Ok (true, Some None)
+    typed_arms (ast.one_arm when result as_) = both_arms (arm_type (typed when) (typed result)) (typed_arms as_)
 
     -- without ELSE it is NULL
     pub typed_otherwise : ast.Otherwise → Typed

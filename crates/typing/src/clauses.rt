@@ -1,10 +1,14 @@
 //! The checks of a whole query, and of the condition of a policy.
 
-ghost use Rattle.std.specs.Prelude.{◌≡◌, None, map, option_map};
+ghost use Rattle.std.specs.Prelude.{◌≡◌, map, option_map};
 ghost use Rattle.value.specs.Columns.{columns_of};
 ghost use Rattle.row_ast.specs.View.{condition_of, expr_of, query_of, select_item_of, select_list_of};
 ghost use Rattle.scope.specs.View.{entries_of};
+ghost use Rattle.scope.specs.Lookup.{everywhere};
 ghost use Rattle.typing.specs.Clauses as spec;
+ghost use Rattle.typing.specs.Grouping.{misplaced};
+ghost use Rattle.typing.specs.Offsets.{least_of_all};
+ghost use Rattle.typing.specs.Typing.{typed};
 
 use crate::grouped::{is_among, misplaced};
 use crate::offsets::least_of;
@@ -23,7 +27,7 @@ fn misplaced_items<A: Heap>(
     of_groups: bool,
     items: &[SelectItem<A>],
 ) -> Option<u32>
-    ensures { result ≡ spec.misplaced_items (entries_of entries.now) group_by.now of_groups None (map (λ i. select_item_of i) items.now) }
+    ensures { result ≡ least_of_all (map (λ i. misplaced (entries_of entries.now) (everywhere (entries_of entries.now)) group_by.now of_groups i.value) (map (λ i. select_item_of i) items.now)) }
 {
     let scope = everywhere(entries);
     let mut known = None;
@@ -106,7 +110,7 @@ fn misplaced_condition<A: Heap>(
 }
 
 fn misplaced_ons<A: Heap>(entries: &[Entry<'_, A>], group_by: &[ColumnId]) -> Option<u32>
-    ensures { result ≡ spec.misplaced_ons (entries_of entries.now) group_by.now None (entries_of entries.now) }
+    ensures { result ≡ spec.misplaced_ons (entries_of entries.now) group_by.now }
 {
     let mut known = None;
     for entry in entries {
@@ -158,7 +162,7 @@ fn mistyped(typed: Typed) -> Option<u32>
 }
 
 fn mistyped_items<A: Heap>(entries: &[Entry<'_, A>], items: &[SelectItem<A>]) -> Option<u32>
-    ensures { result ≡ spec.mistyped_items (entries_of entries.now) None (map (λ i. select_item_of i) items.now) }
+    ensures { result ≡ least_of_all (map (λ i. spec.mistyped (typed (entries_of entries.now) (everywhere (entries_of entries.now)) i.value)) (map (λ i. select_item_of i) items.now)) }
 {
     let scope = everywhere(entries);
     let mut known = None;
@@ -196,7 +200,7 @@ fn mistyped_condition<A: Heap>(
 }
 
 fn mistyped_ons<A: Heap>(entries: &[Entry<'_, A>]) -> Option<u32>
-    ensures { result ≡ spec.mistyped_ons (entries_of entries.now) 0 None (entries_of entries.now) }
+    ensures { result ≡ spec.mistyped_ons (entries_of entries.now) 0 (entries_of entries.now) }
 {
     let mut known = None;
     for (number, entry) in entries.iter().enumerate() {

@@ -1,6 +1,6 @@
 //! Aggregates, and columns beside them, where they may not be.
 
-ghost use Rattle.std.specs.Prelude.{◌≡◌, None};
+ghost use Rattle.std.specs.Prelude.{◌≡◌};
 ghost use Rattle.std.specs.List.{list_any};
 ghost use Rattle.row_ast.specs.View.{expr_of, exprs, arms as arms_of};
 ghost use Rattle.expr.specs.Bound.{is_column};
@@ -136,7 +136,7 @@ fn misplaced_members<A: Heap>(
     of_groups: bool,
     members: &[Expr<A>],
 ) -> Option<u32>
-    ensures { result ≡ spec.misplaced_members (entries_of entries.now) scope group_by.now of_groups None (exprs members.now) }
+    ensures { result ≡ spec.misplaced_members (entries_of entries.now) scope group_by.now of_groups (exprs members.now) }
 {
     let mut known = None;
     for member in members {
@@ -157,7 +157,7 @@ fn misplaced_arms<A: Heap>(
     of_groups: bool,
     arms: &[Arm<A>],
 ) -> Option<u32>
-    ensures { result ≡ spec.misplaced_arms (entries_of entries.now) scope group_by.now of_groups None (arms_of arms.now) }
+    ensures { result ≡ spec.misplaced_arms (entries_of entries.now) scope group_by.now of_groups (arms_of arms.now) }
 {
     let mut known = None;
     for arm in arms {

@@ -1,6 +1,6 @@
 //! The types of expressions.
 
-ghost use Rattle.std.specs.Prelude.{◌≡◌, Ok, Some, None, true, map, option_map, slice_get};
+ghost use Rattle.std.specs.Prelude.{◌≡◌, ◌∷◌, map, option_map, slice_get};
 ghost use Rattle.value.specs.Datum.{datum};
 ghost use Rattle.row_ast.specs.View.{expr_of, exprs, arms as arms_of};
 ghost use Rattle.scope.specs.View.{entry_of, entries_of};
@@ -51,13 +51,17 @@ fn common(a: TypeOf, b: TypeOf) -> Option<TypeOf>
     if is_type(x, y) { Some(a) } else { None }
 }
 
-fn common_with(a: Option<TypeOf>, b: TypeOf) -> Option<TypeOf>
-    ensures { result ≡ spec.common_with a b }
+// The same of types that were found, if both were.
+fn common_of(a: Option<TypeOf>, b: Option<TypeOf>) -> Option<TypeOf>
+    ensures { result ≡ spec.common_of a b }
 {
-    match a {
-        None => None,
-        Some(a) => common(a, b),
-    }
+    let Some(a) = a else {
+        return None;
+    };
+    let Some(b) = b else {
+        return None;
+    };
+    common(a, b)
 }
 
 fn can_cast(to: ColType, from: TypeOf) -> bool
@@ -99,12 +103,13 @@ fn type_of<A: Heap>(value: &Value<A>) -> TypeOf
     }
 }
 
+// The one type that a type and those of values fit, if there is one.
 fn common_of_all<A: Heap>(first: TypeOf, values: &[Value<A>]) -> Option<TypeOf>
-    ensures { result ≡ spec.common_of_all (Some first) (map datum values.now) }
+    ensures { result ≡ spec.common_of_all (first ∷ map spec.type_of (map datum values.now)) }
 {
     let mut known = Some(first);
     for value in values {
-        known = common_with(known, type_of(value));
+        known = common_of(known, Some(type_of(value)));
     }
     known
 }
@@ -234,14 +239,22 @@ fn between_type(offset: u32, a: Typed, b: Typed, c: Typed) -> Typed
     ensures { result ≡ spec.between_type offset a b c }
 {
     let (known, c) = both(common_type(a, b), c)?;
-    truth_if_common(offset, common_with(known, c))
+    truth_if_common(offset, common_of(known, Some(c)))
 }
 
-fn and_condition(known: Result<bool, u32>, member: Typed) -> Result<bool, u32>
-    ensures { result ≡ spec.and_condition known member }
+// True where it is a condition.
+fn is_condition(member: Typed) -> Result<bool, u32>
+    ensures { result ≡ spec.is_condition member }
 {
-    let (holds, member) = both(known, member)?;
-    Ok(holds && fits(ColType::Boolean, member))
+    let of = member?;
+    Ok(fits(ColType::Boolean, of))
+}
+
+fn both_hold(a: Result<bool, u32>, b: Result<bool, u32>) -> Result<bool, u32>
+    ensures { result ≡ spec.both_hold a b }
+{
+    let (a, b) = both(a, b)?;
+    Ok(a && b)
 }
 
 fn conditions_type(offset: u32, known: Result<bool, u32>) -> Typed
@@ -254,24 +267,28 @@ fn conditions_type(offset: u32, known: Result<bool, u32>) -> Typed
 // True where each WHEN is a condition, and the one type of the results; or the least offset of a type error.
 type Arms = Result<(bool, Option<TypeOf>), u32>;
 
-fn and_arm(known: Arms, when: Typed, then: Typed) -> Arms
-    ensures { result ≡ spec.and_arm known when then }
+fn arm_type(when: Typed, then: Typed) -> Arms
+    ensures { result ≡ spec.arm_type when then }
 {
-    let ((holds, common), (when, then)) = both(known, both(when, then))?;
-    Ok((
-        holds && fits(ColType::Boolean, when),
-        common_with(common, then),
-    ))
+    let (when, then) = both(when, then)?;
+    Ok((fits(ColType::Boolean, when), Some(then)))
 }
 
-fn case_type(offset: u32, known: Arms, otherwise: Typed) -> Typed
-    ensures { result ≡ spec.case_type offset known otherwise }
+fn both_arms(a: Arms, b: Arms) -> Arms
+    ensures { result ≡ spec.both_arms a b }
 {
-    let ((holds, common), otherwise) = both(known, otherwise)?;
+    let ((holds, common), (more_hold, others)) = both(a, b)?;
+    Ok((holds && more_hold, common_of(common, others)))
+}
+
+fn case_type(offset: u32, arms: Arms, otherwise: Typed) -> Typed
+    ensures { result ≡ spec.case_type offset arms otherwise }
+{
+    let ((holds, common), otherwise) = both(arms, otherwise)?;
     if !holds {
         return Err(offset);
     }
-    match common_with(common, otherwise) {
+    match common_of(common, Some(otherwise)) {
         None => Err(offset),
         Some(of) => Ok(of),
     }
@@ -368,11 +385,11 @@ fn typed_members<A: Heap>(
     scope: Scope,
     members: &[Expr<A>],
 ) -> Result<bool, u32>
-    ensures { result ≡ spec.typed_members (entries_of entries.now) scope (Ok true) (exprs members.now) }
+    ensures { result ≡ spec.typed_members (entries_of entries.now) scope (exprs members.now) }
 {
     let mut known = Ok(true);
     for member in members {
-        known = and_condition(known, typed(entries, scope, member));
+        known = both_hold(known, is_condition(typed(entries, scope, member)));
     }
     known
 }
@@ -380,12 +397,12 @@ fn typed_members<A: Heap>(
 // The same of each WHEN, and the one type of the results.
 #[cycle(typed)]
 fn typed_arms<A: Heap>(entries: &[Entry<'_, A>], scope: Scope, arms: &[Arm<A>]) -> Arms
-    ensures { result ≡ spec.typed_arms (entries_of entries.now) scope (Ok (true, Some None)) (arms_of arms.now) }
+    ensures { result ≡ spec.typed_arms (entries_of entries.now) scope (arms_of arms.now) }
 {
     let mut known = Ok((true, Some(None)));
     for arm in arms {
         let when = typed(entries, scope, &arm.when);
-        known = and_arm(known, when, typed(entries, scope, &arm.result));
+        known = both_arms(known, arm_type(when, typed(entries, scope, &arm.result)));
     }
     known
 }

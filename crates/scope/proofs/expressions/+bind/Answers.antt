@@ -1,5 +1,5 @@
 use borrow.Author.Count.{falls}
-use Rattle.std.proofs.Common.{◌<◌, List, length, Vec, map, ap, refl, subst, arith}
+use Rattle.std.proofs.Common.{◌<◌, ◌∙◌, List, length, Vec, map, ap, refl, subst, arith}
 use Rattle.std.proofs.Math.Nat.{le_refl}
 use Rattle.row_ast.specs.View.{expr_of, exprs, arms as arms_of}
 use Rattle.expr.specs.View.{bound_expr_of, bound_arm_pair}
@@ -8,6 +8,7 @@ use Rattle.expr.specs.declared.bound.BoundArm.{BoundArm}
 use Rattle.row_ast.specs.Weights.{weight, all_weight, arms_weight}
 use Rattle.scope.specs.View.{entry_of}
 use Rattle.scope.specs.BoundExprs.{bound_members, bound_arms}
+use Rattle.memory.proofs.Each.{after, after_nothing}
 use Rattle.scope.proofs.Found.{failed}
 use Rattle.row_ast.proofs.Walks.{and_is, or_is, case_none, case_other, case_lighter, otherwise_lighter, exprs_still, arms_still, exprs_lighter, when_lighter, result_lighter}
 use Rattle.row_ast.proofs.Operands.{negate_is, in_is, is_null_is, not_is, cast_is, call_is, arithmetic_is, comparison_is, between_is}
@@ -173,7 +174,7 @@ bind_members-loop-member-smaller g t c = falls (length c.args.members.now) c.loo
 
 pub bind_members-loop-member-init : goal.bind_members-loop-member-init
 bind_members-loop-member-init g t c = record {
-  rest = ap (λ (all : List (BoundExpr g.row.A.Denot)). bound_members (map (λ e. entry_of e) c.args.entries.now) c.args.scope (map bound_expr_of all) (exprs c.args.members.now)) c.new-all.ensures;
+  rest = ap (λ (all : List (BoundExpr g.row.A.Denot)). after (map bound_expr_of all) (bound_members (map (λ e. entry_of e) c.args.entries.now) c.args.scope (exprs c.args.members.now))) c.new-all.ensures ∙ after_nothing (bound_members (map (λ e. entry_of e) c.args.entries.now) c.args.scope (exprs c.args.members.now));
   lighter = le_refl (all_weight (exprs c.args.members.now));
 }
 
@@ -188,6 +189,6 @@ bind_arms-loop-next-smaller g t c = falls (length c.args.arms.now) c.loop-next.n
 
 pub bind_arms-loop-next-init : goal.bind_arms-loop-next-init
 bind_arms-loop-next-init g t c = record {
-  rest = ap (λ (all : List (BoundArm g.row.A.Denot)). bound_arms (map (λ e. entry_of e) c.args.entries.now) c.args.scope (map bound_arm_pair all) (arms_of c.args.arms.now)) c.new-all.ensures;
+  rest = ap (λ (all : List (BoundArm g.row.A.Denot)). after (map bound_arm_pair all) (bound_arms (map (λ e. entry_of e) c.args.entries.now) c.args.scope (arms_of c.args.arms.now))) c.new-all.ensures ∙ after_nothing (bound_arms (map (λ e. entry_of e) c.args.entries.now) c.args.scope (arms_of c.args.arms.now));
   lighter = le_refl (arms_weight (arms_of c.args.arms.now));
 }

@@ -1,18 +1,21 @@
-use Rattle.std.proofs.Common.{◌∙◌, ap, refl, arith, map}
+use Rattle.std.proofs.Common.{◌∙◌, ap, arith, map}
 use Rattle.row_ast.specs.View.{select_item_of}
 use Rattle.scope.specs.View.{entry_of}
 use Rattle.scope.specs.Lookup.{everywhere}
 use Rattle.typing.specs.Offsets.{least_of}
 use Rattle.typing.specs.Grouping.{misplaced}
-use Rattle.typing.specs.Clauses.{misplaced_items}
 use Rattle.memory.proofs.Lists.{known_next}
+use Rattle.typing.proofs.Leasts.{least_after, least_next, least_of_none}
 use Rattle.typing.proofs.Walks.{known_over}
 use Rattle.typing.proofs.clauses.misplaced_items.Goals as goal
 
 pub loop-item-preserved : goal.loop-item-preserved
 loop-item-preserved g c =
-    known_next (misplaced_items (map (λ e. entry_of e) c.args.entries.now) c.args.group_by.now c.args.of_groups) (λ known i. least_of known (misplaced (map (λ e. entry_of e) c.args.entries.now) (everywhere (map (λ e. entry_of e) c.args.entries.now)) c.args.group_by.now c.args.of_groups i.value)) (λ i. select_item_of i) c.args.items.now c.loop-item.item-index (λ b w ws. refl) c.item-item.result c.loop-item-test.true c.item-item.is c.loop-item.known _ _ c.loop-item.invariant
+    known_next (least_after (λ i. misplaced (map (λ e. entry_of e) c.args.entries.now) (everywhere (map (λ e. entry_of e) c.args.entries.now)) c.args.group_by.now c.args.of_groups i.value)) (λ known i. least_of known (misplaced (map (λ e. entry_of e) c.args.entries.now) (everywhere (map (λ e. entry_of e) c.args.entries.now)) c.args.group_by.now c.args.of_groups i.value)) (λ i. select_item_of i) c.args.items.now c.loop-item.item-index
+    (least_next (λ i. misplaced (map (λ e. entry_of e) c.args.entries.now) (everywhere (map (λ e. entry_of e) c.args.entries.now)) c.args.group_by.now c.args.of_groups i.value)) c.item-item.result c.loop-item-test.true c.item-item.is c.loop-item.known _ _ c.loop-item.invariant
     (c.least_of-known.ensures ∙ ap (least_of c.loop-item.known) (rw (c.deref.ensures, c.everywhere-scope.ensures) at c.misplaced.ensures))
 
 pub returns : goal.returns
-returns g c = known_over (misplaced_items (map (λ e. entry_of e) c.args.entries.now) c.args.group_by.now c.args.of_groups) (λ i. select_item_of i) c.args.items.now c.loop-item.item-index (λ b. refl) c.loop-item.known _ c.loop-item.invariant (omega (arith, c.loop-item-test.false))
+returns g c =
+    known_over (least_after (λ i. misplaced (map (λ e. entry_of e) c.args.entries.now) (everywhere (map (λ e. entry_of e) c.args.entries.now)) c.args.group_by.now c.args.of_groups i.value)) (λ i. select_item_of i) c.args.items.now c.loop-item.item-index
+    least_of_none c.loop-item.known _ c.loop-item.invariant (omega (arith, c.loop-item-test.false))

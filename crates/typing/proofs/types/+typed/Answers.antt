@@ -1,19 +1,20 @@
 use borrow.Author.Count.{falls}
-use Rattle.std.proofs.Common.{◌∙◌, ◌<◌, length, refl, sym, ap, subst, Ok, None, Some, true, arith, map}
+use Rattle.std.proofs.Common.{◌∙◌, ◌<◌, length, refl, sym, ap, subst, Ok, None, arith, map}
 use Rattle.value.specs.Datum.{datum}
 use Rattle.row_ast.specs.View.{expr_of, exprs, arms as arms_of}
 use Rattle.scope.specs.View.{entry_of}
-use Rattle.typing.specs.Typing.{negation_type, arithmetic_type, comparison_type, between_type, membership_type, null_check_type, not_type, cast_type, call_type, conditions_type, case_type, found_type, typed, typed_arms}
+use Rattle.typing.specs.Typing.{negation_type, arithmetic_type, comparison_type, between_type, membership_type, null_check_type, not_type, cast_type, call_type, conditions_type, case_type, found_type, typed, typed_arms, typed_members}
 use Rattle.row_ast.specs.Weights.{weight, all_weight, arms_weight}
 use Rattle.row_ast.proofs.Walks.{and_is, or_is, case_none, case_some, case_lighter, exprs_lighter, exprs_still, when_lighter, result_lighter, arms_still}
 use Rattle.row_ast.proofs.Operands.{negate_is, in_is, is_null_is, not_is, cast_is, call_is, arithmetic_is, comparison_is, between_is}
 use Rattle.memory.proofs.Lighter.{lighter, left_lighter, right_lighter, middle_lighter, last_lighter}
-use Rattle.typing.proofs.Walks.{member_step, member_over, arm_step, arm_over}
+use Rattle.std.proofs.Math.Nat.{le_refl}
+use Rattle.typing.proofs.Walks.{arms_whole, member_step, member_over, members_whole, arm_step, arm_over}
 use Rattle.typing.proofs.types.+typed.Goals as goal
 
 pub typed_members-loop-member-preserved : goal.typed_members-loop-member-preserved
 typed_members-loop-member-preserved g t c = record {
-  rest = member_step (map (λ e. entry_of e) c.args.entries.now) c.args.scope c.args.members.now c.loop-member.member-index c.member-item.result c.loop-member-test.true c.member-item.is c.loop-member.known _ c.typed.result _ c.loop-member.invariant.rest c.typed.ensures c.and_condition-known.ensures;
+  rest = member_step (map (λ e. entry_of e) c.args.entries.now) c.args.scope c.args.members.now c.loop-member.member-index c.member-item.result c.loop-member-test.true c.member-item.is c.loop-member.known _ c.is_condition.result c.typed.result _ c.loop-member.invariant.rest c.typed.ensures c.is_condition.ensures c.both_hold-known.ensures;
   lighter = exprs_still c.args.members.now c.loop-member.member-index c.member-item.result c.loop-member-test.true c.member-item.is c.loop-member.invariant.lighter;
 }
 
@@ -22,7 +23,7 @@ typed_members-returns g t c = member_over (map (λ e. entry_of e) c.args.entries
 
 pub typed_arms-loop-arm-preserved : goal.typed_arms-loop-arm-preserved
 typed_arms-loop-arm-preserved g t c = record {
-  rest = arm_step (map (λ e. entry_of e) c.args.entries.now) c.args.scope c.args.arms.now c.loop-arm.arm-index c.arm-item.result c.loop-arm-test.true c.arm-item.is c.loop-arm.known _ c.typed-when.result c.typed.result _ c.loop-arm.invariant.rest c.typed-when.ensures c.typed.ensures c.and_arm-known.ensures;
+  rest = arm_step (map (λ e. entry_of e) c.args.entries.now) c.args.scope c.args.arms.now c.loop-arm.arm-index c.arm-item.result c.loop-arm-test.true c.arm-item.is c.loop-arm.known _ c.arm_type.result c.typed-when.result c.typed.result _ c.loop-arm.invariant.rest c.typed-when.ensures c.typed.ensures c.arm_type.ensures c.both_arms-known.ensures;
   lighter = arms_still c.args.arms.now c.loop-arm.arm-index c.arm-item.result c.loop-arm-test.true c.arm-item.is c.loop-arm.invariant.lighter;
 }
 
@@ -49,8 +50,8 @@ typed-returns-in-Or g t c =
 pub typed-returns-in-Some : goal.typed-returns-in-Some
 typed-returns-in-Some g t c =
     rw (case_some c.args.expression.now c.in-Case.offset c.in-Case.arms c.deref-in-Case.result.now c.deref-in-Case.ensures.value c.in-Case.otherwise c.in-Case.is c.in-Some.value c.in-Some.is)
-    (c.case_type.ensures ∙ ap (λ r. case_type c.in-Case.offset r c.typed-in-Some.result) c.typed_arms-known.ensures ∙ ap (case_type c.in-Case.offset (typed_arms (map (λ e. entry_of e) c.args.entries.now) c.args.scope (Ok (true, Some None)) (arms_of c.deref-in-Case.result.now))) c.typed-in-Some.ensures
-    ∙ ap (λ e. case_type c.in-Case.offset (typed_arms (map (λ e. entry_of e) c.args.entries.now) c.args.scope (Ok (true, Some None)) (arms_of c.deref-in-Case.result.now)) (typed (map (λ e. entry_of e) c.args.entries.now) c.args.scope (expr_of e))) c.deref-in-Some.ensures)
+    (c.case_type.ensures ∙ ap (λ r. case_type c.in-Case.offset r c.typed-in-Some.result) c.typed_arms-known.ensures ∙ ap (case_type c.in-Case.offset (typed_arms (map (λ e. entry_of e) c.args.entries.now) c.args.scope (arms_of c.deref-in-Case.result.now))) c.typed-in-Some.ensures
+    ∙ ap (λ e. case_type c.in-Case.offset (typed_arms (map (λ e. entry_of e) c.args.entries.now) c.args.scope (arms_of c.deref-in-Case.result.now)) (typed (map (λ e. entry_of e) c.args.entries.now) c.args.scope (expr_of e))) c.deref-in-Some.ensures)
 
 pub typed-returns-in-None : goal.typed-returns-in-None
 typed-returns-in-None g t c =
@@ -155,6 +156,18 @@ typed_members-loop-member-smaller g t c = falls (length c.args.members.now) c.lo
 
 pub typed_arms-loop-arm-smaller : goal.typed_arms-loop-arm-smaller
 typed_arms-loop-arm-smaller g t c = falls (length c.args.arms.now) c.loop-arm.arm-index c.loop-arm-test.true
+
+pub typed_members-loop-member-init : goal.typed_members-loop-member-init
+typed_members-loop-member-init g t c = record {
+  rest = members_whole (typed_members (map (λ e. entry_of e) c.args.entries.now) c.args.scope (exprs c.args.members.now));
+  lighter = le_refl (all_weight (exprs c.args.members.now));
+}
+
+pub typed_arms-loop-arm-init : goal.typed_arms-loop-arm-init
+typed_arms-loop-arm-init g t c = record {
+  rest = arms_whole (typed_arms (map (λ e. entry_of e) c.args.entries.now) c.args.scope (arms_of c.args.arms.now));
+  lighter = le_refl (arms_weight (arms_of c.args.arms.now));
+}
 
 pub typed_members-offset_bounds-members-member-index : goal.typed_members-offset_bounds-members-member-index
 typed_members-offset_bounds-members-member-index g t c = c.loop-member.auto.member-index-end
