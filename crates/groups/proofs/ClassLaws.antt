@@ -25,8 +25,7 @@ use Rattle.groups.specs.Members.{Member}
 use Rattle.groups.specs.Groups.{Group, same_key, has_key, group_with, all_in_one, classes, groups_of}
 use Rattle.groups.specs.GroupRow.{group_row, group_rows, with_totals}
 use Rattle.groups.specs.Classes.{grouped, put}
-use Rattle.groups.specs.Running.{RunningGroup, Total, finished_row, fresh, put_running, running, running_group, running_groups, started, with_arguments, with_member}
-use Rattle.groups.specs.Taking.{finished_rows}
+use Rattle.groups.specs.Running.{RunningGroup, Total, finished_row, finished_rows, fresh, put_all_running, put_running, running, running_group, running_groups, started, with_arguments, with_member}
 use Rattle.groups.specs.View.{key_of, running_in, running_of, totals_of}
 use Rattle.groups.proofs.KeyLaws.{Rise, each_key, each_rises, put_key, each_key_more, none_has_it}
 use Rattle.groups.proofs.RunningTotals.{all_finished_are, fresh_running, running_more, started_already}
@@ -105,14 +104,9 @@ module _ (calls : List AggregateCall) where
       go Equal more = ap (λ h. h ∷ running_groups calls gs) (next_member m g)
       go Greater more = ap (λ hs. running_group calls g ∷ hs) more
 
-  -- members into groups, one after the other
-  abbrev pub put_all_running : List RunningGroup → List Member → List RunningGroup
-  put_all_running gs [] = gs
-  put_all_running gs (m ∷ ms) = put_all_running (put_running calls m gs) ms
-
-  pub put_totals_all : (gs : List Group) (ms : List Member) → running_groups calls (put_all gs ms) ≡ put_all_running (running_groups calls gs) ms
+  pub put_totals_all : (gs : List Group) (ms : List Member) → running_groups calls (put_all gs ms) ≡ put_all_running calls (running_groups calls gs) ms
   put_totals_all gs [] = refl
-  put_totals_all gs (m ∷ ms) = put_totals_all (put m gs) ms ∙ ap (λ es. put_all_running es ms) (put_totals m gs)
+  put_totals_all gs (m ∷ ms) = put_totals_all (put m gs) ms ∙ ap (λ es. put_all_running calls es ms) (put_totals m gs)
 
   -- ---- the totals of a map
 

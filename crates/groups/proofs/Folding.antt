@@ -1,6 +1,7 @@
 -- The groups of some combinations, and then of the rest.
 use Rattle.std.proofs.Common.{◌≡◌, List, [], ◌∷◌, ◌++◌, map, refl, sym, ap, ap₂, subst, ◌∙◌, Result, Ok, Err, Option, Some, None}
 use Rattle.std.specs.List.{AllByRecursion, cons_option, filter_map}
+use Rattle.std.proofs.lemmas.List.Elements.{recursion_from_All}
 use Rattle.std.proofs.lemmas.List.{append-nil, append_assoc, map-append}
 use Rattle.memory.specs.Gives.{Gives, IsFailure}
 use Rattle.memory.specs.Results.{and_then}
@@ -22,10 +23,10 @@ use Rattle.groups.specs.Members.{Member, arguments, member_on, with_key}
 use Rattle.groups.specs.Groups.{Group, all_in_one, groups_of}
 use Rattle.groups.specs.GroupRow.{GroupRow, group_rows}
 use Rattle.groups.specs.Classes.{grouped, put}
-use Rattle.groups.specs.Running.{RunningGroup, put_running, running_groups}
-use Rattle.groups.specs.Taking.{Takes, finished_rows, totals_in}
+use Rattle.groups.specs.Running.{HaveKeys, RunningGroup, finished_rows, put_all_running, put_running, running_groups}
+use Rattle.groups.specs.Taking.{Takes, totals_in}
 use Rattle.groups.specs.View.{member_of}
-use Rattle.groups.proofs.ClassLaws.{all_put, put_all, put_all_running, put_totals_all, rows_finished}
+use Rattle.groups.proofs.ClassLaws.{all_put, put_all, put_totals_all, rows_finished}
 
 -- ---- members of a query without GROUP BY
 
@@ -36,6 +37,14 @@ in_one done (m ∷ ms) all =
   where
     one : (m : Member) → m.key ≡ [] → put m (all_in_one done ∷ []) ≡ all_in_one (done ++ m ∷ []) ∷ []
     one m e = ap (λ k. put (record { key = k; arguments = m.arguments }) (all_in_one done ∷ [])) e ∙ ap (λ l. grouped [] l ∷ []) (sym (map-append (λ (n : Member). n.arguments) done (m ∷ [])))
+
+put_in_turn : (columns : List ColumnId) (ms : List Member) → HaveKeys columns ms → put_all (groups_of columns []) ms ≡ groups_of columns ms
+put_in_turn [] ms keys = in_one [] ms (recursion_from_All (λ m. m.key ≡ []) ms (keys refl))
+put_in_turn (column ∷ columns) ms keys = all_put ms
+
+-- running totals of members in turn are finished as the rows of their groups
+pub totals_in_turn : (columns : List ColumnId) (calls : List AggregateCall) (ms : List Member) → HaveKeys columns ms → finished_rows calls (put_all_running calls (running_groups calls (groups_of columns [])) ms) ≡ group_rows columns calls ms
+totals_in_turn columns calls ms keys = ap (finished_rows calls) (sym (put_totals_all calls (groups_of columns []) ms) ∙ ap (running_groups calls) (put_in_turn columns ms keys)) ∙ rows_finished columns calls ms
 
 module _ {X : Type 0} (cells_of : X → Cells) (role : Name) (calls : List AggregateCall) where
   -- the outcomes of the combinations

@@ -1,5 +1,6 @@
 -- Running totals: the aggregates of the values so far, and the groups of the members so far.
-use Rattle.std.specs.Prelude.{ℕ, ◌+◌, ℤ, pos, ◌+ℤ◌, Bool, true, false, List, [], ◌∷◌, map, length, Option, Some, None, Result, Ok, Err}
+use Rattle.std.specs.Prelude.{◌≡◌, ℕ, ◌+◌, ℤ, pos, ◌+ℤ◌, Bool, true, false, List, [], ◌∷◌, map, length, Option, Some, None, Result, Ok, Err}
+use Rattle.std.specs.List.{All}
 use Rattle.std.specs.Ordering.{match_ordering}
 use Rattle.bags.specs.Least.{lesser, least}
 use Rattle.value.specs.Datum.{Datum, null, Row}
@@ -8,7 +9,9 @@ use Rattle.value.specs.Exact.{in_range}
 use Rattle.value.specs.declared.faults.Fault.{Fault}
 use Rattle.value.specs.declared.operators.Aggregate.{Aggregate}
 use Rattle.value.specs.declared.operators.Aggregate.TheVariants as aggregate
+use Rattle.expr.specs.declared.bound.ColumnId.{ColumnId}
 use Rattle.expr.specs.Aggregates.{AggregateCall}
+use Rattle.stages.specs.Stages.{gives, stage}
 use Rattle.memory.specs.Results.{first_then}
 use Rattle.groups.specs.Members.{Member}
 use Rattle.groups.specs.Groups.{Group}
@@ -100,6 +103,19 @@ abbrev pub put_running : List AggregateCall → Member → List RunningGroup →
 put_running calls m [] = with_member calls m.key [] m.arguments ∷ []
 put_running calls m (g ∷ gs) = match_ordering (row_cmp m.key g.key) (with_member calls m.key [] m.arguments ∷ g ∷ gs) (with_member calls g.key g.totals m.arguments ∷ gs) (g ∷ put_running calls m gs)
 
+-- members into groups, one after the other
+abbrev pub put_all_running : List AggregateCall → List RunningGroup → List Member → List RunningGroup
+put_all_running calls gs [] = gs
+put_all_running calls gs (m ∷ ms) = put_all_running calls (put_running calls m gs) ms
+
+-- without GROUP BY each key is empty
+abbrev pub HaveKeys : List ColumnId → List Member → Type 0
+HaveKeys columns members = columns ≡ [] → All (λ m. m.key ≡ []) members
+
 -- the row of a group whose members are all in
 abbrev pub finished_row : List AggregateCall → RunningGroup → Result GroupRow Fault
 finished_row calls g = with_totals g.key (all_finished calls g.totals)
+
+-- the row of each, or the least fault
+abbrev pub finished_rows : List AggregateCall → List RunningGroup → Result (List GroupRow) Fault
+finished_rows calls gs = stage (map (λ g. gives (finished_row calls g)) gs)

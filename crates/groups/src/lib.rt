@@ -12,5 +12,6 @@ pub use group_row::{GroupCells, GroupRow};
 pub use groups::Groups;
 pub use laws::{
     law_aggregates_of_classes, law_groups_differ, law_no_member_lost, law_order_of_members,
+    law_running_totals,
 };
 pub use members::{Member, member_on};
