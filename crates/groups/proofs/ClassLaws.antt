@@ -1,5 +1,5 @@
 -- The groups of members that come one after the other.
-use Rattle.std.proofs.Common.{◌≡◌, ◌==◌, true, false, true≢false, arith, length, cond, List, [], ◌∷◌, ◌++◌, map, filter, refl, sym, ap, ap₂, ◌∙◌, Ordering, Less, Equal, Greater, is_eq, Option, Some, unwrap_or}
+use Rattle.std.proofs.Common.{◌≡◌, ◌==◌, true, false, true≢false, arith, length, cond, List, [], ◌∷◌, ◌++◌, map, filter, refl, sym, ap, ap₂, ◌∙◌, Ordering, Less, Equal, Greater, is_eq, Option, Some, None, unwrap_or, Vec}
 use Rattle.std.specs.List.{AllByRecursion}
 use Rattle.std.specs.List.Sorted.{IsStrictlySortedBy}
 use Rattle.std.specs.Ordering.{match_ordering}
@@ -13,22 +13,22 @@ use Rattle.std.proofs.lemmas.Map.{lookup-none}
 use Rattle.std.proofs.lemmas.Map.Entries.{none_below_head}
 use Rattle.std.proofs.lemmas.Map.Keys.{sorted_tail}
 use Rattle.bags.proofs.Order.{all_weaker}
-use Rattle.value.specs.Datum.{Row, row_of}
-use Rattle.value.specs.declared.types.Value.{Value}
+use Rattle.value.specs.Datum.{Row}
 use Rattle.value.specs.Orders.{row_cmp}
 use Rattle.value.proofs.DatumOrder.{row_cmp_total}
 use Rattle.expr.specs.declared.bound.ColumnId.{ColumnId}
 use Rattle.expr.specs.Aggregates.{AggregateCall}
 use Rattle.stages.specs.Stages.{gives, stage}
-use Rattle.groups.specs.declared.members.Member as code
 use Rattle.groups.specs.declared.keys.Key.{Key}
+use Rattle.groups.specs.declared.totals.Total as code
 use Rattle.groups.specs.Members.{Member}
-use Rattle.groups.specs.Groups.{Group, same_key, has_key, group_with, classes}
-use Rattle.groups.specs.GroupRow.{group_row, group_rows}
+use Rattle.groups.specs.Groups.{Group, same_key, has_key, group_with, all_in_one, classes, groups_of}
+use Rattle.groups.specs.GroupRow.{group_row, group_rows, with_totals}
 use Rattle.groups.specs.Classes.{grouped, put}
-use Rattle.groups.specs.View.{member_of, arguments_of, key_of, rows_of, groups_in}
-use Rattle.groups.proofs.SameGroups.{map-map}
+use Rattle.groups.specs.Running.{RunningGroup, Total, finished_row, finished_rows, fresh, put_all_running, put_running, running, running_group, running_groups, started, with_arguments, with_member}
+use Rattle.groups.specs.View.{key_of, running_in, running_of, totals_of}
 use Rattle.groups.proofs.KeyLaws.{Rise, each_key, each_rises, put_key, each_key_more, none_has_it}
+use Rattle.groups.proofs.RunningTotals.{all_finished_are, fresh_running, running_more, started_already}
 
 -- ---- the group of one key, with one more member
 
@@ -80,45 +80,81 @@ after_some done (m ∷ ms) = ap (λ gs. put_all gs ms) (sym (classes_more done m
 pub all_put : (ms : List Member) → put_all [] ms ≡ classes ms
 all_put ms = after_some [] ms
 
--- ---- the groups of a map
+-- ---- the groups with their totals
 
-module _ {A : Type 0} where
-  abbrev pub key_cmp : Key A → Key A → Ordering
-  key_cmp k l = row_cmp (key_of k) (key_of l)
+abbrev runs : Row → List Total → RunningGroup
+runs key ts = record { key = key; totals = ts }
 
-  -- a list follows the key in the map, and is followed by one more
-  pub put_entry : (es : List (Key A × List (List (Value A)))) (k : Key A) (values : List (Value A)) (before : Option (List (List (Value A)))) → IsStrictlySortedBy key_cmp (keys_of es) → before ≡ lookup (is_at (key_cmp k)) es →
-      groups_in (insert_entry key_cmp es k (unwrap_or before [] ++ values ∷ [])) ≡ put (record { key = key_of k; arguments = row_of values }) (groups_in es)
-  put_entry [] k values before up is = ap (λ o. groups_in ((k, unwrap_or o [] ++ values ∷ []) ∷ [])) is
-  put_entry (e ∷ es) k values before up is = go (key_cmp k e.0) refl (put_entry es k values before (sorted_tail key_cmp e.0 (keys_of es) up))
+module _ (calls : List AggregateCall) where
+  first_member : (m : Member) → running_group calls (grouped m.key (m.arguments ∷ [])) ≡ with_member calls m.key [] m.arguments
+  first_member m = ap (λ ts. runs m.key ts) (running_more calls [] m.arguments ∙ ap (λ ts. with_arguments ts m.arguments) (fresh_running calls))
+
+  next_member : (m : Member) (g : Group) → running_group calls (grouped g.key (g.members ++ m.arguments ∷ [])) ≡ with_member calls g.key (running calls 0 g.members) m.arguments
+  next_member m g = ap (λ ts. runs g.key ts) (running_more calls g.members m.arguments ∙ ap (λ ts. with_arguments ts m.arguments) (sym (started_already calls g.members)))
+
+  -- one more member in groups is one more in their totals
+  pub put_totals : (m : Member) (gs : List Group) → running_groups calls (put m gs) ≡ put_running calls m (running_groups calls gs)
+  put_totals m [] = ap (λ g. g ∷ []) (first_member m)
+  put_totals m (g ∷ gs) = go (row_cmp m.key g.key) (put_totals m gs)
     where
-      new : Key A × List (List (Value A))
-      new = (k, unwrap_or before [] ++ values ∷ [])
+      go : (o : Ordering) → running_groups calls (put m gs) ≡ put_running calls m (running_groups calls gs) →
+          running_groups calls (match_ordering o (grouped m.key (m.arguments ∷ []) ∷ g ∷ gs) (grouped g.key (g.members ++ m.arguments ∷ []) ∷ gs) (g ∷ put m gs))
+          ≡ match_ordering o (with_member calls m.key [] m.arguments ∷ running_groups calls (g ∷ gs)) (with_member calls g.key (running calls 0 g.members) m.arguments ∷ running_groups calls gs) (running_group calls g ∷ put_running calls m (running_groups calls gs))
+      go Less more = ap (λ h. h ∷ running_groups calls (g ∷ gs)) (first_member m)
+      go Equal more = ap (λ h. h ∷ running_groups calls gs) (next_member m g)
+      go Greater more = ap (λ hs. running_group calls g ∷ hs) more
 
-      m : Member
-      m = record { key = key_of k; arguments = row_of values }
+  pub put_totals_all : (gs : List Group) (ms : List Member) → running_groups calls (put_all gs ms) ≡ put_all_running calls (running_groups calls gs) ms
+  put_totals_all gs [] = refl
+  put_totals_all gs (m ∷ ms) = put_totals_all (put m gs) ms ∙ ap (λ es. put_all_running calls es ms) (put_totals m gs)
 
-      go : (o : Ordering) → key_cmp k e.0 ≡ o →
-          (before ≡ lookup (is_at (key_cmp k)) es → groups_in (insert_entry key_cmp es k (unwrap_or before [] ++ values ∷ [])) ≡ put m (groups_in es)) →
-          groups_in (match_ordering o ((k, unwrap_or before [] ++ values ∷ []) ∷ e ∷ es) ((e.0, unwrap_or before [] ++ values ∷ []) ∷ es) (e ∷ insert_entry key_cmp es k (unwrap_or before [] ++ values ∷ [])))
-          ≡ match_ordering o (grouped (key_of k) (row_of values ∷ []) ∷ groups_in (e ∷ es)) (grouped (key_of e.0) (rows_of e.1 ++ row_of values ∷ []) ∷ groups_in es) (grouped (key_of e.0) (rows_of e.1) ∷ put m (groups_in es))
-      go Less f more =
-          ap (λ b. groups_in ((k, unwrap_or b [] ++ values ∷ []) ∷ e ∷ es)) (is ∙ lookup-none (is_at (key_cmp k)) (e ∷ es) (none_below_head (on_total (λ (l : Key A). key_of l) row_cmp_total) k e es up f))
-      go Equal f more =
-          ap (λ b. groups_in ((e.0, unwrap_or b [] ++ values ∷ []) ∷ es)) (is ∙ ap (λ o. cond (is_eq o) (Some e.1) (lookup (is_at (key_cmp k)) es)) f)
-          ∙ ap (λ l. grouped (key_of e.0) l ∷ groups_in es) (map-append (λ (l : List (Value A)). row_of l) e.1 (values ∷ []))
-      go Greater f more = ap (λ gs. grouped (key_of e.0) (rows_of e.1) ∷ gs) (more (is ∙ ap (λ o. cond (is_eq o) (Some e.1) (lookup (is_at (key_cmp k)) es)) f))
+  -- ---- the totals of a map
+
+  module _ {A : Type 0} where
+    abbrev pub key_cmp : Key A → Key A → Ordering
+    key_cmp k l = row_cmp (key_of k) (key_of l)
+
+    -- the totals at a key are those that were there, with one more member
+    module _ (k : Key A) (start new : Vec (code.Total A) A) (before : Option (Vec (code.Total A) A)) (arguments : Row) (none : start.items ≡ [])
+        (is : totals_of new.items ≡ with_arguments (started calls (totals_of (unwrap_or before start).items)) arguments) where
+      abbrev m : Member
+      m = record { key = key_of k; arguments = arguments }
+
+      at_new : before ≡ None → totals_of new.items ≡ with_arguments (started calls []) arguments
+      at_new e = is ∙ ap (λ o. with_arguments (started calls (totals_of (unwrap_or o start).items)) arguments) e ∙ ap (λ l. with_arguments (started calls (totals_of l)) arguments) none
+
+      at_old : (old : Vec (code.Total A) A) → before ≡ Some old → totals_of new.items ≡ with_arguments (started calls (totals_of old.items)) arguments
+      at_old old e = is ∙ ap (λ o. with_arguments (started calls (totals_of (unwrap_or o start).items)) arguments) e
+
+      pub put_entry : (es : List (Key A × Vec (code.Total A) A)) → IsStrictlySortedBy key_cmp (keys_of es) → before ≡ lookup (is_at (key_cmp k)) es → running_in (insert_entry key_cmp es k new) ≡ put_running calls m (running_in es)
+      put_entry [] up e = ap (λ ts. runs (key_of k) ts ∷ []) (at_new e)
+      put_entry (f ∷ es) up e = go (key_cmp k f.0) refl (put_entry es (sorted_tail key_cmp f.0 (keys_of es) up))
+        where
+          go : (o : Ordering) → key_cmp k f.0 ≡ o → (before ≡ lookup (is_at (key_cmp k)) es → running_in (insert_entry key_cmp es k new) ≡ put_running calls m (running_in es)) →
+              running_in (match_ordering o ((k, new) ∷ f ∷ es) ((f.0, new) ∷ es) (f ∷ insert_entry key_cmp es k new))
+              ≡ match_ordering o (with_member calls m.key [] m.arguments ∷ running_in (f ∷ es)) (with_member calls (key_of f.0) (totals_of f.1.items) m.arguments ∷ running_in es) (running_of f ∷ put_running calls m (running_in es))
+          go Less h more = ap (λ ts. runs (key_of k) ts ∷ running_in (f ∷ es)) (at_new (e ∙ lookup-none (is_at (key_cmp k)) (f ∷ es) (none_below_head (on_total (λ (l : Key A). key_of l) row_cmp_total) k f es up h)))
+          go Equal h more = ap (λ ts. runs (key_of f.0) ts ∷ running_in es) (at_old f.1 (e ∙ ap (λ o. cond (is_eq o) (Some f.1) (lookup (is_at (key_cmp k)) es)) h))
+          go Greater h more = ap (λ gs. running_of f ∷ gs) (more (e ∙ ap (λ o. cond (is_eq o) (Some f.1) (lookup (is_at (key_cmp k)) es)) h))
+
+-- ---- the groups of no members
+
+pub no_columns : (columns : List ColumnId) → (length columns == 0) ≡ true → groups_of columns [] ≡ all_in_one [] ∷ []
+no_columns [] none = refl
+no_columns (column ∷ columns) none = let zero : length (column ∷ columns) ≡ 0 = eqb-true _ _ none in absurd (omega (arith, zero))
+
+pub some_columns : (columns : List ColumnId) → (length columns == 0) ≡ false → groups_of columns [] ≡ []
+some_columns [] some = absurd (true≢false some)
+some_columns (column ∷ columns) some = refl
+
+pub only_group : (calls : List AggregateCall) (key : Row) (ts : List Total) → key ≡ [] → ts ≡ fresh calls → runs key ts ∷ [] ≡ running_groups calls (all_in_one [] ∷ [])
+only_group calls key ts e f = ap₂ (λ k l. runs k l ∷ []) e (f ∙ sym (fresh_running calls))
 
 -- ---- the rows of the groups
 
-pub some_columns : (columns : List ColumnId) (calls : List AggregateCall) (ms : List Member) → (length columns == 0) ≡ false → stage (map (λ g. gives (group_row calls g)) (classes ms)) ≡ group_rows columns calls ms
-some_columns [] calls ms some = absurd (true≢false some)
-some_columns (column ∷ columns) calls ms some = refl
+same_rows : (calls : List AggregateCall) (gs : List Group) → map (λ g. gives (finished_row calls g)) (running_groups calls gs) ≡ map (λ g. gives (group_row calls g)) gs
+same_rows calls [] = refl
+same_rows calls (g ∷ gs) = ap₂ (λ r l. gives (with_totals g.key r) ∷ l) (all_finished_are calls 0 g.members) (same_rows calls gs)
 
-viewed_arguments : {A : Type 0} (ms : List (code.Member A)) → map (λ m. m.arguments) (map (λ (m : code.Member A). member_of m) ms) ≡ arguments_of ms
-viewed_arguments {A} ms = map-map (λ (m : Member). m.arguments) (λ (m : code.Member A). member_of m) ms
-
-pub no_columns : {A : Type 0} (columns : List ColumnId) (calls : List AggregateCall) (ms : List (code.Member A)) → (length columns == 0) ≡ true →
-    stage (gives (group_row calls (grouped [] (arguments_of ms))) ∷ []) ≡ group_rows columns calls (map (λ m. member_of m) ms)
-no_columns [] calls ms none = ap (λ rows. stage (gives (group_row calls (grouped [] rows)) ∷ [])) (sym (viewed_arguments ms))
-no_columns (column ∷ columns) calls ms none = let zero : length (column ∷ columns) ≡ 0 = eqb-true _ _ none in absurd (omega (arith, zero))
+pub rows_finished : (columns : List ColumnId) (calls : List AggregateCall) (ms : List Member) → finished_rows calls (running_groups calls (groups_of columns ms)) ≡ group_rows columns calls ms
+rows_finished columns calls ms = ap stage (same_rows calls (groups_of columns ms))

@@ -1,7 +1,9 @@
 pub mod Cells
 pub mod ClassLaws
 pub mod ClassValues
+pub mod Folding
 pub mod KeyLaws
 pub mod Parts
+pub mod Putting
+pub mod RunningTotals
 pub mod SameGroups
-pub mod Totals

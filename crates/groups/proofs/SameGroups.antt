@@ -23,7 +23,7 @@ use Rattle.groups.specs.Groups.{Group, has_key, group_with, keys, classes, witho
 use Rattle.groups.specs.Classes.{grouped}
 use Rattle.groups.specs.Aggregates.{not_null, values_at, exact_sum, number_at, or_null, towards, aggregate_of, totals}
 use Rattle.groups.specs.GroupRow.{with_totals, group_row, group_rows}
-use Rattle.groups.proofs.Totals.{towards_total}
+use Rattle.groups.proofs.RunningTotals.{towards_total}
 
 -- ---- aggregates
 

@@ -4,4 +4,6 @@ pub mod Classes
 pub mod GroupRow
 pub mod Groups
 pub mod Members
+pub mod Running
+pub mod Taking
 pub mod View

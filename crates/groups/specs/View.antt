@@ -1,33 +1,36 @@
 -- The views of the Rust types of members, groups and their rows as spec data.
-use Rattle.std.specs.Prelude.{List, map}
-use Rattle.value.specs.Datum.{Row, row_of}
+use Rattle.std.specs.Prelude.{List, map, option_map, Vec}
+use Rattle.value.specs.Datum.{Row, datum, row_of}
 use Rattle.value.specs.declared.types.Value.{Value}
 use Rattle.groups.specs.declared.members.Member as member
 use Rattle.groups.specs.declared.keys.Key as key
 use Rattle.groups.specs.declared.group_row.GroupRow as row
+use Rattle.groups.specs.declared.totals.Total as total
+use Rattle.groups.specs.declared.totals.Total.TheVariants as totals
 use Rattle.groups.specs.Members.{Member}
-use Rattle.groups.specs.Groups.{Group}
-use Rattle.groups.specs.Classes.{grouped}
 use Rattle.groups.specs.GroupRow.{GroupRow}
+use Rattle.groups.specs.Running.{Total, Count, Sum, Best, RunningGroup}
 
 abbrev pub member_of : {A : Type 0} → member.Member A → Member
 member_of m = record { key = row_of m.key; arguments = row_of m.arguments }
 
-abbrev pub rows_of : {A : Type 0} → List (List (Value A)) → List Row
-rows_of rows = map (λ values. row_of values) rows
-
-abbrev pub arguments_of : {A : Type 0} → List (member.Member A) → List Row
-arguments_of members = map (λ m. row_of m.arguments) members
-
 abbrev pub key_of : {A : Type 0} → key.Key A → Row
 key_of k = row_of k.values
 
--- a key and the arguments of its members
-abbrev pub group_of : {A : Type 0} → key.Key A × List (List (Value A)) → Group
-group_of entry = grouped (key_of entry.0) (rows_of entry.1)
+abbrev pub total_of : {A : Type 0} → total.Total A → Total
+total_of (totals.Count n) = Count n
+total_of (totals.Sum z) = Sum z
+total_of (totals.Best descends best) = Best descends (option_map (λ v. datum v) best)
 
-abbrev pub groups_in : {A : Type 0} → List (key.Key A × List (List (Value A))) → List Group
-groups_in entries = map (λ entry. group_of entry) entries
+abbrev pub totals_of : {A : Type 0} → List (total.Total A) → List Total
+totals_of ts = map (λ t. total_of t) ts
+
+-- a key and the totals of its members
+abbrev pub running_of : {A : Type 0} → key.Key A × Vec (total.Total A) A → RunningGroup
+running_of entry = record { key = key_of entry.0; totals = totals_of entry.1.items }
+
+abbrev pub running_in : {A : Type 0} → List (key.Key A × Vec (total.Total A) A) → List RunningGroup
+running_in entries = map (λ entry. running_of entry) entries
 
 abbrev pub group_row_of : {A : Type 0} → row.GroupRow A → GroupRow
 group_row_of g = record { key = row_of g.key; totals = row_of g.totals }

@@ -5,10 +5,10 @@ ghost use Rattle.memory.specs.Gives.{Gives};
 ghost use Rattle.value.specs.Datum.{datum_of, row_of};
 ghost use Rattle.expr.specs.View.{aggregate_calls_of};
 ghost use Rattle.groups.specs.GroupRow as spec;
-ghost use Rattle.groups.specs.Classes.{grouped};
-ghost use Rattle.groups.specs.View.{group_row_of, rows_of};
+ghost use Rattle.groups.specs.Running.{all_finished};
+ghost use Rattle.groups.specs.View.{group_row_of, totals_of};
 
-use crate::aggregates::totals_of;
+use crate::totals::{Total, finish_all};
 use eval::Row;
 use expr::{AggregateCall, ColumnId, is_column};
 use memory::{Failure, Heap, Items};
@@ -74,15 +74,15 @@ impl<A: Heap> Row<A> for GroupCells<'_, A> {
     }
 }
 
-/// The row of the group of a key and the arguments of its members, or the first fault of the aggregates.
+/// The row of a group, or the first fault of the aggregates.
 pub fn row_of_group<A: Heap>(
     alloc: A,
     calls: &[AggregateCall<'_, A>],
     key: Items<Value<A>, A>,
-    members: &[Items<Value<A>, A>],
+    totals: &[Total<A>],
 ) -> Result<GroupRow<A>, Failure<Fault>>
-    ensures { Gives (λ g. group_row_of g) result (spec.group_row (aggregate_calls_of calls.now) (grouped (row_of key) (rows_of members.now))) }
+    ensures { Gives (λ g. group_row_of g) result (spec.with_totals (row_of key) (all_finished (aggregate_calls_of calls.now) (totals_of totals.now))) }
 {
-    let totals = totals_of(alloc, calls, members)?;
+    let totals = finish_all(alloc, calls, totals)?;
     Ok(GroupRow { key, totals })
 }

@@ -1,62 +1,151 @@
-//! The groups of the members, and the row of each.
+//! The groups of the members so far, and the row of each.
 
-ghost use Rattle.std.specs.Prelude.{map, [], ◌∷◌};
+ghost use Rattle.std.specs.Prelude.{◌≡◌, [], ◌∷◌, map, IfOk, None, OnOk};
 ghost use Rattle.memory.specs.Gives.{Gives};
+ghost use Rattle.value.specs.Datum.{row_of};
 ghost use Rattle.expr.specs.View.{aggregate_calls_of};
 ghost use Rattle.stages.specs.Stages.{gives, stage};
-ghost use Rattle.groups.specs.GroupRow as spec;
-ghost use Rattle.groups.specs.Classes.{grouped};
-ghost use Rattle.groups.specs.View.{group_row_of, groups_in, member_of, rows_of};
+ghost use Rattle.groups.specs.Groups.{all_in_one, groups_of};
+ghost use Rattle.groups.specs.Running.{finished_row, put_running, running_groups};
+ghost use Rattle.groups.specs.Taking.{Takes, rows_of, totals_in};
+ghost use Rattle.groups.specs.View.{group_row_of, key_of, member_of, running_in};
 
-use crate::classes::{Classes, arguments_of, classes_of};
 use crate::group_row::{GroupRow, row_of_group};
+use crate::keys::Key;
 use crate::members::Member;
+use crate::totals::{Total, add_arguments, push_fresh};
 use expr::{AggregateCall, ColumnId};
 use memory::{Failure, Heap, Items};
 use stages::{Stage, gives};
+use std::alloc::AllocError;
+use std::collections::BTreeMap;
 use value::{Fault, Value};
 
-// The row of each group of the members by key, or the least fault.
-fn rows_of_classes<A: Heap>(
+/// The running totals of the groups, in the order of their keys.
+pub type ByKey<A> = BTreeMap<Key<A>, Vec<Total<A>, A>, A>;
+
+/// The groups of the combinations so far, and the least fault of their arguments.
+#[derive(Drop)]
+pub struct Groups<A: Heap> {
+    /// The totals of the members of each key.
+    pub(crate) by_key: ByKey<A>,
+    /// The least fault; no value is given on.
+    pub(crate) stage: Stage<(), A>,
+}
+
+// Adds the arguments of a member to the totals of its key.
+fn put_arguments<A: Heap>(
     alloc: A,
     calls: &[AggregateCall<'_, A>],
-    by_key: Classes<A>,
+    groups: &mut ByKey<A>,
+    key: Key<A>,
+    arguments: &[Value<A>],
+) -> Result<(), AllocError>
+    ensures { OnOk result (running_in groups.new.entries ≡ put_running (aggregate_calls_of calls.now) (record { key = key_of key; arguments = row_of arguments.now }) (running_in groups.old.entries)) }
+{
+    let totals = groups.entry(key)?.or_insert(Vec::new(alloc));
+    add_arguments(alloc, calls, totals, arguments)?;
+    Ok(())
+}
+
+// Adds a member to the totals of its key.
+fn put_member<A: Heap>(
+    alloc: A,
+    calls: &[AggregateCall<'_, A>],
+    groups: &mut ByKey<A>,
+    member: Member<A>,
+) -> Result<(), AllocError>
+    ensures { OnOk result (running_in groups.new.entries ≡ put_running (aggregate_calls_of calls.now) (member_of member) (running_in groups.old.entries)) }
+{
+    let key = Key { values: member.key };
+    put_arguments(alloc, calls, groups, key, member.arguments.as_slice())
+}
+
+// The row of each group, or the least fault.
+fn rows_by_key<A: Heap>(
+    alloc: A,
+    calls: &[AggregateCall<'_, A>],
+    groups: ByKey<A>,
 ) -> Result<Items<GroupRow<A>, A>, Failure<Fault>>
-    ensures { Gives (λ rows. map (λ g. group_row_of g) rows) result (stage (map (λ g. gives (spec.group_row (aggregate_calls_of calls.now) g)) (groups_in by_key.entries))) }
+    ensures { Gives (λ rows. map (λ g. group_row_of g) rows) result (stage (map (λ g. gives (finished_row (aggregate_calls_of calls.now) g)) (running_in groups.entries))) }
 {
     let mut stage = Stage::new(alloc);
-    for (key, members) in by_key {
-        stage.add(gives(row_of_group(alloc, calls, key.values, members.as_slice())))?;
+    for (key, totals) in groups {
+        stage.add(gives(row_of_group(alloc, calls, key.values, totals.as_slice())))?;
     }
     stage.end()
 }
 
-// The row of the one group of all members, or its fault.
-fn row_of_all<A: Heap>(
-    alloc: A,
-    calls: &[AggregateCall<'_, A>],
-    members: &[Items<Value<A>, A>],
-) -> Result<Items<GroupRow<A>, A>, Failure<Fault>>
-    ensures { Gives (λ rows. map (λ g. group_row_of g) rows) result (stage (gives (spec.group_row (aggregate_calls_of calls.now) (grouped [] (rows_of members.now))) ∷ [])) }
+// The one group of a query without GROUP BY, before its first member.
+fn only_group<A: Heap>(alloc: A, calls: &[AggregateCall<'_, A>]) -> Result<ByKey<A>, AllocError>
+    ensures { IfOk result (λ groups. running_in groups.entries ≡ running_groups (aggregate_calls_of calls.now) (all_in_one [] ∷ [])) }
 {
-    let key = Items::new(alloc);
-    let mut stage = Stage::new(alloc);
-    stage.add(gives(row_of_group(alloc, calls, key, members)))?;
-    stage.end()
+    let mut totals = Vec::new(alloc);
+    push_fresh(&mut totals, calls)?;
+    let key = Key {
+        values: Items::new(alloc),
+    };
+    let mut groups = BTreeMap::new(alloc);
+    groups.insert(key, totals)?;
+    Ok(groups)
 }
 
-/// The row of each group of the members, or the least fault of an aggregate.
-pub fn group_rows<A: Heap>(
+// The groups of no members.
+fn start_groups<A: Heap>(
     alloc: A,
     columns: &[ColumnId],
     calls: &[AggregateCall<'_, A>],
-    members: Items<Member<A>, A>,
-) -> Result<Items<GroupRow<A>, A>, Failure<Fault>>
-    ensures { Gives (λ rows. map (λ g. group_row_of g) rows) result (spec.group_rows columns.now (aggregate_calls_of calls.now) (map (λ m. member_of m) members)) }
+) -> Result<ByKey<A>, AllocError>
+    ensures { IfOk result (λ groups. running_in groups.entries ≡ running_groups (aggregate_calls_of calls.now) (groups_of columns.now [])) }
 {
     if columns.is_empty() {
-        let all = arguments_of(alloc, members)?;
-        return row_of_all(alloc, calls, all.as_slice());
+        only_group(alloc, calls)
+    } else {
+        Ok(BTreeMap::new(alloc))
     }
-    rows_of_classes(alloc, calls, classes_of(alloc, members)?)
+}
+
+impl<A: Heap> Groups<A> {
+    /// The groups of no combinations: one without GROUP BY, and else none.
+    pub fn new(
+        alloc: A,
+        columns: &[ColumnId],
+        calls: &[AggregateCall<'_, A>],
+    ) -> Result<Groups<A>, AllocError>
+        ensures { IfOk result (λ groups. (groups.stage.least ≡ None) × (totals_in groups ≡ running_groups (aggregate_calls_of calls.now) (groups_of columns.now []))) }
+    {
+        Ok(Groups {
+            by_key: start_groups(alloc, columns, calls)?,
+            stage: Stage::new(alloc),
+        })
+    }
+
+    /// Adds the member of one more combination, or the fault of its arguments. Where memory ran out, it is reported.
+    pub fn add(
+        &mut self,
+        alloc: A,
+        calls: &[AggregateCall<'_, A>],
+        outcome: Result<Member<A>, Failure<Fault>>,
+    ) -> Result<(), AllocError>
+        ensures { OnOk result (Takes (aggregate_calls_of calls.now) outcome self.old self.new) }
+    {
+        match outcome {
+            Ok(member) => put_member(alloc, calls, &mut self.by_key, member),
+            Err(failure) => self.stage.add(Err(failure)),
+        }
+    }
+
+    /// The row of each group, or the least fault: that of an argument, and else of an aggregate.
+    pub fn rows(
+        self,
+        alloc: A,
+        calls: &[AggregateCall<'_, A>],
+    ) -> Result<Items<GroupRow<A>, A>, Failure<Fault>>
+        ensures { Gives (λ rows. map (λ g. group_row_of g) rows) result (rows_of (aggregate_calls_of calls.now) self) }
+    {
+        match self.stage.least {
+            None => rows_by_key(alloc, calls, self.by_key),
+            Some(fault) => Err(Failure::Error(fault)),
+        }
+    }
 }

@@ -1,17 +1,17 @@
 //! Groups of rows and their aggregates.
 #![tactic(auto)]
 
-mod aggregates;
-mod classes;
 mod group_row;
 mod groups;
 mod keys;
 mod laws;
 mod members;
+mod totals;
 
 pub use group_row::{GroupCells, GroupRow};
-pub use groups::group_rows;
+pub use groups::Groups;
 pub use laws::{
     law_aggregates_of_classes, law_groups_differ, law_no_member_lost, law_order_of_members,
+    law_running_totals,
 };
 pub use members::{Member, member_on};

@@ -3,17 +3,20 @@
 ghost use Rattle.std.specs.Prelude.{◌≡◌, ◌++◌, OnOk, IfOk, map, option_map, option_to_list};
 ghost use Rattle.std.specs.List.{flat_map};
 ghost use Rattle.memory.specs.Gives.{Gives};
+ghost use Rattle.memory.specs.Results.{and_then};
 ghost use Rattle.value.specs.Datum.{row_of};
 ghost use Rattle.expr.specs.Aggregates.{aggregates};
 ghost use Rattle.expr.specs.View.{aggregate_calls_of, bound_expr_of, bound_items_of, bound_query_of};
+ghost use Rattle.groups.specs.Members.{member_on};
 ghost use Rattle.groups.specs.View.{group_row_of, member_of};
+ghost use Rattle.tuples.specs.Combinations.{joined_cells};
 ghost use Rattle.tuples.specs.View.{world_of};
 ghost use Rattle.tuples.specs.World.{combination_at};
 ghost use Rattle.report.specs.QueryStages as spec;
 
 use crate::outcomes::{keeps, values};
 use expr::{AggregateCall, BoundCondition, BoundExpr, BoundItem, BoundQuery, push_aggregates};
-use groups::{GroupCells, GroupRow, Member, group_rows, member_on};
+use groups::{GroupCells, GroupRow, Groups, Member, member_on};
 use memory::{Failure, Heap, Items};
 use stages::{Stage, gives, gives_if};
 use std::alloc::AllocError;
@@ -78,41 +81,43 @@ fn having_conditions<'q, A: Heap>(
 }
 
 // The group key and aggregate arguments of a combination.
-fn arguments_fate<A: Heap>(
+fn member_of_combination<A: Heap>(
     alloc: A,
     world: &World<'_, A>,
     calls: &[AggregateCall<'_, A>],
     combination: &Combo<A>,
-) -> Result<Option<Member<A>>, Failure<Fault>>
+) -> Result<Member<A>, Failure<Fault>>
     requires calls { aggregate_calls_of calls.now ≡ spec.query_aggregates (world_of world.now).query }
-    ensures { Gives (option_map (λ m. member_of m)) result (spec.arguments_fate world.now.role.now (world_of world.now).query (combination_at (world_of world.now).tables combination.now)) }
+    ensures { Gives (λ m. member_of m) result (member_on (joined_cells (combination_at (world_of world.now).tables combination.now)) world.now.role.now (world_of world.now).query.group_by (spec.query_aggregates (world_of world.now).query)) }
 {
     let row = JoinedRow::new(world.tables, combination);
-    gives(member_on(
+    member_on(
         alloc,
         world.query.group_by.as_slice(),
         calls,
         &row,
         world.role,
-    ))
+    )
 }
 
-// The group key and aggregate arguments of each combination, or the least fault.
-fn arguments_stage<A: Heap>(
+// The row of each group, with the totals of the combinations so far while they come, or the least fault: that of an
+// argument, and else of an aggregate.
+fn sums_stage<A: Heap>(
     alloc: A,
     world: &World<'_, A>,
     calls: &[AggregateCall<'_, A>],
     combos: &[&Combo<A>],
-) -> Result<Items<Member<A>, A>, Failure<Fault>>
+) -> Result<Items<GroupRow<A>, A>, Failure<Fault>>
     requires calls { aggregate_calls_of calls.now ≡ spec.query_aggregates (world_of world.now).query }
-    ensures { Gives (λ members. map (λ m. member_of m) members) result
-        (spec.arguments_stage world.now.role.now (world_of world.now).query (map (λ c. combination_at (world_of world.now).tables c.now) combos.now)) }
+    ensures { Gives (λ rows. map (λ g. group_row_of g) rows) result
+        (and_then (spec.arguments_stage world.now.role.now (world_of world.now).query (map (λ c. combination_at (world_of world.now).tables c.now) combos.now)) (spec.sums_stage world.now.role.now (world_of world.now).query)) }
 {
-    let mut stage = Stage::new(alloc);
+    let mut groups = Groups::new(alloc, world.query.group_by.as_slice(), calls)?;
     for combination in combos {
-        stage.add(arguments_fate(alloc, world, calls, combination))?;
+        let member = member_of_combination(alloc, world, calls, combination);
+        groups.add(alloc, calls, member)?;
     }
-    stage.end()
+    groups.rows(alloc, calls)
 }
 
 // The group, where HAVING is true or absent.
@@ -204,20 +209,6 @@ fn rows_of_group_rows<A: Heap>(
     group_items_stage(alloc, world, calls, kept.as_slice())
 }
 
-// The rows of the groups of members, or the least fault of the first stage that has one.
-fn rows_of_members<A: Heap>(
-    alloc: A,
-    world: &World<'_, A>,
-    calls: &[AggregateCall<'_, A>],
-    members: Items<Member<A>, A>,
-) -> Result<Items<Items<Value<A>, A>, A>, Failure<Fault>>
-    requires calls { aggregate_calls_of calls.now ≡ spec.query_aggregates (world_of world.now).query }
-    ensures { Gives (λ rows. map (λ r. row_of r) rows) result (spec.rows_of_members world.now.role.now (world_of world.now).query (map (λ m. member_of m) members)) }
-{
-    let groups = group_rows(alloc, world.query.group_by.as_slice(), calls, members)?;
-    rows_of_group_rows(alloc, world, calls, groups.as_slice())
-}
-
 /// The rows of the groups of combinations, or the least fault of the first stage that has one.
 pub fn rows_of_groups<A: Heap>(
     alloc: A,
@@ -228,6 +219,6 @@ pub fn rows_of_groups<A: Heap>(
         (spec.rows_of_groups world.now.role.now (world_of world.now).query (map (λ c. combination_at (world_of world.now).tables c.now) combos.now)) }
 {
     let calls = query_aggregates(alloc, world.query)?;
-    let members = arguments_stage(alloc, world, calls.as_slice(), combos)?;
-    rows_of_members(alloc, world, calls.as_slice(), members)
+    let groups = sums_stage(alloc, world, calls.as_slice(), combos)?;
+    rows_of_group_rows(alloc, world, calls.as_slice(), groups.as_slice())
 }

@@ -8,12 +8,8 @@ use Rattle.expr.specs.View.{aggregate_calls_of}
 use Rattle.memory.specs.Results.{first_then}
 use Rattle.stages.proofs.Walks.{next, done_then, done_nothing, put_next, fails_here}
 use Rattle.groups.specs.Members.{arguments}
+use Rattle.groups.proofs.Putting.{put_step}
 use Rattle.groups.proofs.members.arguments_on.Goals as goal
-
--- a value is put: the part that is done, and then the rest, is still the whole
-put_step : {A : Type 0} (done new : List (Value A)) (v : Value A) (o : Result Datum Fault) (rest here whole : Result (List Datum) Fault) → here ≡ first_then o rest → done_then (row_of done) here ≡ whole → o ≡ Ok (datum v) → new ≡ done ++ v ∷ [] → done_then (row_of new) rest ≡ whole
-put_step done new v o rest here whole is so_far given pushed =
-    ap (λ l. done_then (row_of l) rest) pushed ∙ put_next done v rest ∙ ap (λ x. done_then (row_of done) (first_then x rest)) (sym given) ∙ ap (done_then (row_of done)) (sym is) ∙ so_far
 
 pub loop-call-init : goal.loop-call-init
 loop-call-init g c =
