@@ -1,0 +1,5 @@
+pub mod Both
+pub mod Growth
+pub mod Runs
+pub mod TextColumns
+pub mod Zips
