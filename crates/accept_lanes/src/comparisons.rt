@@ -20,12 +20,12 @@ static VALUES: [Option<i64>; 9] = [
     Some(-1),
 ];
 
-// A column's value at an index.
+// The value of a column at an index.
 fn left(i: usize) -> Option<i64> {
     VALUES[i % 9]
 }
 
-// Another column's value there.
+// The value of another column there.
 fn right(i: usize) -> Option<i64>
     requires { i < 1000 }
 {
@@ -33,14 +33,15 @@ fn right(i: usize) -> Option<i64>
 }
 
 static COMPARISONS: [(&str, Comparison); 6] = [
-    ("equal", Comparison::Equal),
-    ("not_equal", Comparison::NotEqual),
-    ("less", Comparison::Less),
+    ("equal_to", Comparison::Equal),
+    ("not_equal_to", Comparison::NotEqual),
+    ("less_than", Comparison::Less),
     ("less_or_equal", Comparison::LessOrEqual),
-    ("greater", Comparison::Greater),
+    ("greater_than", Comparison::Greater),
     ("greater_or_equal", Comparison::GreaterOrEqual),
 ];
 
+// The literals.
 static LITERALS: [i64; 4] = [7, 0, i64::MIN, i64::MAX];
 
 fn holds(op: Comparison, a: i64, b: i64) -> bool {
