@@ -149,7 +149,7 @@ on_err (Err e) P p = p
 pub item_is : {X Y : Type 0} (f : X → Y) (xs : List X) (i : ℕ) (x : X) (d : Y) → i < length xs → x ≡ get_or xs i x → f x ≡ get_or (map f xs) i d
 item_is f xs i x d lt is = ap f is ∙ sym (get_or-map f xs i x d lt)
 
--- the columns before a same_index have one more value, and those after it are as they were
+-- the columns before an index have one more value, and those from it on are as they were
 module _ (old new : List (List Datum)) (row : Row) (i : ℕ)
     (grown : (j : ℕ) → j < i → get_or new j [] ≡ get_or old j [] ++ get_or row j null ∷ []) (left : (j : ℕ) → i ≤ j → get_or new j [] ≡ get_or old j []) where
   pub kept_fronts : length new ≡ length old → FrontsKept old new

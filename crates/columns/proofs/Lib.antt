@@ -2,4 +2,3 @@ pub mod Both
 pub mod Growth
 pub mod Runs
 pub mod TextColumns
-pub mod Zips

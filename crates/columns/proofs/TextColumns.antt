@@ -9,7 +9,7 @@ use Rattle.value.specs.Datum.{null, text}
 use Rattle.masks.specs.Columns.{text_unless, texts_from, texts_of}
 use Rattle.columns.specs.Ends.{end_before}
 use Rattle.columns.specs.View.{EndsAscend, TextsHold}
-use Rattle.columns.proofs.Zips.{zip2_push, zip2_take, zip2_at}
+use Rattle.masks.proofs.Zips.{zip2_push, zip2_take, zip2_at}
 use Rattle.columns.proofs.Runs.{ascend_more, ascend_at, ascend_cut, cut_within, length-texts, text_at, texts_more, texts_cut}
 
 module _ (bytes ends : List ℕ) (nulls : List Bool) (good : TextsHold bytes ends nulls) where

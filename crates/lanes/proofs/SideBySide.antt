@@ -1,43 +1,25 @@
 -- Two columns side by side: lanes, bits and truth values.
-use Rattle.std.proofs.Common.{◌≡◌, ℕ, zero, suc, ◌+◌, ◌-◌, ◌*◌, ◌/◌, ◌%◌, ◌^◌, ◌<◌, ◌≤◌, ◌⊎◌, inl, inr, ℤ, pos, Bool, true, false, not, ◌&&◌, ◌||◌, cond, List, [], ◌∷◌, length, map, get_or, take, drop, drop-cons, length-drop, refl, sym, ap, ◌∙◌, arith, w64, All, FitsSigned, of_z, bit_and, bit_or}
+use Rattle.std.proofs.Common.{◌≡◌, ℕ, ◌-◌, ◌*◌, ◌/◌, ◌%◌, ◌^◌, ◌<◌, ◌≤◌, ◌⊎◌, inl, inr, ℤ, pos, Bool, true, false, not, ◌&&◌, ◌||◌, cond, List, [], ◌∷◌, length, map, get_or, refl, sym, ap, ◌∙◌, arith, w64, All, FitsSigned, of_z, bit_and, bit_or}
 use Rattle.std.specs.Int.{bit_at, bit_not}
 use Rattle.std.specs.List.{AllByRecursion}
 use Rattle.std.specs.Simd.Lanes.{chunk, mask_l, top, zip2}
 use Rattle.std.specs.declared.cmp.Ordering.{Ordering}
 use Rattle.std.specs.Ordering.{int_cmp}
-use Rattle.std.proofs.Math.Pow.{pow_mono}
+use Rattle.std.proofs.Math.Bool.{and-true, and-false}
 use Rattle.std.proofs.lemmas.Bool.{cases_lt}
 use Rattle.std.proofs.lemmas.List.{get_or_past, get_or-map, length-map}
 use Rattle.std.proofs.lemmas.List.Elements.{recursion_from_All}
 use Rattle.std.proofs.lemmas.Nat.Bits.{bit_at-zero}
-use Rattle.std.proofs.lemmas.Simd.{tops_compared, mask_l-mod, mask_l-lt, bit_mask_l, get_or-chunk, get_or-zip2, length-zip2}
+use Rattle.std.proofs.lemmas.Simd.{tops_compared, mask_l-mod, get_or-zip2, length-zip2}
 use Rattle.value.specs.Datum.{null, int}
 use Rattle.value.specs.Orders.{compared, datum_cmp, is_true, is_unknown}
 use Rattle.value.specs.declared.order.Truth.{Truth}
 use Rattle.masks.specs.Bits.{IsMaskOf, words_for}
 use Rattle.masks.specs.Columns.{int_unless, ints_of}
 use Rattle.lanes.specs.Comparing.{Show}
-use Rattle.lanes.proofs.Truths.{true_of_bool, known, int_order, and_true, and_false}
+use Rattle.lanes.proofs.Masks.{bit_of_tests}
+use Rattle.lanes.proofs.Truths.{true_of_bool, known, int_order}
 use Rattle.lanes.proofs.Words.{and_is, or_is, not_is}
-use mir.Val.{bool_byte}
-
--- ---- lists side by side
-
-zip2_drop : {X Y Z : Type 0} (f : X → Y → Z) (n : ℕ) (xs : List X) (ys : List Y) → length ys ≡ length xs → zip2 f (drop n xs) (drop n ys) ≡ drop n (zip2 f xs ys)
-zip2_drop f zero xs ys e = refl
-zip2_drop f (suc n) [] [] e = refl
-zip2_drop f (suc n) [] (y ∷ ys) e = absurd (omega arith)
-zip2_drop f (suc n) (x ∷ xs) [] e = absurd (omega arith)
-zip2_drop f (suc n) (x ∷ xs) (y ∷ ys) e = zip2_drop f n xs ys (omega arith)
-
-zip2_take : {X Y Z : Type 0} (f : X → Y → Z) (n : ℕ) (xs : List X) (ys : List Y) → zip2 f (take n xs) (take n ys) ≡ take n (zip2 f xs ys)
-zip2_take f zero xs ys = refl
-zip2_take f (suc n) [] ys = refl
-zip2_take f (suc n) (x ∷ xs) [] = refl
-zip2_take f (suc n) (x ∷ xs) (y ∷ ys) = ap (λ zs. f x y ∷ zs) (zip2_take f n xs ys)
-
-pub zip2_chunk : {X Y Z : Type 0} (f : X → Y → Z) (i n : ℕ) (xs : List X) (ys : List Y) → length ys ≡ length xs → zip2 f (chunk i n xs) (chunk i n ys) ≡ chunk i n (zip2 f xs ys)
-zip2_chunk f i n xs ys e = zip2_take f n (drop i xs) (drop i ys) ∙ ap (take n) (zip2_drop f i xs ys e)
 
 -- ---- lanes
 
@@ -70,38 +52,13 @@ module _ (s : ℕ → ℕ → Bool) (q : ℤ → ℤ → Bool) (xs ys : List ℤ
       ap (λ ms. mask_l ms % 2 ^ 64) (tops_compared w64 s (map (of_z w64) ys) (map (of_z w64) xs) ∙ tested_swapped s q same xs ys (recursion_from_All (FitsSigned w64) xs fx) (recursion_from_All (FitsSigned w64) ys fy))
       ∙ mask_l-mod (zip2 q xs ys) 64 short
 
--- ---- the rest, from the last pair on
-
-with_byte : (b : Bool) (n : ℕ) → n * 2 + bool_byte b ≡ cond b 1 0 + 2 * n
-with_byte true n = omega arith
-with_byte false n = omega arith
-
-module _ (tests : List Bool) (i : ℕ) (low : 0 < i) (le : i ≤ length tests) where
-  pub small_bits : (at : ℕ) → at < i → length tests < at + 64 → mask_l (drop i tests) * 2 + 1 < 2 ^ 64
-  small_bits at above few =
-      let long : length (drop i tests) ≤ 62 = omega (arith, length-drop i tests) in
-      omega (arith, mask_l-lt (drop i tests), pow_mono {i = length (drop i tests)} {j = 62} long)
-
-  pub one_more_bit : mask_l (drop i tests) * 2 + bool_byte (get_or tests (i - 1) false) ≡ mask_l (drop (i - 1) tests)
-  one_more_bit =
-      let back : suc (i - 1) ≡ i = omega arith in
-      let e : drop (i - 1) tests ≡ get_or tests (i - 1) false ∷ drop i tests = drop-cons tests (i - 1) false (omega arith) ∙ ap (λ k. get_or tests (i - 1) false ∷ drop k tests) back in
-      with_byte (get_or tests (i - 1) false) (mask_l (drop i tests)) ∙ sym (ap mask_l e)
-
--- ---- bits
-
-pub bit_of_list : (tests : List Bool) (i : ℕ) → bit_at (mask_l (chunk (i / 64 * 64) 64 tests)) (i % 64) ≡ cond (get_or tests i false) 1 0
-bit_of_list tests i =
-    let same_index : i / 64 * 64 + i % 64 ≡ i = omega arith in
-    bit_mask_l (chunk (i / 64 * 64) 64 tests) (i % 64) ∙ ap (λ b. cond b 1 0) (get_or-chunk (i / 64 * 64) 64 tests (i % 64) false (omega arith) ∙ ap (λ k. get_or tests k false) same_index)
-
 -- ---- truth values
 
 module _ (t : Ordering → Bool) where
   pair_true : (x y : ℤ) (b c : Bool) → is_true (compared t (int_unless x b) (int_unless y c)) ≡ ((t (int_cmp x y) && not b) && not c)
-  pair_true x y true c = ap (λ h. h && not c) (and_false (t (int_cmp x y)))
-  pair_true x y false true = and_false (t (int_cmp x y) && true)
-  pair_true x y false false = true_of_bool (t (datum_cmp (int x) (int y))) ∙ ap t (int_order x y) ∙ and_true (t (int_cmp x y)) ∙ and_true (t (int_cmp x y) && true)
+  pair_true x y true c = sym (ap (λ h. h && not c) (and-false (t (int_cmp x y))))
+  pair_true x y false true = sym (and-false (t (int_cmp x y) && true))
+  pair_true x y false false = true_of_bool (t (datum_cmp (int x) (int y))) ∙ ap t (int_order x y) ∙ sym (and-true (t (int_cmp x y) && true) ∙ and-true (t (int_cmp x y)))
 
   pair_unknown : (x y : ℤ) (b c : Bool) → is_unknown (compared t (int_unless x b) (int_unless y c)) ≡ (b || c)
   pair_unknown x y true c = refl
@@ -149,7 +106,7 @@ module _ (t : Ordering → Bool) where
                 let case : (i < length xs) ⊎ (length xs ≤ i) = cases_lt i (length xs) in
                 let word : (i / 64 < length trues) ⊎ (length trues ≤ i / 64) = cases_lt (i / 64) (length trues) in
                 let bits = and_is (bit_and w (bit_not w64 n)) (bit_not w64 m) (i % 64) (get_or tests i false && not b) (not c)
-                (and_is w (bit_not w64 n) (i % 64) (get_or tests i false) (not b) (bit_of_list tests i) (not_is n (i % 64) b (nfit (i / 64)) (omega arith) (mb.each i)))
+                (and_is w (bit_not w64 n) (i % 64) (get_or tests i false) (not b) (bit_of_tests tests i) (not_is n (i % 64) b (nfit (i / 64)) (omega arith) (mb.each i)))
                 (not_is m (i % 64) c (ofit (i / 64)) (omega arith) (mc.each i)) in
                 elim case [
                   | inl lt ↦ ap (λ x. bit_at x (i % 64)) (words (i / 64) (omega arith)) ∙ bits

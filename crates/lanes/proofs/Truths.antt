@@ -7,6 +7,7 @@ use Rattle.value.specs.Datum.{int}
 use Rattle.value.specs.Orders.{compared, of_bool, is_true, datum_cmp, is_unknown}
 use Rattle.value.specs.declared.order.Truth.{Truth}
 use Rattle.masks.specs.Bits.{bit_of, IsMaskOf, words_for}
+use Rattle.std.proofs.Math.Bool.{and-true, and-false}
 use Rattle.std.proofs.lemmas.List.{length-map}
 use Rattle.masks.specs.Columns.{int_unless, ints_of}
 use Rattle.lanes.specs.Comparing.{Show}
@@ -35,21 +36,13 @@ less true false = refl
 less false true = refl
 less false false = refl
 
-pub and_true : (a : Bool) → a ≡ (a && true)
-and_true true = refl
-and_true false = refl
-
-pub and_false : (a : Bool) → false ≡ (a && false)
-and_false true = refl
-and_false false = refl
-
 module _ (t : Ordering → Bool) (lit : ℤ) where
   true_bit : (zs : List ℤ) (bits : List Bool) (i : ℕ) → length bits ≡ length zs
       → get_or (map is_true (map (λ d. compared t d (int lit)) (ints_of zs bits))) i false ≡ (get_or (map (λ z. t (int_cmp z lit)) zs) i false && not (get_or bits i false))
   true_bit [] bits i e = refl
   true_bit (z ∷ zs) [] i e = absurd (omega arith)
-  true_bit (z ∷ zs) (true ∷ bits) zero e = and_false (t (int_cmp z lit))
-  true_bit (z ∷ zs) (false ∷ bits) zero e = true_of_bool (t (datum_cmp (int z) (int lit))) ∙ ap t (int_order z lit) ∙ and_true (t (int_cmp z lit))
+  true_bit (z ∷ zs) (true ∷ bits) zero e = sym (and-false (t (int_cmp z lit)))
+  true_bit (z ∷ zs) (false ∷ bits) zero e = true_of_bool (t (datum_cmp (int z) (int lit))) ∙ ap t (int_order z lit) ∙ sym (and-true (t (int_cmp z lit)))
   true_bit (z ∷ zs) (b ∷ bits) (suc i) e = true_bit zs bits i (omega arith)
 
   unknown_bit : (zs : List ℤ) (bits : List Bool) (i : ℕ) → length bits ≡ length zs

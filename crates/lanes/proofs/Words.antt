@@ -5,6 +5,7 @@ use Rattle.std.specs.Simd.Lanes.{zip2}
 use Rattle.std.proofs.lemmas.Nat.Bits.{bit_at_and, bit_at_or, bit_at_not, bit_at-zero}
 use Rattle.std.proofs.lemmas.List.{get_or_past, length-map}
 use Rattle.std.proofs.lemmas.Simd.{length-zip2}
+use Rattle.std.proofs.Math.Bool.{and-true, and-false}
 use Rattle.std.proofs.lemmas.Bool.{cases_lt}
 use Rattle.value.specs.Orders.{is_true, is_unknown}
 use Rattle.value.specs.Truths.{least, greatest, negated}
@@ -191,14 +192,6 @@ module _ (xs ys : List Truth) (t n u m : List ℕ) (e : length xs ≡ length ys)
 
 -- ---- not
 
-and_true : (a : Bool) → (a && true) ≡ a
-and_true true = refl
-and_true false = refl
-
-and_false : (a : Bool) → (a && false) ≡ false
-and_false true = refl
-and_false false = refl
-
 negated_true : (x : Truth) → is_true (negated x) ≡ (not (is_true x) && not (is_unknown x))
 negated_true False = refl
 negated_true Unknown = refl
@@ -250,9 +243,9 @@ negation_shown xs t n new shown long tfits nfits words =
                   ap (λ x. bit_at x (i % 64)) word.is
                   ∙ elim item [
                     | inl lt ↦ and_is (bit_and (bit_not w64 w) (bit_not w64 v)) word.inside (i % 64) (not a && not b) true neither (word.items (i % 64) (omega arith) (omega arith))
-                        ∙ ap (λ c. cond c 1 0) (and_true (not a && not b) ∙ sym (negated_at xs i lt))
+                        ∙ ap (λ c. cond c 1 0) (and-true (not a && not b) ∙ sym (negated_at xs i lt))
                     | inr over ↦ and_is (bit_and (bit_not w64 w) (bit_not w64 v)) word.inside (i % 64) (not a && not b) false neither (word.past (i % 64) (omega arith) (omega arith))
-                        ∙ ap (λ c. cond c 1 0) (and_false (not a && not b) ∙ sym (get_or_past (map is_true (map negated xs)) i false (omega arith)))
+                        ∙ ap (λ c. cond c 1 0) (and-false (not a && not b) ∙ sym (get_or_past (map is_true (map negated xs)) i false (omega arith)))
                   ]
               | inr past ↦
                   let gone : length xs ≤ i = omega (arith, shown.true_bits.long, many') in

@@ -17,7 +17,7 @@ use value::Comparison;
 fn literal_block(op: Comparison, values: &[i64], at: usize, lit: i64) -> u64
     requires room { at + 64 ≤ length values.now }
     requires fit { All (FitsSigned w64) values.now }
-    ensures { result ≡ mask_l (map (λ z. holds op z lit) (chunk at 64 values.now)) }
+    ensures { result ≡ mask_l (chunk at 64 (map (λ z. holds op z lit) values.now)) }
 {
     let block = i64x64::from_slice(&values[at..]);
     let other = i64x64::splat(lit);
@@ -36,7 +36,7 @@ fn literal_rest(op: Comparison, values: &[i64], at: usize, lit: i64) -> u64
     requires within { at ≤ length values.now }
     requires few { length values.now < at + 64 }
     requires fit { All (FitsSigned w64) values.now }
-    ensures { result ≡ mask_l (map (λ z. holds op z lit) (chunk at 64 values.now)) }
+    ensures { result ≡ mask_l (chunk at 64 (map (λ z. holds op z lit) values.now)) }
 {
     let mut word = 0;
     let mut left = values.len();
@@ -51,7 +51,7 @@ fn literal_rest(op: Comparison, values: &[i64], at: usize, lit: i64) -> u64
 fn literal_word(op: Comparison, values: &[i64], at: usize, lit: i64) -> u64
     requires within { at ≤ length values.now }
     requires fit { All (FitsSigned w64) values.now }
-    ensures { result ≡ mask_l (map (λ z. holds op z lit) (chunk at 64 values.now)) }
+    ensures { result ≡ mask_l (chunk at 64 (map (λ z. holds op z lit) values.now)) }
 {
     if values.len() - at >= 64 {
         literal_block(op, values, at, lit)

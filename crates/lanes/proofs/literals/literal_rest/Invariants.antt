@@ -7,7 +7,7 @@ abbrev pub invariant-loop-left : goal.invariant-loop-left
 invariant-loop-left l = record {
   low : l.at ≤ l.left;
   within : l.left ≤ length l.values;
-  so_far : l.word ≡ mask_l (map (λ z. holds l.op z l.lit) (drop l.left l.values));
+  so_far : l.word ≡ mask_l (drop l.left (map (λ z. holds l.op z l.lit) l.values));
 }
 
 abbrev pub decreases-loop-left : goal.decreases-loop-left

@@ -4,8 +4,7 @@ use Rattle.std.proofs.lemmas.List.{take_all, drop_all}
 use Rattle.std.proofs.lemmas.Simd.{length-zip2, get_or-zip2}
 use Rattle.std.proofs.lemmas.Int.{to_z-of_z}
 use Rattle.lanes.specs.Comparing.{holds}
-use Rattle.lanes.proofs.Rest.{byte_small}
-use Rattle.lanes.proofs.SideBySide.{small_bits, one_more_bit}
+use Rattle.lanes.proofs.Rest.{byte_small, small, one_more}
 use Rattle.lanes.proofs.pairs.pair_rest.Goals as goal
 use mir.Val.{bool_byte}
 
@@ -20,13 +19,13 @@ pub overflow_mul-word : goal.overflow_mul-word
 overflow_mul-word c =
     let tests = zip2 (holds c.args.op) c.args.left.now c.args.right.now in
     let long : length tests ≡ length c.args.left.now = length-zip2 (holds c.args.op) c.args.left.now c.args.right.now (sym c.requires.same) in
-    record { fits = omega (arith, c.loop-over.invariant.so_far, small_bits tests c.loop-over.over (omega arith) (omega (arith, long)) c.args.at c.loop-over-test.true (omega (arith, long, c.requires.few))) }
+    record { fits = omega (arith, c.loop-over.invariant.so_far, small tests c.loop-over.over (omega arith) (omega (arith, long)) c.args.at c.loop-over-test.true (omega (arith, long, c.requires.few))) }
 
 pub overflow_add-word : goal.overflow_add-word
 overflow_add-word c =
     let tests = zip2 (holds c.args.op) c.args.left.now c.args.right.now in
     let long : length tests ≡ length c.args.left.now = length-zip2 (holds c.args.op) c.args.left.now c.args.right.now (sym c.requires.same) in
-    record { fits = omega (arith, byte_small c.holds.result, small_bits tests c.loop-over.over (omega arith) (omega (arith, long)) c.args.at c.loop-over-test.true (omega (arith, long, c.requires.few))) }
+    record { fits = omega (arith, byte_small c.holds.result, small tests c.loop-over.over (omega arith) (omega (arith, long)) c.args.at c.loop-over-test.true (omega (arith, long, c.requires.few))) }
 
 pub loop-over-preserved : goal.loop-over-preserved
 loop-over-preserved c =
@@ -43,7 +42,7 @@ loop-over-preserved c =
     record {
       low = omega arith;
       within = omega arith;
-      so_far = ap (λ n. n * 2 + c.from.result) c.loop-over.invariant.so_far ∙ ap (λ r. mask_l (drop i tests) * 2 + r) (c.from.ensures ∙ ap bool_byte test) ∙ one_more_bit tests i (omega arith) (omega (arith, long));
+      so_far = ap (λ n. n * 2 + c.from.result) c.loop-over.invariant.so_far ∙ ap (λ r. mask_l (drop i tests) * 2 + r) (c.from.ensures ∙ ap bool_byte test) ∙ one_more tests i (omega arith) (omega (arith, long));
     }
 
 pub returns : goal.returns
