@@ -1,6 +1,6 @@
 //! Columns of values, each with a list of its nulls, and rows that are held as columns.
 //!
-//! What grows is grown in place; where memory is refused, it is cut back to what it was.
+//! A column grows in place; where memory is refused, it is cut back to what it was.
 #![tactic(auto)]
 
 mod batch;

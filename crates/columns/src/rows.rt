@@ -109,7 +109,8 @@ impl<A: Heap> Rows<A> {
         self.len = len;
     }
 
-    /// One more row at the end, each value of its column's type or null. Where memory is refused, the rows stay as they were.
+    /// One more row at the end, each value of its column's type or null. Where memory is refused, the rows stay as they
+    /// were.
     pub fn push(&mut self, row: &[Val<'_, A>]) -> Result<(), AllocError>
         requires fits { FitsTypes self.old.types (map datum_of row.now) }
         requires room { length self.old.rows < 2 ^ 63 }

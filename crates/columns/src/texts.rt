@@ -50,6 +50,7 @@ fn text_in(bytes: &[u8], start: usize, end: usize) -> &str
     ensures { result.now ≡ slice_range bytes.now start end }
 {
     let part = &bytes[start..end];
+    // It is UTF-8, as this function requires.
     unsafe { str::from_utf8_unchecked(part) }
 }
 

@@ -6,7 +6,7 @@ ghost use Rattle.lanes.specs.Comparing.{holds};
 
 use value::Comparison;
 
-// Each value is a number of 64 bits, which a proof knows of the numbers of a slice once they are read. The loop does nothing.
+// Each value is a number of 64 bits. Of a slice a proof knows that once the numbers are read; the loop does nothing else.
 pub(crate) fn known_to_fit(values: &[i64])
     ensures { All (FitsSigned w64) values.now }
 {
