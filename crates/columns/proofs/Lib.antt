@@ -1,0 +1,4 @@
+pub mod Both
+pub mod Growth
+pub mod Runs
+pub mod TextColumns

@@ -1,0 +1,7 @@
+pub mod Data
+pub mod Ends
+pub mod Growing
+pub mod Held
+pub mod Optional
+pub mod Rows
+pub mod View

@@ -1,0 +1,81 @@
+//! Columns of any type (PostgreSQL: Data Types).
+
+ghost use Rattle.std.specs.Prelude.{◌≡◌, ◌+◌, ◌<◌, ◌≤◌, ◌^◌, ◌++◌, [], ◌∷◌, true, length, take, get_or, OnErr, OnOk};
+ghost use Rattle.value.specs.Columns.{fits_type};
+ghost use Rattle.value.specs.Datum.{datum_of, null};
+ghost use Rattle.columns.specs.Data.{cells_of, type_of};
+
+use crate::bools::Bools;
+use crate::ints::Ints;
+use crate::texts::Texts;
+use memory::Heap;
+use std::alloc::AllocError;
+use value::{ColType, Val};
+
+/// The values of a column, which are of one type or null.
+#[derive(Drop)]
+pub enum ColumnData<A: Heap> {
+    /// Of type `bigint`.
+    Ints(Ints<A>),
+    /// Of type `text`.
+    Texts(Texts<A>),
+    /// Of type `boolean`.
+    Bools(Bools<A>),
+}
+
+impl<A: Heap> ColumnData<A> {
+    /// A column of a type with no values.
+    pub fn new(alloc: A, data_type: ColType) -> ColumnData<A>
+        ensures cells { cells_of result ≡ [] }
+        ensures data_type { type_of result ≡ data_type }
+    {
+        match data_type {
+            ColType::Bigint => ColumnData::Ints(Ints::new(alloc)),
+            ColType::Text => ColumnData::Texts(Texts::new(alloc)),
+            ColType::Boolean => ColumnData::Bools(Bools::new(alloc)),
+        }
+    }
+
+    /// The value at an index.
+    pub fn get(&self, i: usize) -> Val<'_, A>
+        requires { i < length (cells_of self.now) }
+        ensures { datum_of result ≡ get_or (cells_of self.now) i null }
+    {
+        match self {
+            ColumnData::Ints(ints) => ints.get(i),
+            ColumnData::Texts(texts) => texts.get(i),
+            ColumnData::Bools(bools) => bools.get(i),
+        }
+    }
+
+    /// One more value at the end, of the column's type or null. Where memory is refused, the column stays as it was.
+    pub fn push(&mut self, value: &Val<'_, A>) -> Result<(), AllocError>
+        requires room { length (cells_of self.old) < 2 ^ 63 }
+        requires fits { fits_type (type_of self.old) (datum_of value.now) ≡ true }
+        ensures data_type { type_of self.new ≡ type_of self.old }
+        ensures ok { OnOk result (cells_of self.new ≡ cells_of self.old ++ datum_of value.now ∷ []) }
+        ensures err { OnErr result (cells_of self.new ≡ cells_of self.old) }
+    {
+        match (self, value) {
+            (ColumnData::Ints(ints), Val::Int(number)) => ints.push(Some(*number)),
+            (ColumnData::Ints(ints), _) => ints.push(None),
+            (ColumnData::Texts(texts), Val::Text(text)) => texts.push(text.as_str()),
+            (ColumnData::Texts(texts), _) => texts.push_null(),
+            (ColumnData::Bools(bools), Val::Bool(truth)) => bools.push(Some(*truth)),
+            (ColumnData::Bools(bools), _) => bools.push(None),
+        }
+    }
+
+    /// Drops the values from an index on.
+    pub fn truncate(&mut self, len: usize)
+        requires { len ≤ length (cells_of self.old) }
+        ensures data_type { type_of self.new ≡ type_of self.old }
+        ensures cells { cells_of self.new ≡ take len (cells_of self.old) }
+    {
+        match self {
+            ColumnData::Ints(ints) => ints.truncate(len),
+            ColumnData::Texts(texts) => texts.truncate(len),
+            ColumnData::Bools(bools) => bools.truncate(len),
+        }
+    }
+}
