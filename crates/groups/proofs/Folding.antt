@@ -24,7 +24,7 @@ use Rattle.groups.specs.Groups.{Group, all_in_one, groups_of}
 use Rattle.groups.specs.GroupRow.{GroupRow, group_rows}
 use Rattle.groups.specs.Classes.{grouped, put}
 use Rattle.groups.specs.Running.{HaveKeys, RunningGroup, finished_rows, put_all_running, put_running, running_groups}
-use Rattle.groups.specs.Taking.{Takes, totals_in}
+use Rattle.groups.specs.Taking.{Takes, TakesOutcome, totals_in}
 use Rattle.groups.specs.View.{member_of}
 use Rattle.groups.proofs.ClassLaws.{all_put, put_all, put_totals_all, rows_finished}
 
@@ -99,19 +99,20 @@ module _ (calls : List AggregateCall) where
       ∙ ap (unless_fault (least fault_cmp (filter_map fault_in fates))) (sym (put_totals_all calls (groups_of columns []) (filter_map given_in fates)) ∙ ap (running_groups calls) (put_one_by_one cells_of role calls columns xs))
       ∙ over_unless columns (least fault_cmp (filter_map fault_in fates)) (filter_map given_in fates)
 
-  one_taken : {A : Type 0} (outcome : Result (code.Member A) (Failure Fault)) (due : Result Member Fault) (old new : Groups A) (rest : List (Fate Member)) →
-      Gives (λ m. member_of m) outcome due → Takes calls outcome old new → folding old.stage.least (totals_in old) (gives due ∷ rest) ≡ folding new.stage.least (totals_in new) rest
-  one_taken (Ok m) due old new rest h takes =
-      ap (λ o. folding old.stage.least (totals_in old) (gives o ∷ rest)) h ∙ ap₂ (λ f gs. folding f gs rest) (sym takes.1) (sym takes.0)
-  one_taken (Err (failures.Error f)) due old new rest h takes =
-      ap (λ o. folding old.stage.least (totals_in old) (gives o ∷ rest)) h ∙ ap₂ (λ f gs. folding f gs rest) (sym takes.1) (sym takes.0)
-  one_taken (Err failures.OutOfMemory) due old new rest h takes = absurd takes
+  one_taken : {A : Type 0} (due : Result Member Fault) (old new : Groups A) (rest : List (Fate Member)) → Takes calls due old new → folding old.stage.least (totals_in old) (gives due ∷ rest) ≡ folding new.stage.least (totals_in new) rest
+  one_taken (Ok m) old new rest takes = ap₂ (λ f gs. folding f gs rest) (sym takes.1) (sym takes.0)
+  one_taken (Err f) old new rest takes = ap₂ (λ f gs. folding f gs rest) (sym takes.1) (sym takes.0)
 
   -- one combination later
-  pub fold_next : {A : Type 0} (outcome : Result (code.Member A) (Failure Fault)) (due : Result Member Fault) (old new : Groups A) (fates rest : List (Fate Member)) (whole : Result (List RunningGroup) Fault) →
-      fates ≡ gives due ∷ rest → Gives (λ m. member_of m) outcome due → Takes calls outcome old new → folding old.stage.least (totals_in old) fates ≡ whole → folding new.stage.least (totals_in new) rest ≡ whole
-  fold_next outcome due old new fates rest whole first h takes so_far =
-      sym (one_taken outcome due old new rest h takes) ∙ ap (folding old.stage.least (totals_in old)) (sym first) ∙ so_far
+  pub fold_next : {A : Type 0} (due : Result Member Fault) (old new : Groups A) (fates rest : List (Fate Member)) (whole : Result (List RunningGroup) Fault) →
+      fates ≡ gives due ∷ rest → Takes calls due old new → folding old.stage.least (totals_in old) fates ≡ whole → folding new.stage.least (totals_in new) rest ≡ whole
+  fold_next due old new fates rest whole first takes so_far = sym (one_taken due old new rest takes) ∙ ap (folding old.stage.least (totals_in old)) (sym first) ∙ so_far
+
+  -- what is taken in is what is due
+  pub taken : {A : Type 0} (outcome : Result (code.Member A) (Failure Fault)) (due : Result Member Fault) (old new : Groups A) → Gives (λ m. member_of m) outcome due → TakesOutcome calls outcome old new → Takes calls due old new
+  taken (Ok m) due old new h takes = subst (λ d. Takes calls d old new) (sym h) takes
+  taken (Err (failures.Error f)) due old new h takes = subst (λ d. Takes calls d old new) (sym h) takes
+  taken (Err failures.OutOfMemory) due old new h takes = absurd takes
 
   over_then : (columns : List ColumnId) (r : Result (List Member) Fault) → and_then (totals_over columns r) (finished_rows calls) ≡ and_then r (group_rows columns calls)
   over_then columns (Ok ms) = rows_finished columns calls ms

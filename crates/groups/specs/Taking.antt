@@ -9,6 +9,7 @@ use Rattle.expr.specs.Aggregates.{AggregateCall}
 use Rattle.stages.specs.Stages.{fault_cmp, unless_fault}
 use Rattle.groups.specs.declared.members.Member as code
 use Rattle.groups.specs.declared.groups.Groups.{Groups}
+use Rattle.groups.specs.Members.{Member}
 use Rattle.groups.specs.GroupRow.{GroupRow}
 use Rattle.groups.specs.Running.{RunningGroup, finished_rows, put_running}
 use Rattle.groups.specs.View.{member_of, running_in}
@@ -16,11 +17,16 @@ use Rattle.groups.specs.View.{member_of, running_in}
 abbrev pub totals_in : {A : Type 0} → Groups A → List RunningGroup
 totals_in groups = running_in groups.by_key.entries
 
--- the outcome of one more combination is taken in; out of memory is not
-abbrev pub Takes : {A : Type 0} → List AggregateCall → Result (code.Member A) (Failure Fault) → Groups A → Groups A → Type 0
-Takes calls (Ok m) old new = (totals_in new ≡ put_running calls (member_of m) (totals_in old)) × (new.stage.least ≡ old.stage.least)
-Takes calls (Err (failures.Error f)) old new = (totals_in new ≡ totals_in old) × (new.stage.least ≡ lesser fault_cmp old.stage.least (Some f))
-Takes calls (Err failures.OutOfMemory) old new = ⊥
+-- the member of one more combination, or its fault, is taken in
+abbrev pub Takes : {A : Type 0} → List AggregateCall → Result Member Fault → Groups A → Groups A → Type 0
+Takes calls (Ok m) old new = (totals_in new ≡ put_running calls m (totals_in old)) × (new.stage.least ≡ old.stage.least)
+Takes calls (Err f) old new = (totals_in new ≡ totals_in old) × (new.stage.least ≡ lesser fault_cmp old.stage.least (Some f))
+
+-- as it is evaluated; out of memory is not taken in
+abbrev pub TakesOutcome : {A : Type 0} → List AggregateCall → Result (code.Member A) (Failure Fault) → Groups A → Groups A → Type 0
+TakesOutcome calls (Ok m) old new = Takes calls (Ok (member_of m)) old new
+TakesOutcome calls (Err (failures.Error f)) old new = Takes calls (Err f) old new
+TakesOutcome calls (Err failures.OutOfMemory) old new = ⊥
 
 -- the rows of the groups whose members are all in, where no argument faulted
 abbrev pub rows_of : {A : Type 0} → List AggregateCall → Groups A → Result (List GroupRow) Fault

@@ -2,13 +2,12 @@
 
 ghost use Rattle.std.specs.Prelude.{◌≡◌, [], ◌∷◌, map, IfOk, None, OnOk};
 ghost use Rattle.memory.specs.Gives.{Gives};
-ghost use Rattle.value.specs.Datum.{row_of};
 ghost use Rattle.expr.specs.View.{aggregate_calls_of};
 ghost use Rattle.stages.specs.Stages.{gives, stage};
 ghost use Rattle.groups.specs.Groups.{all_in_one, groups_of};
 ghost use Rattle.groups.specs.Running.{finished_row, put_running, running_groups};
-ghost use Rattle.groups.specs.Taking.{Takes, rows_of, totals_in};
-ghost use Rattle.groups.specs.View.{group_row_of, key_of, member_of, running_in};
+ghost use Rattle.groups.specs.Taking.{TakesOutcome, rows_of, totals_in};
+ghost use Rattle.groups.specs.View.{group_row_of, key_of, lent_row, member_of, running_in};
 
 use crate::group_row::{GroupRow, row_of_group};
 use crate::keys::Key;
@@ -19,7 +18,7 @@ use memory::{Failure, Heap, Items};
 use stages::{Stage, gives};
 use std::alloc::AllocError;
 use std::collections::BTreeMap;
-use value::{Fault, Value};
+use value::{Fault, Val};
 
 /// The running totals of the groups, in the order of their keys.
 pub type ByKey<A> = BTreeMap<Key<A>, Vec<Total<A>, A>, A>;
@@ -39,9 +38,9 @@ fn put_arguments<A: Heap>(
     calls: &[AggregateCall<'_, A>],
     groups: &mut ByKey<A>,
     key: Key<A>,
-    arguments: &[Value<A>],
+    arguments: &[Val<'_, A>],
 ) -> Result<(), AllocError>
-    ensures { OnOk result (running_in groups.new.entries ≡ put_running (aggregate_calls_of calls.now) (record { key = key_of key; arguments = row_of arguments.now }) (running_in groups.old.entries)) }
+    ensures { OnOk result (running_in groups.new.entries ≡ put_running (aggregate_calls_of calls.now) (record { key = key_of key; arguments = lent_row arguments.now }) (running_in groups.old.entries)) }
 {
     let totals = groups.entry(key)?.or_insert(Vec::new(alloc));
     add_arguments(alloc, calls, totals, arguments)?;
@@ -53,9 +52,9 @@ fn put_member<A: Heap>(
     alloc: A,
     calls: &[AggregateCall<'_, A>],
     groups: &mut ByKey<A>,
-    member: Member<A>,
+    member: Member<'_, A>,
 ) -> Result<(), AllocError>
-    ensures { OnOk result (running_in groups.new.entries ≡ put_running (aggregate_calls_of calls.now) (member_of member) (running_in groups.old.entries)) }
+    ensures { OnOk result (running_in groups.new.entries ≡ put_running (aggregate_calls_of calls.now) (member_of member.entry) (running_in groups.old.entries)) }
 {
     let key = Key { values: member.key };
     put_arguments(alloc, calls, groups, key, member.arguments.as_slice())
@@ -125,9 +124,9 @@ impl<A: Heap> Groups<A> {
         &mut self,
         alloc: A,
         calls: &[AggregateCall<'_, A>],
-        outcome: Result<Member<A>, Failure<Fault>>,
+        outcome: Result<Member<'_, A>, Failure<Fault>>,
     ) -> Result<(), AllocError>
-        ensures { OnOk result (Takes (aggregate_calls_of calls.now) outcome self.old self.new) }
+        ensures { OnOk result (TakesOutcome (aggregate_calls_of calls.now) outcome.entry self.old self.new) }
     {
         match outcome {
             Ok(member) => put_member(alloc, calls, &mut self.by_key, member),

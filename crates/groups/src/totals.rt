@@ -3,20 +3,20 @@
 ghost use Rattle.std.specs.Prelude.{◌≡◌, ◌+◌, ◌+ℤ◌, ◌++◌, [], IfOk, OnOk, Some, option_map, pos, if◌then◌else◌};
 ghost use Rattle.memory.specs.Gives.{Gives};
 ghost use Rattle.bags.specs.Least.{lesser};
-ghost use Rattle.value.specs.Datum.{datum, row_of};
+ghost use Rattle.value.specs.Datum.{datum, datum_of, row_of};
 ghost use Rattle.value.specs.Exact as exact;
 ghost use Rattle.value.specs.Orders as orders;
 ghost use Rattle.expr.specs.View.{aggregate_calls_of};
 ghost use Rattle.groups.specs.Aggregates as spec;
 ghost use Rattle.groups.specs.Aggregates.{not_null, or_null, towards};
 ghost use Rattle.groups.specs.Running as running;
-ghost use Rattle.groups.specs.View.{total_of, totals_of};
+ghost use Rattle.groups.specs.View.{lent_row, total_of, totals_of};
 
 use expr::AggregateCall;
 use memory::{Failure, Heap, Items};
 use std::alloc::AllocError;
 use std::cmp::Ordering;
-use value::{Aggregate, Fault, FaultKind, Value, cmp_values};
+use value::{Aggregate, Fault, FaultKind, Val, Value, cmp_values};
 
 /// The aggregate of the values so far, nulls left out.
 #[derive(Drop)]
@@ -63,11 +63,11 @@ fn count_more(count: u64) -> Result<u64, AllocError>
 }
 
 // The number in a value, 0 where it is none.
-fn number<A: Heap>(value: &Value<A>) -> i64
-    ensures { result ≡ orders.number (datum value.now) }
+fn number<A: Heap>(value: &Val<'_, A>) -> i64
+    ensures { result ≡ orders.number (datum_of value.now) }
 {
     match value {
-        Value::Int(n) => *n,
+        Val::Int(n) => *n,
         _ => 0,
     }
 }
@@ -82,34 +82,34 @@ fn sum_more(sum: Option<i128>, number: i64) -> Result<i128, AllocError>
     }
 }
 
-fn compare<A: Heap>(a: &Value<A>, b: &Value<A>, descends: bool) -> Ordering
-    ensures { result ≡ towards descends (datum a.now) (datum b.now) }
+fn compare<A: Heap>(a: &Val<'_, A>, b: &Val<'_, A>, descends: bool) -> Ordering
+    ensures { result ≡ towards descends (datum_of a.now) (datum_of b.now) }
 {
     let (first, second) = if descends { (b, a) } else { (a, b) };
-    cmp_values(&first.as_val(), &second.as_val())
+    cmp_values(first, second)
 }
 
 // The value comes before the best so far.
-fn is_better<A: Heap>(value: &Value<A>, best: Option<&Value<A>>, descends: bool) -> bool
-    ensures { lesser (towards descends) (option_map (λ v. datum v.now) best.entry) (Some (datum value.now)) ≡ (if result then Some (datum value.now) else option_map (λ v. datum v.now) best.entry) }
+fn is_better<A: Heap>(value: &Val<'_, A>, best: Option<&Value<A>>, descends: bool) -> bool
+    ensures { lesser (towards descends) (option_map (λ v. datum v.now) best.entry) (Some (datum_of value.now)) ≡ (if result then Some (datum_of value.now) else option_map (λ v. datum v.now) best.entry) }
 {
     match best {
         None => true,
-        Some(best) => compare(best, value, descends).is_gt(),
+        Some(best) => compare(&best.as_val(), value, descends).is_gt(),
     }
 }
 
 impl<A: Heap> Total<A> {
     // Adds a value that is not null.
-    fn add_value(&mut self, alloc: A, value: &Value<A>) -> Result<(), AllocError>
-        ensures { OnOk result (total_of self.new ≡ running.with_value (total_of self.old) (datum value.now)) }
+    fn add_value(&mut self, alloc: A, value: &Val<'_, A>) -> Result<(), AllocError>
+        ensures { OnOk result (total_of self.new ≡ running.with_value (total_of self.old) (datum_of value.now)) }
     {
         match self {
             Total::Count(count) => *count = count_more(*count)?,
             Total::Sum(sum) => *sum = Some(sum_more(*sum, number(value))?),
             Total::Best { descends, best } => {
                 if is_better(value, best.as_ref(), *descends) {
-                    *best = Some(value.copy(alloc)?);
+                    *best = Some(value.to_value(alloc)?);
                 }
             }
         }
@@ -117,11 +117,11 @@ impl<A: Heap> Total<A> {
     }
 
     // Adds an argument, of which a null is no value.
-    fn add(&mut self, alloc: A, argument: &Value<A>) -> Result<(), AllocError>
-        ensures { OnOk result (total_of self.new ≡ running.with_argument (total_of self.old) (not_null (datum argument.now))) }
+    fn add(&mut self, alloc: A, argument: &Val<'_, A>) -> Result<(), AllocError>
+        ensures { OnOk result (total_of self.new ≡ running.with_argument (total_of self.old) (not_null (datum_of argument.now))) }
     {
         match argument {
-            Value::Null => Ok(()),
+            Val::Null => Ok(()),
             value => self.add_value(alloc, value),
         }
     }
@@ -199,9 +199,9 @@ pub fn push_fresh<A: Heap>(
 fn add_each<A: Heap>(
     alloc: A,
     totals: &mut [Total<A>],
-    arguments: &[Value<A>],
+    arguments: &[Val<'_, A>],
 ) -> Result<(), AllocError>
-    ensures { OnOk result (totals_of totals.new ≡ running.with_arguments (totals_of totals.old) (row_of arguments.now)) }
+    ensures { OnOk result (totals_of totals.new ≡ running.with_arguments (totals_of totals.old) (lent_row arguments.now)) }
 {
     match totals.split_first_mut() {
         None => Ok(()),
@@ -209,7 +209,8 @@ fn add_each<A: Heap>(
             None => Ok(()),
             Some((argument, arguments)) => {
                 total.add(alloc, argument)?;
-                add_each(alloc, totals, arguments)
+                add_each(alloc, totals, arguments)?;
+                Ok(())
             }
         },
     }
@@ -233,9 +234,9 @@ pub fn add_arguments<A: Heap>(
     alloc: A,
     calls: &[AggregateCall<'_, A>],
     totals: &mut Vec<Total<A>, A>,
-    arguments: &[Value<A>],
+    arguments: &[Val<'_, A>],
 ) -> Result<(), AllocError>
-    ensures { OnOk result (totals_of totals.new.items ≡ running.with_arguments (running.started (aggregate_calls_of calls.now) (totals_of totals.old.items)) (row_of arguments.now)) }
+    ensures { OnOk result (totals_of totals.new.items ≡ running.with_arguments (running.started (aggregate_calls_of calls.now) (totals_of totals.old.items)) (lent_row arguments.now)) }
 {
     start_totals(totals, calls)?;
     add_each(alloc, totals.as_mut_slice(), arguments)?;

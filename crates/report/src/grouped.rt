@@ -8,7 +8,8 @@ ghost use Rattle.value.specs.Datum.{row_of};
 ghost use Rattle.expr.specs.Aggregates.{aggregates};
 ghost use Rattle.expr.specs.View.{aggregate_calls_of, bound_expr_of, bound_items_of, bound_query_of};
 ghost use Rattle.groups.specs.Members.{member_on};
-ghost use Rattle.groups.specs.View.{group_row_of, member_of};
+ghost use Rattle.groups.specs.Taking.{Takes};
+ghost use Rattle.groups.specs.View.{group_row_of};
 ghost use Rattle.tuples.specs.Combinations.{joined_cells};
 ghost use Rattle.tuples.specs.View.{world_of};
 ghost use Rattle.tuples.specs.World.{combination_at};
@@ -16,7 +17,7 @@ ghost use Rattle.report.specs.QueryStages as spec;
 
 use crate::outcomes::{keeps, values};
 use expr::{AggregateCall, BoundCondition, BoundExpr, BoundItem, BoundQuery, push_aggregates};
-use groups::{GroupCells, GroupRow, Groups, Member, member_on};
+use groups::{GroupCells, GroupRow, Groups, member_on};
 use memory::{Failure, Heap, Items};
 use stages::{Stage, gives, gives_if};
 use std::alloc::AllocError;
@@ -80,24 +81,22 @@ fn having_conditions<'q, A: Heap>(
     Ok(conditions)
 }
 
-// The group key and aggregate arguments of a combination.
-fn member_of_combination<A: Heap>(
+// Adds the group key and aggregate arguments of a combination to the groups, or the first fault of the arguments.
+fn add_combination<'w, A: Heap>(
     alloc: A,
-    world: &World<'_, A>,
-    calls: &[AggregateCall<'_, A>],
-    combination: &Combo<A>,
-) -> Result<Member<A>, Failure<Fault>>
+    world: &'w World<'w, A>,
+    calls: &'w [AggregateCall<'w, A>],
+    groups: &mut Groups<A>,
+    combination: &'w Combo<A>,
+) -> Result<(), AllocError>
     requires calls { aggregate_calls_of calls.now ≡ spec.query_aggregates (world_of world.now).query }
-    ensures { Gives (λ m. member_of m) result (member_on (joined_cells (combination_at (world_of world.now).tables combination.now)) world.now.role.now (world_of world.now).query.group_by (spec.query_aggregates (world_of world.now).query)) }
+    ensures { OnOk result (Takes (spec.query_aggregates (world_of world.now).query) (member_on (joined_cells (combination_at (world_of world.now).tables combination.now)) world.now.role.now (world_of world.now).query.group_by (spec.query_aggregates (world_of world.now).query)) groups.old groups.new) }
 {
     let row = JoinedRow::new(world.tables, combination);
-    member_on(
-        alloc,
-        world.query.group_by.as_slice(),
-        calls,
-        &row,
-        world.role,
-    )
+    let columns = world.query.group_by.as_slice();
+    let member = member_on(alloc, columns, calls, &row, world.role);
+    groups.add(alloc, calls, member)?;
+    Ok(())
 }
 
 // The row of each group, with the totals of the combinations so far while they come, or the least fault: that of an
@@ -114,8 +113,7 @@ fn sums_stage<A: Heap>(
 {
     let mut groups = Groups::new(alloc, world.query.group_by.as_slice(), calls)?;
     for combination in combos {
-        let member = member_of_combination(alloc, world, calls, combination);
-        groups.add(alloc, calls, member)?;
+        add_combination(alloc, &*world, &*calls, &mut groups, combination)?;
     }
     groups.rows(alloc, calls)
 }

@@ -1,9 +1,8 @@
 use Rattle.std.proofs.Common.{ap, ◌∙◌, arith, ◌≡◌}
 use Rattle.std.specs.BTreeMap.Entry.{map_with_value, entry_value}
-use Rattle.value.specs.Datum.{row_of}
 use Rattle.expr.specs.View.{aggregate_calls_of}
 use Rattle.groups.specs.Running.{put_running}
-use Rattle.groups.specs.View.{key_of, running_in}
+use Rattle.groups.specs.View.{key_of, lent_row, running_in}
 use Rattle.groups.proofs.ClassLaws.{put_entry}
 use Rattle.groups.proofs.groups.put_arguments.Goals as goal
 
@@ -13,7 +12,7 @@ returns g c =
     let new = c.add_arguments.new.totals in
     let calls = aggregate_calls_of c.args.calls.now in
     let taken = rw c.or_insert-totals.ensures.value at c.in_ok-add_arguments.ensures in
-    let all : running_in (map_with_value e new).entries ≡ put_running calls (record { key = key_of c.args.key; arguments = row_of c.args.arguments.now }) (running_in c.args.groups.now.entries) =
+    let all : running_in (map_with_value e new).entries ≡ put_running calls (record { key = key_of c.args.key; arguments = lent_row c.args.arguments.now }) (running_in c.args.groups.now.entries) =
     ap running_in (c.in_ok-groups.ensures.update.1 new)
-    ∙ put_entry calls c.args.key c.new.result new (entry_value e) (row_of c.args.arguments.now) c.new.ensures.items taken c.args.groups.now.entries c.in_ok-groups.ensures.ordered c.in_ok-groups.ensures.value in
+    ∙ put_entry calls c.args.key c.new.result new (entry_value e) (lent_row c.args.arguments.now) c.new.ensures.items taken c.args.groups.now.entries c.in_ok-groups.ensures.ordered c.in_ok-groups.ensures.value in
     grind (arith, all)

@@ -1,7 +1,7 @@
 use Rattle.std.proofs.Common.{ap, ap₂, sym, refl, ◌∙◌, Ok}
 use Rattle.std.proofs.lemmas.List.{append-nil}
 use Rattle.std.proofs.lemmas.Slice.Zip.{Zip-more, either_empty_from_Zip}
-use Rattle.value.specs.Datum.{row_of}
+use Rattle.value.specs.Datum.{datum, row_of}
 use Rattle.expr.specs.View.{aggregate_calls_of}
 use Rattle.stages.proofs.Walks.{done_then}
 use Rattle.groups.specs.Running.{all_finished}
@@ -14,7 +14,7 @@ use Rattle.groups.proofs.totals.finish_all.Goals as goal
 pub loop-call-preserved : goal.loop-call-preserved
 loop-call-preserved g c =
     let more = Zip-more c.loop-call.call-iterator c.next.new.self _ (c.in-Some.call, c.in-Some.total) c.in-Some.is c.next.ensures.steps in
-    put_step c.loop-call.values _ _ _ _ _ _ (ap₂ (λ l m. all_finished (aggregate_calls_of l) (totals_of m)) more.0 more.1) c.loop-call.invariant c.in_ok-finish.ensures c.in_ok-push.ensures.ok
+    put_step (λ v. datum v) c.loop-call.values _ _ _ _ _ _ (ap₂ (λ l m. all_finished (aggregate_calls_of l) (totals_of m)) more.0 more.1) c.loop-call.invariant c.in_ok-finish.ensures c.in_ok-push.ensures.ok
 
 pub returns : goal.returns
 returns g c =

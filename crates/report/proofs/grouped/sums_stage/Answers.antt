@@ -7,7 +7,7 @@ use Rattle.tuples.specs.World.{combination_at}
 use Rattle.stages.proofs.Walks.{next}
 use Rattle.groups.specs.Groups.{groups_of}
 use Rattle.groups.specs.Running.{running_groups}
-use Rattle.groups.specs.Taking.{Takes, rows_of, totals_in}
+use Rattle.groups.specs.Taking.{rows_of, totals_in}
 use Rattle.groups.specs.View.{group_row_of}
 use Rattle.groups.proofs.Folding.{folding, fold_start, fold_next, fold_end}
 use Rattle.report.specs.QueryStages.{arguments_fate, arguments_stage, query_aggregates}
@@ -26,9 +26,8 @@ pub loop-combination-preserved : goal.loop-combination-preserved
 loop-combination-preserved g c =
     let q = (world_of c.args.world.now).query in
     let first = next c.args.combos.now c.loop-combination.combination-index c.combination-item.result c.loop-combination-test.true c.combination-item.is in
-    fold_next (query_aggregates q) c.member_of_combination-member.result _ c.loop-combination.groups c.add.new.self _ _ _
-    (ap (λ l. map (arguments_fate c.args.world.now.role.now q) (map (λ d. combination_at (world_of c.args.world.now).tables d.now) l)) first)
-    c.member_of_combination-member.ensures (subst (λ calls. Takes calls c.member_of_combination-member.result c.loop-combination.groups c.add.new.self) c.requires.calls c.in_ok-add.ensures) c.loop-combination.invariant
+    fold_next (query_aggregates q) _ c.loop-combination.groups c.add_combination.new.groups _ _ _
+    (ap (λ l. map (arguments_fate c.args.world.now.role.now q) (map (λ d. combination_at (world_of c.args.world.now).tables d.now) l)) first) c.in_ok-add_combination.ensures c.loop-combination.invariant
 
 pub returns : goal.returns
 returns g c =
