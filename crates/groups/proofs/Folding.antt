@@ -3,7 +3,7 @@ use Rattle.std.proofs.Common.{◌≡◌, List, [], ◌∷◌, ◌++◌, map, ref
 use Rattle.std.specs.List.{AllByRecursion, cons_option, filter_map}
 use Rattle.std.proofs.lemmas.List.Elements.{recursion_from_All}
 use Rattle.std.proofs.lemmas.List.{append-nil, append_assoc, map-append}
-use Rattle.memory.specs.Gives.{Gives, IsFailure}
+use Rattle.memory.specs.Gives.{Gives}
 use Rattle.memory.specs.Results.{and_then}
 use Rattle.memory.specs.declared.failure.Failure.{Failure}
 use Rattle.memory.specs.declared.failure.Failure.TheVariants as failures
@@ -20,8 +20,8 @@ use Rattle.stages.proofs.FaultOrder.{fault_total}
 use Rattle.groups.specs.declared.members.Member as code
 use Rattle.groups.specs.declared.groups.Groups.{Groups}
 use Rattle.groups.specs.Members.{Member, arguments, member_on, with_key}
-use Rattle.groups.specs.Groups.{Group, all_in_one, groups_of}
-use Rattle.groups.specs.GroupRow.{GroupRow, group_rows}
+use Rattle.groups.specs.Groups.{all_in_one, groups_of}
+use Rattle.groups.specs.GroupRow.{group_rows}
 use Rattle.groups.specs.Classes.{grouped, put}
 use Rattle.groups.specs.Running.{HaveKeys, RunningGroup, finished_rows, put_all_running, put_running, running_groups}
 use Rattle.groups.specs.Taking.{Takes, TakesOutcome, totals_in}

@@ -1,12 +1,9 @@
-use Rattle.std.proofs.Common.{◌≡◌, ◌++◌, [], ◌∷◌, List, Result, Ok, ap, sym, ◌∙◌, arith}
+use Rattle.std.proofs.Common.{Ok, ap, sym, ◌∙◌, arith}
 use Rattle.std.proofs.lemmas.List.{append-nil, at_drop_all}
 use Rattle.std.proofs.lemmas.Result.{err_from_is_err_and}
 use Rattle.value.specs.Datum.{datum_of}
-use Rattle.value.specs.declared.types.Value.{Value}
-use Rattle.value.specs.declared.faults.Fault.{Fault}
 use Rattle.expr.specs.View.{aggregate_calls_of}
-use Rattle.memory.specs.Results.{first_then}
-use Rattle.stages.proofs.Walks.{next, done_then, done_nothing, put_next, fails_here}
+use Rattle.stages.proofs.Walks.{next, done_then, done_nothing, fails_here}
 use Rattle.groups.specs.Members.{arguments}
 use Rattle.groups.specs.View.{lent_row}
 use Rattle.groups.proofs.Putting.{put_step}

@@ -10,7 +10,7 @@ use Rattle.expr.specs.View.{aggregate_calls_of}
 use Rattle.eval.specs.Meaning.{◌>>=◌}
 use Rattle.tuples.specs.View.{world_of}
 use Rattle.tuples.specs.World.{combination_at}
-use Rattle.report.specs.QueryStages.{arguments_stage, sums_stage, rows_of_group_rows, rows_of_members}
+use Rattle.report.specs.QueryStages.{arguments_stage, sums_stage, rows_of_group_rows}
 use Rattle.report.proofs.grouped.rows_of_groups.Goals as goal
 
 -- one stage after two others
