@@ -4,6 +4,7 @@
 mod arith;
 mod casting;
 mod column;
+mod digits;
 mod faults;
 mod operators;
 mod order;

@@ -7,6 +7,7 @@ ghost use Rattle.memory.specs.Gives.{Gives};
 ghost use Rattle.value.specs.Datum.{datum};
 ghost use Rattle.value.specs.Texts.{is_positive, is_spelled, bigint_at, value_at, ReadAgain, OneSpelling};
 
+use crate::digits::few_spelled;
 use crate::types::{ColType, FaultKind, Value};
 use memory::{Failure, Heap, Text};
 
@@ -38,8 +39,8 @@ fn is_spelled(text: &[u8]) -> bool
     }
 }
 
-/// The bigint that a text spells: `0`, or an optional minus and digits that do not start with 0.
-pub fn read_bigint(text: &str) -> Result<i64, FaultKind>
+// The bigint that a text of any length spells.
+fn any_bigint(text: &str) -> Result<i64, FaultKind>
     ensures { result ≡ bigint_at text.now }
 {
     if is_spelled(text.as_bytes()) {
@@ -51,6 +52,26 @@ pub fn read_bigint(text: &str) -> Result<i64, FaultKind>
         Ok(0)
     } else {
         Err(FaultKind::BadText)
+    }
+}
+
+/// The bigint that a text spells: `0`, or an optional minus and digits that do not start with 0. One of at most 18 bytes is
+/// read in one pass.
+pub fn read_bigint(text: &str) -> Result<i64, FaultKind>
+    ensures { result ≡ bigint_at text.now }
+{
+    if text.len() > 18 {
+        return any_bigint(text);
+    }
+    match few_spelled(text.as_bytes()) {
+        Some(n) => Ok(n),
+        None => {
+            if text == "0" {
+                Ok(0)
+            } else {
+                Err(FaultKind::BadText)
+            }
+        }
     }
 }
 
