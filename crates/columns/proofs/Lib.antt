@@ -1,4 +1,5 @@
 pub mod Both
 pub mod Growth
+pub mod Nulls
 pub mod Runs
 pub mod TextColumns

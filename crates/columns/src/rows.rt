@@ -1,6 +1,6 @@
 //! Rows that are held as columns.
 
-ghost use Rattle.std.specs.Prelude.{◌≡◌, ◌+◌, ◌<◌, ◌≤◌, ◌^◌, ◌++◌, ℕ, [], ◌∷◌, length, map, take, All, IfOk, OnErr, OnOk};
+ghost use Rattle.std.specs.Prelude.{◌≡◌, ◌+◌, ◌<◌, ◌≤◌, ◌^◌, ◌++◌, ℕ, [], ◌∷◌, length, map, get_or, take, All, IfOk, OnErr, OnOk};
 ghost use Rattle.value.specs.Datum.{cell, datum_of, row_at};
 ghost use Rattle.columns.specs.Data.{cells_of, type_of};
 ghost use Rattle.columns.specs.Rows.{FitsTypes};
@@ -97,6 +97,22 @@ impl<A: Heap> Rows<A> {
         ensures { datum_of result ≡ cell (row_at self.now.rows row) column }
     {
         self.columns[column].get(row)
+    }
+
+    /// The number of columns.
+    pub fn width(&self) -> usize
+        ensures { result ≡ length self.now.types }
+    {
+        self.columns.len()
+    }
+
+    /// The values of a column, from 0 on.
+    pub fn data(&self, column: u64) -> &ColumnData<A>
+        requires { column < length self.now.types }
+        ensures cells { cells_of result.now ≡ map (λ row. cell row column) self.now.rows }
+        ensures data_type { type_of result.now ≡ get_or self.now.types column (type_of result.now) }
+    {
+        &self.columns[column as usize]
     }
 
     /// Drops the rows from an index on.
