@@ -1,11 +1,16 @@
 -- Truth values are read back from the masks that show them.
-use Rattle.std.proofs.Common.{◌≡◌, ℕ, zero, suc, ◌+◌, ◌/◌, ◌%◌, ◌<◌, ◌≤◌, ◌⊎◌, inl, inr, Bool, true, false, cond, List, [], ◌∷◌, length, map, get_or, replicate, refl, sym, ap, subst, ◌∙◌, arith}
+use Rattle.std.proofs.Common.{◌≡◌, ℕ, zero, suc, ◌+◌, ◌/◌, ◌%◌, ◌<◌, ◌≤◌, ◌⊎◌, inl, inr, Bool, true, false, cond, ℤ, List, [], ◌∷◌, ◌++◌, length, map, take, drop, get_or, replicate, append-nil, refl, sym, ap, subst, ◌∙◌, arith}
 use Rattle.std.specs.Int.{bit_at}
 use Rattle.std.proofs.lemmas.Bool.{cases_lt}
-use Rattle.std.proofs.lemmas.List.{get_or_past, get_or-map, get_or-replicate, length-map, length-replicate}
+use Rattle.std.proofs.lemmas.List.{get_or_past, get_or-map, get_or-replicate, length-map, length-replicate, take_all}
 use Rattle.std.proofs.lemmas.Nat.Bits.{bit_at-zero}
+use Rattle.std.proofs.Math.ListN.{drop_of_length-le}
 use Rattle.value.specs.Datum.{Datum, null, int, text, bool}
+use Rattle.std.specs.Simd.Lanes.{zip2}
+use Rattle.std.proofs.lemmas.Simd.{length-zip2}
 use Rattle.value.specs.Orders.{is_true, is_unknown}
+use Rattle.value.specs.Truths.{negated}
+use Rattle.masks.specs.Columns.{int_unless, ints_of}
 use Rattle.value.specs.declared.order.Truth.{Truth}
 use Rattle.value.specs.declared.order.Truth.TheVariants.{False, Unknown, True}
 use Rattle.columns.specs.Optional.{is_null}
@@ -44,16 +49,40 @@ module _ (trues nulls : List ℕ) where
   length-truths j zero = refl
   length-truths j (suc n) = ap suc (length-truths (j + 1) n)
 
+-- the words of masks that are read back
+module _ (trues nulls : List ℕ) (n : ℕ) (s : Show (truths_from trues nulls 0 n) trues nulls) where
+  pub true_words : length trues ≡ words_for n
+  true_words = s.true_bits.long ∙ ap words_for (length-map (truths_from trues nulls 0 n) is_true ∙ length-truths trues nulls 0 n)
+
+  pub null_words : length nulls ≡ words_for n
+  null_words = s.null_bits.long ∙ ap words_for (length-map (truths_from trues nulls 0 n) is_unknown ∙ length-truths trues nulls 0 n)
+
+-- the same of masks that are equal to those
+module _ (xs : List Truth) (trues nulls ts ns : List ℕ) (n : ℕ) (et : trues ≡ ts) (en : nulls ≡ ns) (e : n ≡ length xs) (s : Show xs ts ns) where
+  pub same_masks : Show xs trues nulls
+  same_masks = subst (λ (l : List ℕ). Show xs l nulls) (sym et) (subst (λ (l : List ℕ). Show xs ts l) (sym en) s)
+
+  pub held : Show (truths_from trues nulls 0 n) trues nulls
+  held = shown trues nulls xs n e same_masks
+
+  pub read : truths_from trues nulls 0 n ≡ xs
+  read = read_as trues nulls xs n e same_masks
+
+-- a slice that is the whole of a list, written back
+pub written_back : (n : ℕ) (ws items : List ℕ) → length ws ≡ length items → n ≡ length items → take n (ws ++ drop (length ws) items) ≡ ws
+written_back n ws items e d =
+    ap (λ l. take n (ws ++ l)) (drop_of_length-le items (omega arith)) ∙ ap (take n) (append-nil ws) ∙ take_all n ws (omega arith)
+
 -- ---- words with no bit set
 
-zero_at : (n k : ℕ) → get_or (replicate n 0) k 0 ≡ 0
+zero_at : (n k : ℕ) → get_or {A = ℕ} (replicate {A = ℕ} n 0) k 0 ≡ 0
 zero_at n k =
     let case : (k < n) ⊎ (n ≤ k) = cases_lt k n in
-    elim case [ inl lt ↦ get_or-replicate n k 0 0 lt | inr le ↦ get_or_past (replicate n 0) k 0 (omega (arith, length-replicate n 0)) ]
+    elim case [ inl lt ↦ get_or-replicate n k 0 0 lt | inr le ↦ get_or_past (replicate n 0) k 0 (omega (arith, length-replicate {A = ℕ} n 0)) ]
 
 none_set : (bs : List Bool) (ws : List ℕ) (n : ℕ) → ((i : ℕ) → get_or bs i false ≡ false) → n ≡ words_for (length bs) → ws ≡ replicate n 0 → IsMaskOf bs ws
 none_set bs ws n none many e = record {
-  long = ap length e ∙ length-replicate n 0 ∙ many;
+  long = ap length e ∙ length-replicate {A = ℕ} n 0 ∙ many;
   each = λ i. ap (λ l. bit_of l i) e ∙ ap (λ w. bit_at w (i % 64)) (zero_at n (i / 64)) ∙ bit_at-zero (i % 64) ∙ sym (ap (λ b. cond b 1 0) (none i));
 }
 
@@ -72,6 +101,15 @@ false_shown n m trues nulls many et en =
       true_bits = none_set (map is_true (replicate n False)) trues m (λ i. same_all is_true n i refl) (words is_true) et;
       null_bits = none_set (map is_unknown (replicate n False)) nulls m (λ i. same_all is_unknown n i refl) (words is_unknown) en;
     }
+
+pub negated_false : (n : ℕ) → map negated (replicate n False) ≡ replicate n True
+negated_false zero = refl
+negated_false (suc n) = λ p. True ∷ negated_false n p
+
+pub same_of_columns : (xs ys : List ℤ) (bs cs : List Bool) (left right : List Datum) → length bs ≡ length xs → length cs ≡ length ys → ints_of xs bs ≡ left → ints_of ys cs ≡ right
+    → length right ≡ length left → length ys ≡ length xs
+same_of_columns xs ys bs cs left right eb ec el er e =
+    sym (length-zip2 int_unless ys cs (sym ec)) ∙ ap length er ∙ e ∙ sym (ap length el) ∙ length-zip2 int_unless xs bs (sym eb)
 
 -- ---- nulls
 

@@ -13,6 +13,7 @@ use memory::Heap;
 use value::Value;
 
 /// A number on each row: the value of a bigint column, which may be null, or a literal.
+#[derive(Drop)]
 pub(crate) enum Operand<'t, A: Heap> {
     Column(&'t Ints<A>),
     Number(i64),

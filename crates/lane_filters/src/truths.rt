@@ -58,11 +58,9 @@ impl<A: Heap> Truths<A> {
         ensures { IfOk result (λ t. t ≡ replicate len False) }
     {
         let words = words_for(len);
-        Ok(Truths {
-            trues: zeros(alloc, words)?,
-            nulls: zeros(alloc, words)?,
-            len,
-        })
+        let trues = zeros(alloc, words)?;
+        let nulls = zeros(alloc, words)?;
+        Ok(Truths { trues, nulls, len })
     }
 
     /// As many that are all true, or all false.
@@ -131,11 +129,12 @@ impl<A: Heap> Truths<A> {
         ensures { IfOk result (λ t. t ≡ map null_test (cells_of column.now)) }
     {
         let words = column.nulls();
-        let mut is_true = zeros(alloc, words.len())?;
-        is_true.copy_from_slice(words);
+        let mut trues = zeros(alloc, words.len())?;
+        trues.copy_from_slice(words);
+        let nulls = zeros(alloc, words.len())?;
         Ok(Truths {
-            trues: is_true,
-            nulls: zeros(alloc, words.len())?,
+            trues,
+            nulls,
             len: column.len(),
         })
     }
