@@ -28,3 +28,9 @@ invariant-disjunction-loop-left g l = record {
   exact : all_by_lanes l.rows.types (bound_exprs (drop l.left l.members)) ≡ true;
   known : (role : List ℕ) → map (λ row. disjunction (cells_of row) role (bound_exprs (drop l.left l.members))) l.rows.rows ≡ map Ok l.known;
 }
+
+abbrev pub decreases-conjunction-loop-left : goal.decreases-conjunction-loop-left
+decreases-conjunction-loop-left g l = l.left
+
+abbrev pub decreases-disjunction-loop-left : goal.decreases-disjunction-loop-left
+decreases-disjunction-loop-left g l = l.left
