@@ -2,3 +2,4 @@ pub mod Both
 pub mod Growth
 pub mod Runs
 pub mod TextColumns
+pub mod Unchanged
