@@ -1,5 +1,6 @@
 pub mod Both
 pub mod Growth
+pub mod Nulls
 pub mod Runs
 pub mod TextColumns
 pub mod Unchanged

@@ -1,8 +1,9 @@
 //! Columns of truth values (PostgreSQL: Boolean Type).
 
-ghost use Rattle.std.specs.Prelude.{◌≡◌, ◌+◌, ◌<◌, ◌≤◌, ◌^◌, ◌++◌, [], ◌∷◌, length, take, get_or, OnErr, OnOk};
+ghost use Rattle.std.specs.Prelude.{◌≡◌, ◌+◌, ◌<◌, ◌≤◌, ◌^◌, ◌++◌, [], ◌∷◌, length, map, take, get_or, OnErr, OnOk};
+ghost use Rattle.masks.specs.Bits.{IsMaskOf};
 ghost use Rattle.value.specs.Datum.{null};
-ghost use Rattle.columns.specs.Optional.{truth_or_null};
+ghost use Rattle.columns.specs.Optional.{is_null, truth_or_null};
 
 use masks::Mask;
 use memory::Heap;
@@ -82,6 +83,13 @@ impl<A: Heap> Bools<A> {
         } else {
             Some(self.trues.get(i))
         }
+    }
+
+    /// The words of the list that is true at each null.
+    pub fn nulls(&self) -> &[u64]
+        ensures { IsMaskOf (map is_null self.now) result.now }
+    {
+        self.nulls.words()
     }
 
     /// One more truth value at the end, or a null. Where memory is refused, the column stays as it was.

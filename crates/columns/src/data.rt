@@ -1,9 +1,11 @@
 //! Columns of any type (PostgreSQL: Data Types).
 
-ghost use Rattle.std.specs.Prelude.{◌≡◌, ◌+◌, ◌<◌, ◌≤◌, ◌^◌, ◌++◌, [], ◌∷◌, true, length, take, get_or, OnErr, OnOk};
+ghost use Rattle.std.specs.Prelude.{◌≡◌, ◌+◌, ◌<◌, ◌≤◌, ◌^◌, ◌++◌, [], ◌∷◌, true, length, map, take, get_or, OnErr, OnOk};
 ghost use Rattle.value.specs.Columns.{fits_type};
 ghost use Rattle.value.specs.Datum.{datum_of, null, null_or};
+ghost use Rattle.masks.specs.Bits.{IsMaskOf};
 ghost use Rattle.columns.specs.Data.{cells_of, type_of};
+ghost use Rattle.columns.specs.Optional.{is_null};
 
 use crate::bools::Bools;
 use crate::ints::Ints;
@@ -36,6 +38,17 @@ impl<A: Heap> ColumnData<A> {
         }
     }
 
+    /// The number of values.
+    pub fn len(&self) -> usize
+        ensures { result ≡ length (cells_of self.now) }
+    {
+        match self {
+            ColumnData::Ints(ints) => ints.len(),
+            ColumnData::Texts(texts) => texts.len(),
+            ColumnData::Bools(bools) => bools.len(),
+        }
+    }
+
     /// The value at an index, unless it is null.
     pub fn get(&self, i: usize) -> Option<Lent<'_>>
         requires { i < length (cells_of self.now) }
@@ -45,6 +58,17 @@ impl<A: Heap> ColumnData<A> {
             ColumnData::Ints(ints) => Some(Lent::Int(ints.get(i)?)),
             ColumnData::Texts(texts) => Some(Lent::Text(texts.get(i)?)),
             ColumnData::Bools(bools) => Some(Lent::Bool(bools.get(i)?)),
+        }
+    }
+
+    /// The words of the list that is true at each null.
+    pub fn nulls(&self) -> &[u64]
+        ensures { IsMaskOf (map is_null (cells_of self.now)) result.now }
+    {
+        match self {
+            ColumnData::Ints(ints) => ints.nulls(),
+            ColumnData::Texts(texts) => texts.nulls(),
+            ColumnData::Bools(bools) => bools.nulls(),
         }
     }
 

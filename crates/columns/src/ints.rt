@@ -1,10 +1,10 @@
 //! Columns of numbers (PostgreSQL: Numeric Types, `bigint`).
 
-ghost use Rattle.std.specs.Prelude.{◌≡◌, ◌+◌, ◌<◌, ◌≤◌, ◌^◌, ◌++◌, [], ◌∷◌, length, take, get_or, Bool, List, OnErr, OnOk};
+ghost use Rattle.std.specs.Prelude.{◌≡◌, ◌+◌, ◌<◌, ◌≤◌, ◌^◌, ◌++◌, [], ◌∷◌, length, map, take, get_or, Bool, List, OnErr, OnOk};
 ghost use Rattle.masks.specs.Bits.{IsMaskOf};
 ghost use Rattle.masks.specs.Columns.{ints_of};
 ghost use Rattle.value.specs.Datum.{null};
-ghost use Rattle.columns.specs.Optional.{number_or_null};
+ghost use Rattle.columns.specs.Optional.{is_null, number_or_null};
 
 use masks::Mask;
 use memory::Heap;
@@ -90,6 +90,13 @@ impl<A: Heap> Ints<A> {
         ensures { (bits : List Bool) × (length bits ≡ length result.0.now) × IsMaskOf bits result.1.now × (ints_of result.0.now bits ≡ self.now) }
     {
         (self.values.as_slice(), self.nulls.words())
+    }
+
+    /// The words of the list that is true at each null.
+    pub fn nulls(&self) -> &[u64]
+        ensures { IsMaskOf (map is_null self.now) result.now }
+    {
+        self.nulls.words()
     }
 
     /// One more number at the end, or a null. Where memory is refused, the column stays as it was.

@@ -1,9 +1,10 @@
 //! Columns of texts (PostgreSQL: Character Types, `text`).
 
-ghost use Rattle.std.specs.Prelude.{◌≡◌, ◌+◌, ◌<◌, ◌≤◌, ◌^◌, ◌++◌, [], ◌∷◌, length, take, get_or, OnErr, OnOk, IsUtf8, slice_range};
+ghost use Rattle.std.specs.Prelude.{◌≡◌, ◌+◌, ◌<◌, ◌≤◌, ◌^◌, ◌++◌, [], ◌∷◌, length, map, take, get_or, OnErr, OnOk, IsUtf8, slice_range};
+ghost use Rattle.masks.specs.Bits.{IsMaskOf};
 ghost use Rattle.value.specs.Datum.{null, text};
 ghost use Rattle.columns.specs.Ends.{end_before};
-ghost use Rattle.columns.specs.Optional.{text_or_null};
+ghost use Rattle.columns.specs.Optional.{is_null, text_or_null};
 
 use masks::Mask;
 use memory::Heap;
@@ -116,6 +117,13 @@ impl<A: Heap> Texts<A> {
         let start = end_before(self.ends.as_slice(), i);
         let end = self.ends[i];
         Some(text_in(self.bytes.as_slice(), start, end))
+    }
+
+    /// The words of the list that is true at each null.
+    pub fn nulls(&self) -> &[u64]
+        ensures { IsMaskOf (map is_null self.now) result.now }
+    {
+        self.nulls.words()
     }
 
     /// One more text at the end. Where memory is refused, the column stays as it was.

@@ -15,8 +15,8 @@ pub(crate) fn known_to_fit(values: &[i64])
     }
 }
 
-// Tests whether a comparison of two numbers holds.
-pub(crate) fn holds(op: Comparison, left: i64, right: i64) -> bool
+/// True where a comparison of two numbers holds (PostgreSQL: Comparison Functions and Operators).
+pub fn holds(op: Comparison, left: i64, right: i64) -> bool
     ensures { result ≡ holds op left right }
 {
     match op {

@@ -9,6 +9,7 @@ mod literals;
 mod logic;
 mod pairs;
 
+pub use compare::holds;
 pub use literals::cmp_lit;
 pub use logic::{and_masks, not_masks, or_masks};
 pub use pairs::cmp_cols;

@@ -29,7 +29,7 @@ pub push_cell-requires-clause-fits : goal.push_cell-requires-clause-fits
 push_cell-requires-clause-fits g c =
     let cols = map column_of c.args.columns.now in
     let is : get_or c.loop-i.rows.types (length c.loop-i.rows.unfinished) Bigint ≡ c.index-columns-i.result.data_type =
-        (λ i. get_or ((c.loop-i.invariant.types ∙ c.requires.types) i) (c.loop-i.invariant.read.0 i) Bigint) ∙ type_at c.args.columns.now c.loop-i.i c.index-columns-i.result c.loop-i-test.true c.index-columns-i.is in
+    (λ i. get_or ((c.loop-i.invariant.types ∙ c.requires.types) i) (c.loop-i.invariant.read.0 i) Bigint) ∙ type_at c.args.columns.now c.loop-i.i c.index-columns-i.result c.loop-i-test.true c.index-columns-i.is in
     ap (λ (t : ColType). fits_type t (datum_of c.in_ok-value.value)) is ∙ c.in_ok-value.ensures.fits
 
 pub push_cell-requires-clause-room : goal.push_cell-requires-clause-room

@@ -79,4 +79,3 @@ pub returns-then-has_names-clause-header : goal.returns-then-has_names-clause-he
 returns-then-has_names-clause-header g c =
     let gives = rw c.if-branch.true at c.in_ok-next_record.ensures.gives in
     (fields_of c.next_record.new.cells, sym c.has_names.ensures.names ∙ c.if-has_names.true, gives.0)
-

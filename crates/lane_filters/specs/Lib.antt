@@ -1,0 +1,4 @@
+pub mod ByLanes
+pub mod Exchanged
+pub mod Outcomes
+pub mod View
