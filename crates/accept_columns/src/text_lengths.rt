@@ -2,7 +2,6 @@
 
 ghost use Rattle.std.specs.Prelude.{◌<◌, length};
 
-use crate::samples::is_text;
 use columns::Texts;
 use memory::Heap;
 use std::alloc::AllocError;
@@ -12,7 +11,7 @@ use std::test::Fail;
 fn reads<A: Heap>(rt: &impl Abort, column: &Texts<A>, i: usize, want: Option<&str>)
     requires { i < length column.now }
 {
-    assert!(rt; is_text(&column.get(i), want), "text {i}");
+    assert_eq!(rt; column.get(i), want, "text {i}");
 }
 
 // Empty texts and nulls side by side, and again after a truncation.

@@ -1,9 +1,9 @@
 //! A column of one value, and a condition that is never true.
 
-use joins::{Column, Condition, Key};
+use joins::{Column, Condition};
 use memory::Heap;
 use tuples::Combo;
-use value::Val;
+use value::{Lent, Val};
 
 /// A column that is TRUE in each combination.
 #[derive(Drop)]
@@ -19,8 +19,8 @@ impl<A: Heap> Column<A> for AlwaysTrue {
         Val::Bool(true)
     }
 
-    fn key(&self, _combination: &Combo<A>) -> Option<Key<'_>> {
-        Some(Key::Bool(true))
+    fn key(&self, _combination: &Combo<A>) -> Option<Lent<'_>> {
+        Some(Lent::Bool(true))
     }
 }
 

@@ -14,6 +14,10 @@ use value::{ColType, Column, Val};
 pub const DEAL: &str =
     "id,owner,region,parts,open\n1,alice,1,4,t\n2,alice,2,0,f\n3,bob,1,7,t\n4,bob,2,\\N,\\N\n5,alice,\\N,5,f\n";
 
+/// Their lines, without the header.
+pub const DEAL_LINES: &str =
+    "1,alice,1,4,t\n2,alice,2,0,f\n3,bob,1,7,t\n4,bob,2,\\N,\\N\n5,alice,\\N,5,f\n";
+
 /// The same deals, as `shown` writes them.
 pub const DEAL_ROWS: &str =
     "1;'alice';1;4;t;/2;'alice';2;0;f;/3;'bob';1;7;t;/4;'bob';2;null;null;/5;'alice';null;5;f;/";

@@ -1,9 +1,10 @@
 //! Each request for memory refused in turn, where a table is loaded and appended to.
 
 use crate::compared::same;
-use crate::deals::{DEAL, DEAL_ROWS, load, loaded, shows};
+use crate::deals::{DEAL, DEAL_LINES, DEAL_ROWS, load, loaded, shows};
 use memory::{Failure, Heap};
 use metered::Metered;
+use std::alloc::AllocError;
 use std::process::Abort;
 use std::test::Fail;
 use tables::{LoadError, Table};
@@ -69,21 +70,27 @@ fn is_appended<A: Heap>(
 }
 
 // An append whose nth request after the load is refused: it adds no row, or there are fewer requests and it adds them all.
-fn appends_without(rt: &(impl Abort + AllocGlobal), built: u64, n: u64, all: &str) -> bool {
+fn appends_without(
+    rt: &(impl Abort + AllocGlobal),
+    built: u64,
+    n: u64,
+    more: &str,
+    all: &str,
+) -> bool {
     let nth = built.saturating_add(n);
     let heap = Metered::refusing(rt.alloc(), nth);
     let mut table = loaded(rt, &heap, DEAL.as_bytes(), "append", DEAL_ROWS);
-    let done = table.append(DEAL.as_bytes());
+    let done = table.append(more.as_bytes());
     let fewer = heap.requests(nth) < nth;
     is_appended(rt, &table, done, fewer, n, all);
     fewer
 }
 
-fn append_or_refusal_of_memory(rt: &(impl Abort + AllocGlobal), all: &str) {
+fn append_or_refusal_of_memory(rt: &(impl Abort + AllocGlobal), more: &str, all: &str) {
     let built = requests_of_load(rt);
     let mut refused = 0u64;
     for n in 1..1000u64 {
-        if appends_without(rt, built, n, all) {
+        if appends_without(rt, built, n, more, all) {
             break;
         }
         refused = n;
@@ -91,10 +98,27 @@ fn append_or_refusal_of_memory(rt: &(impl Abort + AllocGlobal), all: &str) {
     assert!(rt; refused > 10, "{refused}");
 }
 
+// A text, and another one so many times after it.
+fn repeated<A: Heap>(
+    alloc: A,
+    first: &str,
+    next: &str,
+    times: usize,
+) -> Result<String<A>, AllocError> {
+    let mut text = String::new(alloc);
+    text.push_str(first)?;
+    for _ in 0..times {
+        text.push_str(next)?;
+    }
+    Ok(text)
+}
+
+// The append is of 300 rows, for which each part of each column grows.
 #[test]
 fn refused_memory_of_tables_is_reported(rt: HostRuntime) -> Result<(), Fail> {
     load_or_refusal_of_memory(&rt);
-    let twice = format!(in rt.alloc(); "{DEAL_ROWS}{DEAL_ROWS}")?;
-    append_or_refusal_of_memory(&rt, twice.as_str());
+    let more = repeated(rt.alloc(), DEAL, DEAL_LINES, 59)?;
+    let all = repeated(rt.alloc(), DEAL_ROWS, DEAL_ROWS, 60)?;
+    append_or_refusal_of_memory(&rt, more.as_str(), all.as_str());
     Ok(())
 }

@@ -8,7 +8,7 @@ use std::alloc::Global;
 use std::borrow::CowStr;
 use std::process::Abort;
 use value::{
-    ColType, FaultKind, Truth, Val, Value, add, and3, as_condition, cast, div, eq3, lt3, mul, neg,
+    ColType, FaultKind, Truth, Val, add, and3, as_condition, cast, div, eq3, lt3, mul, neg,
     not3, of_truth, or3, read_bigint, read_value, rem, sub, text_of,
 };
 
@@ -290,24 +290,25 @@ fn booleans() -> &'static [(&'static str, Result<bool, FaultKind>)] {
 }
 
 // The truth value that a text is read as, if it is one, or the fault.
-fn boolean_of(alloc: Global, text: &str) -> Option<Result<bool, FaultKind>> {
-    match read_value(alloc, ColType::Boolean, text) {
-        Ok(Value::Bool(found)) => Some(Ok(found)),
-        Err(Failure::Error(kind)) => Some(Err(kind)),
-        Ok(_) | Err(Failure::OutOfMemory) => None,
+fn boolean_of(text: &str) -> Option<Result<bool, FaultKind>> {
+    let read: Result<Val<'_, Global>, FaultKind> = read_value(ColType::Boolean, text.as_bytes());
+    match read {
+        Ok(Val::Bool(found)) => Some(Ok(found)),
+        Ok(_) => None,
+        Err(kind) => Some(Err(kind)),
     }
 }
 
-fn texts_of_booleans(rt: &(impl Abort + AllocGlobal)) {
+fn texts_of_booleans(rt: &impl Abort) {
     for (text, want) in booleans() {
-        let found = boolean_of(rt.alloc(), text);
+        let found = boolean_of(text);
         same(rt, &found, &Some(*want), "texts_of_booleans", text);
     }
 }
 
 fn texts_of_bigints(rt: &impl Abort) {
     for (text, want) in bigints() {
-        same(rt, &read_bigint(text), want, "texts_of_bigints", text);
+        same(rt, &read_bigint(text.as_bytes()), want, "texts_of_bigints", text);
     }
 }
 
@@ -340,8 +341,8 @@ fn written(rt: &(impl Abort + AllocGlobal), value: &Val<'_, Global>, want: Optio
     }
 }
 
-fn text_value(rt: &(impl Abort + AllocGlobal), text: &str) -> Value<Global> {
-    match read_value(rt.alloc(), ColType::Text, text) {
+fn text_value<'t>(rt: &impl Abort, text: &'t str) -> Val<'t, Global> {
+    match read_value(ColType::Text, text.as_bytes()) {
         Ok(value) => value,
         Err(error) => panic!(rt; "{text}: {error:?}"),
     }
@@ -352,7 +353,7 @@ fn texts_of_values(rt: &(impl Abort + AllocGlobal)) {
         written(rt, &value_of(*sample), *want);
     }
     let text = text_value(rt, "a,\u{e9}");
-    written(rt, &text.as_val(), Some("a,\u{e9}"));
+    written(rt, &text, Some("a,\u{e9}"));
 }
 
 // The number that a value is cast to.
@@ -376,7 +377,7 @@ fn number_there_and_back(rt: &(impl Abort + AllocGlobal)) {
 
 fn casts(rt: &(impl Abort + AllocGlobal)) {
     number_there_and_back(rt);
-    let wrong = cast_number(rt.alloc(), text_value(rt, "012").as_val());
+    let wrong = cast_number(rt.alloc(), text_value(rt, "012"));
     let fault = Failure::Error(FaultKind::BadText);
     same(rt, &wrong, &Some(Err(fault)), "casts", &"012");
     let null = number_of(cast(rt.alloc(), ColType::Text, Val::Null));

@@ -1,14 +1,13 @@
 -- Columns that grow and shrink, and their rows.
-use Rattle.std.proofs.Common.{◌≡◌, ◌≢◌, ℕ, zero, suc, ◌+◌, ◌<◌, ◌≤◌, ◌⊎◌, inl, inr, true, List, [], ◌∷◌, ◌++◌, length, map, take, get_or, set, All, refl, sym, ap, ◌∙◌, arith, length-append, add-one, Result, Ok, Err, OnErr}
-use Rattle.std.specs.Simd.Lanes.{zip2}
-use Rattle.std.proofs.lemmas.List.{get_or_append_left, get_or_push, get_or-map, get_or-take, get_or-set_same, get_or-set_other, get_or_default, map-set, length-map, length-take, length-take-le, same_lists, take_all, take-append-le}
-use Rattle.std.proofs.lemmas.Simd.{length-zip2, get_or-zip2}
+use Rattle.std.proofs.Common.{◌≡◌, ◌≢◌, ℕ, zero, suc, ◌+◌, ◌<◌, ◌≤◌, ◌⊎◌, inl, inr, List, [], ◌∷◌, ◌++◌, length, map, take, get_or, set, All, refl, sym, ap, ◌∙◌, arith, length-append, add-one, below_more}
+use Rattle.std.proofs.lemmas.List.{get_or_append_left, get_or_push, get_or-map, get_or-take, get_or-set_same, get_or-set_other, get_or_default, map-set, length-map, length-set, length-take-le, take_more, take_more_set, map_push, same_lists, take_all}
+use Rattle.std.proofs.Math.Seq.{map-set_same}
 use Rattle.std.proofs.lemmas.Bool.{cases_lt}
 use Rattle.value.specs.Datum.{Datum, null, Row}
-use Rattle.value.specs.Columns.{fits_type}
-use Rattle.value.specs.declared.types.ColType.{ColType}
-use Rattle.columns.specs.Growing.{Grown, FrontsKept}
-use Rattle.columns.specs.Rows.{FitsTypes, row_across, rows_from}
+use Rattle.columns.specs.Held.{HoldRows}
+use Rattle.columns.specs.Rows.{row_across, rows_from, types_of}
+use Rattle.value.specs.Columns.{Column, column_of, columns_of}
+use Rattle.value.specs.declared.column.Column as declared
 
 -- ---- a list in which one item is replaced
 
@@ -19,63 +18,39 @@ module _ {X Y : Type 0} (f : X → Y) (xs : List X) (i : ℕ) (x : X) (d : Y) wh
   pub set_there : (j : ℕ) → j ≢ i → get_or (map f (set xs i x)) j d ≡ get_or (map f xs) j d
   set_there j ne = ap (λ l. get_or l j d) (map-set f xs i x) ∙ get_or-set_other (map f xs) i j (f x) d ne
 
--- ---- a row that fits
-
-pub fits_long : (ts : List ColType) (row : Row) → FitsTypes ts row → length row ≡ length ts
-fits_long [] [] h = refl
-fits_long [] (d ∷ row) h = absurd h
-fits_long (t ∷ ts) [] h = absurd h
-fits_long (t ∷ ts) (d ∷ row) h = ap suc (fits_long ts row h.1)
-
-pub fits_at : (ts : List ColType) (row : Row) → FitsTypes ts row → (i : ℕ) (t : ColType) (d : Datum) → i < length ts → fits_type (get_or ts i t) (get_or row i d) ≡ true
-fits_at [] [] h i t d lt = absurd (omega arith)
-fits_at [] (x ∷ row) h i t d lt = absurd h
-fits_at (y ∷ ts) [] h i t d lt = absurd h
-fits_at (y ∷ ts) (x ∷ row) h zero t d lt = h.0
-fits_at (y ∷ ts) (x ∷ row) h (suc i) t d lt = fits_at ts row h.1 i t d (omega arith)
-
 -- ---- columns
-
-grow : List Datum → Datum → List Datum
-grow cells d = cells ++ d ∷ []
-
--- by what each column has
-pub grown_by : (old new : List (List Datum)) (row : Row) → length row ≡ length old → length new ≡ length old
-    → ((j : ℕ) → j < length old → get_or new j [] ≡ get_or old j [] ++ get_or row j null ∷ []) → Grown old row new
-grown_by old new row e long each =
-    same_lists new (zip2 (λ cells d. cells ++ d ∷ []) old row) (long ∙ sym (length-zip2 (λ cells d. cells ++ d ∷ []) old row (sym e)))
-    (λ k d lt. get_or_default new k d [] lt ∙ each k (omega arith) ∙ sym (get_or-zip2 (λ cells v. cells ++ v ∷ []) old row k [] null d (omega arith) (omega arith)))
 
 pub cut_by : (old new : List (List Datum)) (n : ℕ) → length new ≡ length old → ((j : ℕ) → j < length old → get_or new j [] ≡ take n (get_or old j [])) → new ≡ map (take n) old
 cut_by old new n long each =
     same_lists new (map (take n) old) (long ∙ sym (length-map old (take n)))
     (λ k d lt. get_or_default new k d [] lt ∙ each k (omega arith) ∙ sym (get_or-map (take n) old k [] d (omega arith)))
 
--- the front of a column with one more value
-pub front_of_grown : (cells : List Datum) (d : Datum) → take (length cells) (cells ++ d ∷ []) ≡ cells
-front_of_grown cells d = take-append-le (length cells) cells (d ∷ []) (omega arith) ∙ take_all (length cells) cells (omega arith)
+-- each column has a value for each row, and maybe one more
+pub hold_long : (n s : ℕ) (cols : List (List Datum)) → HoldRows n s cols → (k : ℕ) (d : List Datum) → k < length cols → n ≤ length (get_or cols k d)
+hold_long n s cols h k d lt =
+    let case : (k < s) ⊎ (s ≤ k) = cases_lt k s in
+    let same : get_or cols k d ≡ get_or cols k [] = get_or_default cols k d [] lt in
+    elim case [
+      | inl before ↦ omega (arith, ap length same, h.begun k before)
+      | inr after ↦ omega (arith, ap length same, h.others k after lt)
+    ]
 
-pub front_of_same : (cells : List Datum) → take (length cells) cells ≡ cells
-front_of_same cells = take_all (length cells) cells (omega arith)
+pub none_held : (cols : List (List Datum)) → All (λ cells. length cells ≡ 0) cols → HoldRows 0 0 cols
+none_held cols none = record { within = omega arith; begun = λ k lt. absurd (omega arith); others = λ k le lt. none k [] lt }
 
--- columns whose fronts are kept are cut back to what they were
-pub cut_back : (old new : List (List Datum)) (n : ℕ) → FrontsKept old new → All (λ cells. length cells ≡ n) old → map (take n) new ≡ old
-cut_back old new n kept even =
-    sym (cut_by new old n (sym kept.long) (λ j lt.
-    let long : length (get_or old j []) ≡ n = even j [] (omega (arith, kept.long)) in
-    sym (ap (λ m. take m (get_or new j [])) (sym long) ∙ kept.fronts j)))
+-- columns that were cut
+pub cut_held : (n s m : ℕ) (cols : List (List Datum)) → HoldRows n s cols → m ≤ n → HoldRows m 0 (map (take m) cols)
+cut_held n s m cols h le = record {
+  within = omega arith;
+  begun = λ k lt. absurd (omega arith);
+  others = λ k z lt.
+      let within : k < length cols = omega (arith, length-map cols (take m)) in
+      ap length (get_or-map (take m) cols k [] [] within) ∙ length-take-le m (get_or cols k []) (omega (arith, hold_long n s cols h k [] within));
+}
 
--- the lengths of columns that grew, and that were cut
-pub grown_even : (old : List (List Datum)) (row : Row) (n : ℕ) → length row ≡ length old → All (λ cells. length cells ≡ n) old → All (λ cells. length cells ≡ n + 1) (zip2 (λ cells d. cells ++ d ∷ []) old row)
-grown_even old row n e even k d lt =
-    let f : List Datum → Datum → List Datum = λ cells v. cells ++ v ∷ [] in
-    let within : k < length old = omega (arith, length-zip2 f old row (sym e)) in
-    ap length (get_or-zip2 f old row k [] null d within (omega arith)) ∙ length-append (get_or old k []) (get_or row k null ∷ []) ∙ ap (λ m. m + 1) (even k [] within)
-
-pub cut_even : (old : List (List Datum)) (n m : ℕ) → m ≤ n → All (λ cells. length cells ≡ n) old → All (λ cells. length cells ≡ m) (map (take m) old)
-cut_even old n m le even k d lt =
-    let within : k < length old = omega (arith, length-map old (take m)) in
-    ap length (get_or-map (take m) old k [] d within) ∙ length-take-le m (get_or old k []) (omega (arith, even k [] within))
+-- the row is finished
+pub finished_held : (n s : ℕ) (cols : List (List Datum)) → HoldRows n s cols → s ≡ length cols → HoldRows (n + 1) 0 cols
+finished_held n s cols h all = record { within = omega arith; begun = λ k lt. absurd (omega arith); others = λ k z lt. h.begun k (omega arith) }
 
 -- ---- rows
 
@@ -114,58 +89,71 @@ cut_row (c ∷ cols) m i lt = λ p. get_or-take m c i null lt p ∷ cut_row cols
 pub rows_cut : (cols : List (List Datum)) (n m : ℕ) → m ≤ n → rows_from (map (take m) cols) 0 m ≡ take m (rows_from cols 0 n)
 rows_cut cols n m le = same_rows (map (take m) cols) cols 0 m (λ i lt. cut_row cols m i (omega arith)) ∙ sym (first_rows cols 0 n m le)
 
-tail_even : (c : List Datum) (cols : List (List Datum)) (n : ℕ) → All (λ cells. length cells ≡ n) (c ∷ cols) → All (λ cells. length cells ≡ n) cols
-tail_even c cols n even k d lt = even (suc k) d (omega arith)
-
-old_row : (cols : List (List Datum)) (row : Row) (n i : ℕ) → length row ≡ length cols → All (λ cells. length cells ≡ n) cols → i < n → row_across (zip2 (λ cells d. cells ++ d ∷ []) cols row) i ≡ row_across cols i
-old_row [] row n i e even lt = refl
-old_row (c ∷ cols) [] n i e even lt = absurd (omega arith)
-old_row (c ∷ cols) (d ∷ row) n i e even lt =
-    let long : length c ≡ n = even zero [] (omega arith) in
-    λ p. get_or_append_left c (d ∷ []) null i (omega arith) p ∷ old_row cols row n i (omega arith) (tail_even c cols n even) lt p
-
-new_row : (cols : List (List Datum)) (row : Row) (n : ℕ) → length row ≡ length cols → All (λ cells. length cells ≡ n) cols → row_across (zip2 (λ cells d. cells ++ d ∷ []) cols row) n ≡ row
-new_row [] [] n e even = refl
-new_row [] (d ∷ row) n e even = absurd (omega arith)
-new_row (c ∷ cols) [] n e even = absurd (omega arith)
-new_row (c ∷ cols) (d ∷ row) n e even =
-    λ p. get_or_push c d null n (even zero [] (omega arith)) p ∷ new_row cols row n (omega arith) (tail_even c cols n even) p
-
--- the rows of columns that grew
-pub rows_grown : (cols : List (List Datum)) (row : Row) (n : ℕ) → length row ≡ length cols → All (λ cells. length cells ≡ n) cols
-    → rows_from (zip2 (λ cells d. cells ++ d ∷ []) cols row) 0 (n + 1) ≡ rows_from cols 0 n ++ row ∷ []
-rows_grown cols row n e even =
-    let new = zip2 (λ (cells : List Datum) (d : Datum). cells ++ d ∷ []) cols row in
+-- the unfinished row is finished
+pub rows_finished : (cols : List (List Datum)) (n s : ℕ) → s ≡ length cols → rows_from cols 0 (n + 1) ≡ rows_from cols 0 n ++ take s (row_across cols n) ∷ []
+rows_finished cols n s all =
     let at : 0 + n ≡ n = omega arith in
-    ap (rows_from new 0) (add-one n) ∙ last_row new 0 n ∙ (λ p. same_rows new cols 0 n (λ i lt. old_row cols row n i e even (omega arith)) p ++ (ap (row_across new) at ∙ new_row cols row n e even) p ∷ [])
+    let whole : take s (row_across cols n) ≡ row_across cols n = take_all s (row_across cols n) (omega (arith, length-map cols (λ (cells : List Datum). get_or cells n null))) in
+    ap (rows_from cols 0) (add-one n) ∙ last_row cols 0 n ∙ (λ p. rows_from cols 0 n ++ (ap (row_across cols) at ∙ sym whole) p ∷ [])
+
+-- ---- the next column has one more value
+
+module _ (n s : ℕ) (cols new : List (List Datum)) (d : Datum) (h : HoldRows n s cols) (lt : s < length cols) (is : new ≡ set cols s (get_or cols s [] ++ d ∷ [])) where
+  long : length (get_or cols s []) ≡ n
+  long = h.others s (omega arith) lt
+
+  pub one_held : HoldRows n (s + 1) new
+  one_held =
+      let count : length new ≡ length cols = ap length is ∙ length-set cols s (get_or cols s [] ++ d ∷ []) in
+      let there : (k : ℕ) → k ≢ s → get_or new k [] ≡ get_or cols k [] = λ k ne. ap (λ l. get_or l k []) is ∙ get_or-set_other cols s k (get_or cols s [] ++ d ∷ []) [] ne in
+      let here : get_or new s [] ≡ get_or cols s [] ++ d ∷ [] = ap (λ l. get_or l s []) is ∙ get_or-set_same cols s (get_or cols s [] ++ d ∷ []) [] lt in
+      let longer : length (get_or new s []) ≡ n + 1 = ap length here ∙ length-append (get_or cols s []) (d ∷ []) ∙ ap (λ m. m + 1) long in
+      record {
+        within = omega (arith, count);
+        begun = below_more (λ k. length (get_or new k []) ≡ n + 1) s (λ k before. ap length (there k (λ e. omega (arith, e))) ∙ h.begun k before) longer;
+        others = λ k le below. ap length (there k (λ e. omega (arith, e))) ∙ h.others k (omega arith) (omega (arith, count));
+      }
+
+  -- the rows stay
+  pub rows_kept : rows_from new 0 n ≡ rows_from cols 0 n
+  rows_kept =
+      same_rows new cols 0 n (λ i below.
+      ap (λ l. row_across l i) is
+      ∙ map-set_same (λ (cells : List Datum). get_or cells i null) cols s (get_or cols s [] ++ d ∷ []) [] (get_or_append_left (get_or cols s []) (d ∷ []) null i (omega (arith, long))))
+
+  -- the unfinished row has it
+  pub one_more : take (s + 1) (row_across new n) ≡ take s (row_across cols n) ++ d ∷ []
+  one_more =
+      let at : List Datum → Datum = λ cells. get_or cells n null in
+      let last : at (get_or cols s [] ++ d ∷ []) ≡ d = get_or_push (get_or cols s []) d null n long in
+      ap (λ l. take (s + 1) (row_across l n)) is ∙ ap (take (s + 1)) (map-set at cols s (get_or cols s [] ++ d ∷ []) ∙ ap (λ v. set (map at cols) s v) last)
+      ∙ take_more_set (map at cols) s d (omega (arith, length-map cols at))
+
+pub length-unfinished : (n s : ℕ) (cols : List (List Datum)) → s ≤ length cols → length (take s (row_across cols n)) ≡ s
+length-unfinished n s cols le = length-take-le s (row_across cols n) (omega (arith, length-map cols (λ (cells : List Datum). get_or cells n null)))
 
 -- ---- one step
-
-pub on_err : {T E : Type 0} (r : Result T E) (P : Type 0) → P → OnErr r P
-on_err (Ok x) P p = tt
-on_err (Err e) P p = p
 
 -- an item, as what the list of them has
 pub item_is : {X Y : Type 0} (f : X → Y) (xs : List X) (i : ℕ) (x : X) (d : Y) → i < length xs → x ≡ get_or xs i x → f x ≡ get_or (map f xs) i d
 item_is f xs i x d lt is = ap f is ∙ sym (get_or-map f xs i x d lt)
 
--- the columns before an index have one more value, and those from it on are as they were
-module _ (old new : List (List Datum)) (row : Row) (i : ℕ)
-    (grown : (j : ℕ) → j < i → get_or new j [] ≡ get_or old j [] ++ get_or row j null ∷ []) (left : (j : ℕ) → i ≤ j → get_or new j [] ≡ get_or old j []) where
-  pub kept_fronts : length new ≡ length old → FrontsKept old new
-  kept_fronts e = record {
-    long = e;
-    fronts = λ k.
-        let case : (k < i) ⊎ (i ≤ k) = cases_lt k i in
-        elim case [
-          | inl before ↦ ap (take (length (get_or old k []))) (grown k before) ∙ front_of_grown (get_or old k []) (get_or row k null)
-          | inr after ↦ ap (take (length (get_or old k []))) (left k after) ∙ front_of_same (get_or old k [])
-        ];
-  }
+-- the types of one column more
+pub types_more : {A : Type 0} (columns : List (declared.Column A)) (i : ℕ) (x : declared.Column A) → i < length columns → x ≡ get_or columns i x
+    → types_of (columns_of (take (i + 1) columns)) ≡ types_of (columns_of (take i columns)) ++ x.data_type ∷ []
+types_more columns i x lt is =
+    ap (λ l. types_of (columns_of l)) (take_more columns i x lt) ∙ ap types_of (map_push (λ c. column_of c) (take i columns) (get_or columns i x)) ∙ map_push (λ (c : Column). c.data_type) (columns_of (take i columns)) (column_of (get_or columns i x))
+    ∙ ap (λ (c : declared.Column _). types_of (columns_of (take i columns)) ++ c.data_type ∷ []) (sym is)
 
--- a column whose front is kept is no shorter
-pub front_long : (old new : List (List Datum)) (n : ℕ) → FrontsKept old new → All (λ cells. length cells ≡ n) old → (k : ℕ) (d : List Datum) → k < length new → n ≤ length (get_or new k d)
-front_long old new n kept even k d lt =
-    let long : length (get_or old k []) ≡ n = even k [] (omega (arith, kept.long)) in
-    let same : get_or new k d ≡ get_or new k [] = get_or_default new k d [] lt in
-    omega (arith, long, ap length same, ap length (kept.fronts k), length-take (length (get_or old k [])) (get_or new k []))
+-- a column where no row is unfinished
+pub column_is : (n s : ℕ) (cols : List (List Datum)) → HoldRows n s cols → take s (row_across cols n) ≡ [] → (k : ℕ) → k < length cols → get_or cols k [] ≡ map (λ (row : Row). get_or row k null) (rows_from cols 0 n)
+column_is n s cols h none k lt =
+    let start : s ≡ 0 = sym (length-unfinished n s cols h.within) ∙ ap length none in
+    let long : length (get_or cols k []) ≡ n = h.others k (omega (arith, start)) lt in
+    let at : Row → Datum = λ row. get_or row k null in
+    same_lists (get_or cols k []) (map at (rows_from cols 0 n)) (long ∙ sym (length-map (rows_from cols 0 n) at ∙ length-rows cols 0 n))
+    (λ i d below.
+    let within : i < n = omega (arith, long) in
+    let here : 0 + i ≡ i = omega arith in
+    get_or_default (get_or cols k []) i d null below ∙ sym (get_or-map (λ (cells : List Datum). get_or cells i null) cols k [] null lt)
+    ∙ sym (ap at (row_in cols 0 n i within ∙ ap (row_across cols) here)) ∙ sym (get_or-map at (rows_from cols 0 n) i [] d (omega (arith, length-rows cols 0 n))))

@@ -3,3 +3,4 @@ pub mod Growth
 pub mod Nulls
 pub mod Runs
 pub mod TextColumns
+pub mod Unchanged

@@ -1,6 +1,5 @@
 pub mod Data
 pub mod Ends
-pub mod Growing
 pub mod Held
 pub mod Optional
 pub mod Rows

@@ -2,14 +2,13 @@
 
 ghost use Rattle.std.specs.Prelude.{◌≡◌, ◌+◌, ◌<◌, ◌≤◌, ◌^◌, ◌++◌, [], ◌∷◌, length, map, take, get_or, OnErr, OnOk};
 ghost use Rattle.masks.specs.Bits.{IsMaskOf};
-ghost use Rattle.value.specs.Datum.{datum_of, null};
+ghost use Rattle.value.specs.Datum.{null};
 ghost use Rattle.columns.specs.Optional.{is_null, truth_or_null};
 
 use masks::Mask;
 use memory::Heap;
 use std::alloc::AllocError;
 use std::marker::Model;
-use value::Val;
 
 /// A column of truth values. A contract sees the values.
 #[derive(Drop)]
@@ -74,15 +73,15 @@ impl<A: Heap> Bools<A> {
         self.nulls.len()
     }
 
-    /// The value at an index.
-    pub fn get(&self, i: usize) -> Val<'_, A>
+    /// The truth value at an index, unless it is null.
+    pub fn get(&self, i: usize) -> Option<bool>
         requires { i < length self.now }
-        ensures { datum_of result ≡ get_or self.now i null }
+        ensures { truth_or_null result ≡ get_or self.now i null }
     {
         if self.nulls.get(i) {
-            Val::Null
+            None
         } else {
-            Val::Bool(self.trues.get(i))
+            Some(self.trues.get(i))
         }
     }
 

@@ -2,7 +2,7 @@
 
 ghost use Rattle.std.specs.Prelude.{◌≡◌, ◌+◌, ◌<◌, ◌≤◌, ◌^◌, ◌++◌, [], ◌∷◌, true, length, map, take, get_or, OnErr, OnOk};
 ghost use Rattle.value.specs.Columns.{fits_type};
-ghost use Rattle.value.specs.Datum.{datum_of, null};
+ghost use Rattle.value.specs.Datum.{datum_of, null, null_or};
 ghost use Rattle.masks.specs.Bits.{IsMaskOf};
 ghost use Rattle.columns.specs.Data.{cells_of, type_of};
 ghost use Rattle.columns.specs.Optional.{is_null};
@@ -12,7 +12,7 @@ use crate::ints::Ints;
 use crate::texts::Texts;
 use memory::Heap;
 use std::alloc::AllocError;
-use value::{ColType, Val};
+use value::{ColType, Lent, Val};
 
 /// The values of a column, which are of one type or null.
 #[derive(Drop)]
@@ -49,15 +49,15 @@ impl<A: Heap> ColumnData<A> {
         }
     }
 
-    /// The value at an index.
-    pub fn get(&self, i: usize) -> Val<'_, A>
+    /// The value at an index, unless it is null.
+    pub fn get(&self, i: usize) -> Option<Lent<'_>>
         requires { i < length (cells_of self.now) }
-        ensures { datum_of result ≡ get_or (cells_of self.now) i null }
+        ensures { null_or result ≡ get_or (cells_of self.now) i null }
     {
         match self {
-            ColumnData::Ints(ints) => ints.get(i),
-            ColumnData::Texts(texts) => texts.get(i),
-            ColumnData::Bools(bools) => bools.get(i),
+            ColumnData::Ints(ints) => Some(Lent::Int(ints.get(i)?)),
+            ColumnData::Texts(texts) => Some(Lent::Text(texts.get(i)?)),
+            ColumnData::Bools(bools) => Some(Lent::Bool(bools.get(i)?)),
         }
     }
 

@@ -3,14 +3,13 @@
 ghost use Rattle.std.specs.Prelude.{◌≡◌, ◌+◌, ◌<◌, ◌≤◌, ◌^◌, ◌++◌, [], ◌∷◌, length, map, take, get_or, Bool, List, OnErr, OnOk};
 ghost use Rattle.masks.specs.Bits.{IsMaskOf};
 ghost use Rattle.masks.specs.Columns.{ints_of};
-ghost use Rattle.value.specs.Datum.{datum_of, null};
+ghost use Rattle.value.specs.Datum.{null};
 ghost use Rattle.columns.specs.Optional.{is_null, number_or_null};
 
 use masks::Mask;
 use memory::Heap;
 use std::alloc::AllocError;
 use std::marker::Model;
-use value::Val;
 
 /// A column of numbers. A contract sees the values.
 #[derive(Drop)]
@@ -74,15 +73,15 @@ impl<A: Heap> Ints<A> {
         self.nulls.len()
     }
 
-    /// The value at an index.
-    pub fn get(&self, i: usize) -> Val<'_, A>
+    /// The number at an index, unless it is null.
+    pub fn get(&self, i: usize) -> Option<i64>
         requires { i < length self.now }
-        ensures { datum_of result ≡ get_or self.now i null }
+        ensures { number_or_null result ≡ get_or self.now i null }
     {
         if self.nulls.get(i) {
-            Val::Null
+            None
         } else {
-            Val::Int(self.values[i])
+            Some(self.values[i])
         }
     }
 

@@ -3,7 +3,6 @@
 //! A column grows in place; where memory is refused, it is cut back to what it was.
 #![tactic(auto)]
 
-mod batch;
 mod bools;
 mod data;
 mod ints;

@@ -1,22 +1,26 @@
 //! Rows that are held as columns.
 
-ghost use Rattle.std.specs.Prelude.{◌≡◌, ◌+◌, ◌<◌, ◌≤◌, ◌^◌, ◌++◌, ℕ, [], ◌∷◌, length, map, get_or, take, All, IfOk, OnErr, OnOk};
-ghost use Rattle.value.specs.Datum.{cell, datum_of, row_at};
+ghost use Rattle.std.specs.Prelude.{◌≡◌, ◌+◌, ◌<◌, ◌≤◌, ◌^◌, ◌++◌, [], ◌∷◌, true, length, map, take, get_or, All, IfOk, OnErr, OnOk};
+ghost use Rattle.value.specs.Columns.{columns_of, fits_type};
+ghost use Rattle.value.specs.Datum.{cell, datum_of, null_or, row_at};
+ghost use Rattle.value.specs.declared.types.ColType.TheVariants.{Bigint};
 ghost use Rattle.columns.specs.Data.{cells_of, type_of};
-ghost use Rattle.columns.specs.Rows.{FitsTypes};
-ghost use Rattle.columns.specs.Growing.{Grown, FrontsKept};
+ghost use Rattle.columns.specs.Rows.{types_of};
 
 use crate::data::ColumnData;
 use memory::Heap;
 use std::alloc::AllocError;
 use std::marker::Model;
-use value::{ColType, Val};
+use value::{Column, Lent, Val};
 
-/// Rows that are held as columns. A contract sees the types of the columns, and the rows.
+/// Rows that are held as columns, and a row that is not finished. A contract sees the types of the columns, the rows, and the
+/// values of the unfinished row.
 #[derive(Drop)]
 pub struct Rows<A: Heap> {
     columns: Vec<ColumnData<A>, A>,
     len: usize,
+    // The number of values of the unfinished row.
+    started: usize,
 }
 
 impl<A: Heap> Model for Rows<A> {
@@ -31,33 +35,19 @@ impl<A: Heap> Model for Rows<A> {
     ghost invariant = { AreRows };
 }
 
-// The columns of types, with no values.
-fn empty_columns<A: Heap>(alloc: A, types: &[ColType]) -> Result<Vec<ColumnData<A>, A>, AllocError>
-    ensures types { IfOk result (λ columns. map type_of columns.items ≡ types.now) }
-    ensures cells { IfOk result (λ columns. All (λ cells. length cells ≡ 0) (map cells_of columns.items)) }
+// A column of values for each column, with no values.
+fn empty_columns<A: Heap>(
+    alloc: A,
+    columns: &[Column<A>],
+) -> Result<Vec<ColumnData<A>, A>, AllocError>
+    ensures types { IfOk result (λ d. map type_of d.items ≡ types_of (columns_of columns.now)) }
+    ensures cells { IfOk result (λ d. All (λ cells. length cells ≡ 0) (map cells_of d.items)) }
 {
-    let mut columns = Vec::new(alloc);
-    for data_type in types {
-        columns.push(ColumnData::new(alloc, *data_type))?;
+    let mut made = Vec::new(alloc);
+    for column in columns {
+        made.push(ColumnData::new(alloc, column.data_type))?;
     }
-    Ok(columns)
-}
-
-// Adds its value of a row to each column. Where memory is refused, some of them have one more.
-fn push_values<A: Heap>(
-    columns: &mut Vec<ColumnData<A>, A>,
-    row: &[Val<'_, A>],
-) -> Result<(), AllocError>
-    requires fits { FitsTypes (map type_of columns.old.items) (map datum_of row.now) }
-    requires room { All (λ cells. length cells < 2 ^ 63) (map cells_of columns.old.items) }
-    ensures types { map type_of columns.new.items ≡ map type_of columns.old.items }
-    ensures ok { OnOk result (Grown (map cells_of columns.old.items) (map datum_of row.now) (map cells_of columns.new.items)) }
-    ensures err { OnErr result (FrontsKept (map cells_of columns.old.items) (map cells_of columns.new.items)) }
-{
-    for i in 0..columns.len() {
-        columns[i].push(&row[i])?;
-    }
-    Ok(())
+    Ok(made)
 }
 
 // Drops the values of each column from an index on.
@@ -72,14 +62,16 @@ fn truncate_all<A: Heap>(columns: &mut Vec<ColumnData<A>, A>, len: usize)
 }
 
 impl<A: Heap> Rows<A> {
-    /// No rows of columns of these types.
-    pub fn new(alloc: A, types: &[ColType]) -> Result<Rows<A>, AllocError>
-        ensures types { IfOk result (λ r. r.types ≡ types.now) }
+    /// No rows of these columns.
+    pub fn new(alloc: A, columns: &[Column<A>]) -> Result<Rows<A>, AllocError>
+        ensures types { IfOk result (λ r. r.types ≡ types_of (columns_of columns.now)) }
         ensures rows { IfOk result (λ r. r.rows ≡ []) }
+        ensures unfinished { IfOk result (λ r. r.unfinished ≡ []) }
     {
         Ok(Rows {
-            columns: empty_columns(alloc, types)?,
+            columns: empty_columns(alloc, columns)?,
             len: 0,
+            started: 0,
         })
     }
 
@@ -90,59 +82,62 @@ impl<A: Heap> Rows<A> {
         self.len
     }
 
-    /// The value of a column in a row, both counted from 0.
-    pub fn cell(&self, row: usize, column: usize) -> Val<'_, A>
+    /// The value of a column in a row, both counted from 0, unless it is null.
+    pub fn cell(&self, row: usize, column: usize) -> Option<Lent<'_>>
         requires row { row < length self.now.rows }
         requires column { column < length self.now.types }
-        ensures { datum_of result ≡ cell (row_at self.now.rows row) column }
+        ensures { null_or result ≡ cell (row_at self.now.rows row) column }
     {
         self.columns[column].get(row)
     }
 
-    /// The number of columns.
-    pub fn width(&self) -> usize
-        ensures { result ≡ length self.now.types }
-    {
-        self.columns.len()
-    }
-
-    /// The values of a column, from 0 on.
-    pub fn data(&self, column: u64) -> &ColumnData<A>
-        requires { column < length self.now.types }
+    /// The values of a column, in the order of the rows, where no row is unfinished.
+    pub fn data(&self, column: usize) -> &ColumnData<A>
+        requires column { column < length self.now.types }
+        requires finished { self.now.unfinished ≡ [] }
+        ensures data_type { type_of result.now ≡ get_or self.now.types column Bigint }
         ensures cells { cells_of result.now ≡ map (λ row. cell row column) self.now.rows }
-        ensures data_type { type_of result.now ≡ get_or self.now.types column (type_of result.now) }
     {
-        &self.columns[column as usize]
+        &self.columns[column]
     }
 
-    /// Drops the rows from an index on.
+    /// Drops the rows from an index on, and the unfinished row.
     pub fn truncate(&mut self, len: usize)
         requires { len ≤ length self.old.rows }
         ensures types { self.new.types ≡ self.old.types }
         ensures rows { self.new.rows ≡ take len self.old.rows }
+        ensures unfinished { self.new.unfinished ≡ [] }
     {
         truncate_all(&mut self.columns, len);
         self.len = len;
+        self.started = 0;
     }
 
-    /// One more row at the end, each value of its column's type or null. Where memory is refused, the rows stay as they
-    /// were.
-    pub fn push(&mut self, row: &[Val<'_, A>]) -> Result<(), AllocError>
-        requires fits { FitsTypes self.old.types (map datum_of row.now) }
+    /// The next value of the unfinished row, of its column's type or null. Where memory is refused, all stays as it was.
+    pub fn push_cell(&mut self, value: &Val<'_, A>) -> Result<(), AllocError>
+        requires within { length self.old.unfinished < length self.old.types }
+        requires fits { fits_type (get_or self.old.types (length self.old.unfinished) Bigint) (datum_of value.now) ≡ true }
         requires room { length self.old.rows < 2 ^ 63 }
         ensures types { self.new.types ≡ self.old.types }
-        ensures ok { OnOk result (self.new.rows ≡ self.old.rows ++ map datum_of row.now ∷ []) }
+        ensures rows { self.new.rows ≡ self.old.rows }
+        ensures ok { OnOk result (self.new.unfinished ≡ self.old.unfinished ++ datum_of value.now ∷ []) }
         ensures err { OnErr result (self.new ≡ self.old) }
     {
-        match push_values(&mut self.columns, row) {
-            Ok(()) => {
-                self.len += 1;
-                Ok(())
-            }
-            Err(error) => {
-                truncate_all(&mut self.columns, self.len);
-                Err(error)
-            }
-        }
+        let next = self.started;
+        self.columns[next].push(value)?;
+        self.started = next + 1;
+        Ok(())
+    }
+
+    /// The unfinished row, which has a value for each column, is the last row.
+    pub fn finish_row(&mut self)
+        requires whole { length self.old.unfinished ≡ length self.old.types }
+        requires room { length self.old.rows < 2 ^ 63 }
+        ensures types { self.new.types ≡ self.old.types }
+        ensures rows { self.new.rows ≡ self.old.rows ++ self.old.unfinished ∷ [] }
+        ensures unfinished { self.new.unfinished ≡ [] }
+    {
+        self.len += 1;
+        self.started = 0;
     }
 }

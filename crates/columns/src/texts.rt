@@ -2,17 +2,15 @@
 
 ghost use Rattle.std.specs.Prelude.{◌≡◌, ◌+◌, ◌<◌, ◌≤◌, ◌^◌, ◌++◌, [], ◌∷◌, length, map, take, get_or, OnErr, OnOk, IsUtf8, slice_range};
 ghost use Rattle.masks.specs.Bits.{IsMaskOf};
-ghost use Rattle.value.specs.Datum.{datum_of, null, text};
+ghost use Rattle.value.specs.Datum.{null, text};
 ghost use Rattle.columns.specs.Ends.{end_before};
-ghost use Rattle.columns.specs.Optional.{is_null};
+ghost use Rattle.columns.specs.Optional.{is_null, text_or_null};
 
 use masks::Mask;
 use memory::Heap;
 use std::alloc::AllocError;
-use std::borrow::CowStr;
 use std::marker::Model;
 use std::str;
-use value::Val;
 
 /// A column of texts: the bytes of all, one text after the other, and the offset at which each ends; a null is a text of no
 /// bytes. A contract sees the values.
@@ -108,17 +106,17 @@ impl<A: Heap> Texts<A> {
         self.nulls.len()
     }
 
-    /// The value at an index.
-    pub fn get(&self, i: usize) -> Val<'_, A>
+    /// The text at an index, unless it is null.
+    pub fn get(&self, i: usize) -> Option<&str>
         requires { i < length self.now }
-        ensures { datum_of result ≡ get_or self.now i null }
+        ensures { text_or_null result ≡ get_or self.now i null }
     {
         if self.nulls.get(i) {
-            return Val::Null;
+            return None;
         }
         let start = end_before(self.ends.as_slice(), i);
         let end = self.ends[i];
-        Val::Text(CowStr::Borrowed(text_in(self.bytes.as_slice(), start, end)))
+        Some(text_in(self.bytes.as_slice(), start, end))
     }
 
     /// The words of the list that is true at each null.

@@ -1,5 +1,5 @@
 -- The groups of members that come one after the other.
-use Rattle.std.proofs.Common.{◌≡◌, ◌==◌, true, false, true≢false, arith, length, cond, List, [], ◌∷◌, ◌++◌, map, filter, refl, sym, ap, ap₂, ◌∙◌, Ordering, Less, Equal, Greater, is_eq, Option, Some, None, unwrap_or, Vec}
+use Rattle.std.proofs.Common.{◌≡◌, ◌==◌, Bool, true, false, true≢false, arith, length, cond, List, [], ◌∷◌, ◌++◌, map, filter, ◌<◌, refl, sym, ap, ap₂, subst, ◌∙◌, Ordering, Less, Equal, Greater, is_eq, Option, Some, None, unwrap_or, Vec}
 use Rattle.std.specs.List.{AllByRecursion}
 use Rattle.std.specs.List.Sorted.{IsStrictlySortedBy}
 use Rattle.std.specs.Ordering.{match_ordering}
@@ -7,7 +7,7 @@ use Rattle.std.specs.Map.{keys_of, lookup}
 use Rattle.std.specs.BTreeMap.{is_at, insert_entry}
 use Rattle.std.proofs.lemmas.Bool.{eqb-true}
 use Rattle.std.proofs.lemmas.Cmp.{on_total, tied_itself}
-use Rattle.std.proofs.lemmas.List.{append-nil, append_assoc, map-append}
+use Rattle.std.proofs.lemmas.List.{append-nil, length-map, map-append}
 use Rattle.std.proofs.lemmas.List.Elements.{filter-append}
 use Rattle.std.proofs.lemmas.Map.{lookup-none}
 use Rattle.std.proofs.lemmas.Map.Entries.{none_below_head}
@@ -25,8 +25,8 @@ use Rattle.groups.specs.Members.{Member}
 use Rattle.groups.specs.Groups.{Group, same_key, has_key, group_with, all_in_one, classes, groups_of}
 use Rattle.groups.specs.GroupRow.{group_row, group_rows, with_totals}
 use Rattle.groups.specs.Classes.{grouped, put}
-use Rattle.groups.specs.Running.{RunningGroup, Total, finished_row, finished_rows, fresh, put_all_running, put_running, running, running_group, running_groups, started, with_arguments, with_member}
-use Rattle.groups.specs.View.{key_of, running_in, running_of, totals_of}
+use Rattle.groups.specs.Running.{AreArgumentsInPlace, IsMemberInPlace, RunningGroup, Total, finished_row, finished_rows, fresh, put_running, running, running_group, running_groups, started, totals_for, with_arguments, with_member}
+use Rattle.groups.specs.View.{key_of, running_in, running_of, total_of, totals_of}
 use Rattle.groups.proofs.KeyLaws.{Rise, each_key, each_rises, put_key, each_key_more, none_has_it}
 use Rattle.groups.proofs.RunningTotals.{all_finished_are, fresh_running, running_more, started_already}
 
@@ -68,17 +68,14 @@ put_each m ms (k ∷ ks) up none = go (row_cmp m.key k) refl (put_each m ms ks u
 pub classes_more : (ms : List Member) (m : Member) → classes (ms ++ m ∷ []) ≡ put m (classes ms)
 classes_more ms m = ap (map (group_with (ms ++ m ∷ []))) (each_key_more ms m) ∙ put_each m ms (each_key ms) (each_rises ms) (none_has_it m.key ms)
 
--- members into groups, one after the other
-abbrev pub put_all : List Group → List Member → List Group
-put_all gs [] = gs
-put_all gs (m ∷ ms) = put_all (put m gs) ms
+-- in the one group without GROUP BY
+one_more : (ms : List Member) (m : Member) → m.key ≡ [] → all_in_one (ms ++ m ∷ []) ∷ [] ≡ put m (all_in_one ms ∷ [])
+one_more ms m e =
+    ap (λ l. grouped [] l ∷ []) (map-append (λ (n : Member). n.arguments) ms (m ∷ [])) ∙ ap (λ k. put (record { key = k; arguments = m.arguments }) (all_in_one ms ∷ [])) (sym e)
 
-after_some : (done ms : List Member) → put_all (classes done) ms ≡ classes (done ++ ms)
-after_some done [] = ap classes (sym (append-nil done))
-after_some done (m ∷ ms) = ap (λ gs. put_all gs ms) (sym (classes_more done m)) ∙ after_some (done ++ m ∷ []) ms ∙ ap classes (append_assoc done (m ∷ []) ms)
-
-pub all_put : (ms : List Member) → put_all [] ms ≡ classes ms
-all_put ms = after_some [] ms
+groups_more : (columns : List ColumnId) (ms : List Member) (m : Member) → (columns ≡ [] → m.key ≡ []) → groups_of columns (ms ++ m ∷ []) ≡ put m (groups_of columns ms)
+groups_more [] ms m key = one_more ms m (key refl)
+groups_more (column ∷ columns) ms m key = classes_more ms m
 
 -- ---- the groups with their totals
 
@@ -93,7 +90,7 @@ module _ (calls : List AggregateCall) where
   next_member m g = ap (λ ts. runs g.key ts) (running_more calls g.members m.arguments ∙ ap (λ ts. with_arguments ts m.arguments) (sym (started_already calls g.members)))
 
   -- one more member in groups is one more in their totals
-  pub put_totals : (m : Member) (gs : List Group) → running_groups calls (put m gs) ≡ put_running calls m (running_groups calls gs)
+  put_totals : (m : Member) (gs : List Group) → running_groups calls (put m gs) ≡ put_running calls m (running_groups calls gs)
   put_totals m [] = ap (λ g. g ∷ []) (first_member m)
   put_totals m (g ∷ gs) = go (row_cmp m.key g.key) (put_totals m gs)
     where
@@ -103,10 +100,6 @@ module _ (calls : List AggregateCall) where
       go Less more = ap (λ h. h ∷ running_groups calls (g ∷ gs)) (first_member m)
       go Equal more = ap (λ h. h ∷ running_groups calls gs) (next_member m g)
       go Greater more = ap (λ hs. running_group calls g ∷ hs) more
-
-  pub put_totals_all : (gs : List Group) (ms : List Member) → running_groups calls (put_all gs ms) ≡ put_all_running calls (running_groups calls gs) ms
-  put_totals_all gs [] = refl
-  put_totals_all gs (m ∷ ms) = put_totals_all (put m gs) ms ∙ ap (λ es. put_all_running calls es ms) (put_totals m gs)
 
   -- ---- the totals of a map
 
@@ -136,6 +129,46 @@ module _ (calls : List AggregateCall) where
           go Less h more = ap (λ ts. runs (key_of k) ts ∷ running_in (f ∷ es)) (at_new (e ∙ lookup-none (is_at (key_cmp k)) (f ∷ es) (none_below_head (on_total (λ (l : Key A). key_of l) row_cmp_total) k f es up h)))
           go Equal h more = ap (λ ts. runs (key_of f.0) ts ∷ running_in es) (at_old f.1 (e ∙ ap (λ o. cond (is_eq o) (Some f.1) (lookup (is_at (key_cmp k)) es)) h))
           go Greater h more = ap (λ gs. running_of f ∷ gs) (more (e ∙ ap (λ o. cond (is_eq o) (Some f.1) (lookup (is_at (key_cmp k)) es)) h))
+
+pub totals_more : (columns : List ColumnId) (calls : List AggregateCall) (ms : List Member) (m : Member) → (columns ≡ [] → m.key ≡ []) →
+    put_running calls m (running_groups calls (groups_of columns ms)) ≡ running_groups calls (groups_of columns (ms ++ m ∷ []))
+totals_more columns calls ms m key = sym (put_totals calls m (groups_of columns ms)) ∙ ap (running_groups calls) (sym (groups_more columns ms m key))
+
+-- ---- the totals of a key in a map
+
+module _ {A : Type 0} where
+  -- those that are there, or none
+  abbrev held : Option (Vec (code.Total A) A) → List Total
+  held None = []
+  held (Some totals) = totals_of totals.items
+
+  held_or : (o : Option (Vec (code.Total A) A)) (start : Vec (code.Total A) A) → start.items ≡ [] → totals_of (unwrap_or o start).items ≡ held o
+  held_or None start none = ap (λ l. totals_of l) none
+  held_or (Some totals) start none = refl
+
+  totals_there : (k : Key A) (es : List (Key A × Vec (code.Total A) A)) → totals_for (key_of k) (running_in es) ≡ held (lookup (is_at (λ l. row_cmp (key_of k) (key_of l))) es)
+  totals_there k [] = refl
+  totals_there k (e ∷ es) = go (same_key (key_of k) (key_of e.0)) (totals_there k es)
+    where
+      go : (b : Bool) → totals_for (key_of k) (running_in es) ≡ held (lookup (is_at (λ l. row_cmp (key_of k) (key_of l))) es) →
+          cond b (totals_of e.1.items) (totals_for (key_of k) (running_in es)) ≡ held (cond b (Some e.1) (lookup (is_at (λ l. row_cmp (key_of k) (key_of l))) es))
+      go true more = refl
+      go false more = more
+
+  -- a member in place has a group
+  pub has_group : (k : Key A) (arguments : Row) (es : List (Key A × Vec (code.Total A) A)) → lookup (is_at (λ l. row_cmp (key_of k) (key_of l))) es ≡ None →
+      IsMemberInPlace (record { key = key_of k; arguments = arguments }) (running_in es) → ⊥
+  has_group k arguments es none place =
+      let empty : totals_for (key_of k) (running_in es) ≡ [] = totals_there k es ∙ ap held none in
+      omega (arith, subst (λ ts. 0 < length ts) empty place.0)
+
+  -- its arguments are in place in the totals that are there
+  pub arguments_in_place : (k : Key A) (arguments : Row) (es : List (Key A × Vec (code.Total A) A)) (o : Option (Vec (code.Total A) A)) (start : Vec (code.Total A) A) →
+      o ≡ lookup (is_at (λ l. row_cmp (key_of k) (key_of l))) es → start.items ≡ [] → IsMemberInPlace (record { key = key_of k; arguments = arguments }) (running_in es) →
+      (0 < length (unwrap_or o start).items) × AreArgumentsInPlace (totals_of (unwrap_or o start).items) arguments
+  arguments_in_place k arguments es o start is none place =
+      let there = subst (λ ts. (0 < length ts) × AreArgumentsInPlace ts arguments) (totals_there k es ∙ ap held (sym is) ∙ sym (held_or o start none)) place in
+      (subst (λ n. 0 < n) (length-map (unwrap_or o start).items (λ t. total_of t)) there.0, there.1)
 
 -- ---- the groups of no members
 

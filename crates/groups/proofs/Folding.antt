@@ -1,8 +1,7 @@
 -- The groups of some combinations, and then of the rest.
 use Rattle.std.proofs.Common.{◌≡◌, List, [], ◌∷◌, ◌++◌, map, refl, sym, ap, ap₂, subst, ◌∙◌, Result, Ok, Err, Option, Some, None}
 use Rattle.std.specs.List.{AllByRecursion, cons_option, filter_map}
-use Rattle.std.proofs.lemmas.List.Elements.{recursion_from_All}
-use Rattle.std.proofs.lemmas.List.{append-nil, append_assoc, map-append}
+use Rattle.std.proofs.lemmas.List.{append-nil, append_assoc}
 use Rattle.memory.specs.Gives.{Gives}
 use Rattle.memory.specs.Results.{and_then}
 use Rattle.memory.specs.declared.failure.Failure.{Failure}
@@ -19,49 +18,30 @@ use Rattle.stages.specs.Stages.{Fate, fault_cmp, fault_in, given_in, gives, stag
 use Rattle.stages.proofs.FaultOrder.{fault_total}
 use Rattle.groups.specs.declared.members.Member as code
 use Rattle.groups.specs.declared.groups.Groups.{Groups}
-use Rattle.groups.specs.Members.{Member, arguments, member_on, with_key}
-use Rattle.groups.specs.Groups.{all_in_one, groups_of}
+use Rattle.groups.specs.Members.{Member, arguments, key_on, member_on, with_key}
+use Rattle.groups.specs.Groups.{groups_of}
 use Rattle.groups.specs.GroupRow.{group_rows}
-use Rattle.groups.specs.Classes.{grouped, put}
-use Rattle.groups.specs.Running.{HaveKeys, RunningGroup, finished_rows, put_all_running, put_running, running_groups}
+use Rattle.groups.specs.Running.{RunningGroup, finished_rows, put_running, running_groups}
 use Rattle.groups.specs.Taking.{Takes, TakesOutcome, totals_in}
 use Rattle.groups.specs.View.{member_of}
-use Rattle.groups.proofs.ClassLaws.{all_put, put_all, put_totals_all, rows_finished}
+use Rattle.groups.proofs.ClassLaws.{rows_finished, totals_more}
 
--- ---- members of a query without GROUP BY
+-- ---- the outcomes of combinations
 
-in_one : (done ms : List Member) → AllByRecursion (λ m. m.key ≡ []) ms → put_all (all_in_one done ∷ []) ms ≡ all_in_one (done ++ ms) ∷ []
-in_one done [] all = ap (λ l. all_in_one l ∷ []) (sym (append-nil done))
-in_one done (m ∷ ms) all =
-    ap (λ gs. put_all gs ms) (one m all.0) ∙ in_one (done ++ m ∷ []) ms all.1 ∙ ap (λ l. all_in_one l ∷ []) (append_assoc done (m ∷ []) ms)
-  where
-    one : (m : Member) → m.key ≡ [] → put m (all_in_one done ∷ []) ≡ all_in_one (done ++ m ∷ []) ∷ []
-    one m e = ap (λ k. put (record { key = k; arguments = m.arguments }) (all_in_one done ∷ [])) e ∙ ap (λ l. grouped [] l ∷ []) (sym (map-append (λ (n : Member). n.arguments) done (m ∷ [])))
+module _ {X : Type 0} (cells_of : X → Cells) (role : Name) (columns : List ColumnId) (calls : List AggregateCall) where
+  -- of each its member, or the fault of its arguments
+  abbrev pub outcomes : List X → List (Fate Member)
+  outcomes xs = map (λ x. gives (member_on (cells_of x) role columns calls)) xs
 
-put_in_turn : (columns : List ColumnId) (ms : List Member) → HaveKeys columns ms → put_all (groups_of columns []) ms ≡ groups_of columns ms
-put_in_turn [] ms keys = in_one [] ms (recursion_from_All (λ m. m.key ≡ []) ms (keys refl))
-put_in_turn (column ∷ columns) ms keys = all_put ms
-
--- running totals of members in turn are finished as the rows of their groups
-pub totals_in_turn : (columns : List ColumnId) (calls : List AggregateCall) (ms : List Member) → HaveKeys columns ms → finished_rows calls (put_all_running calls (running_groups calls (groups_of columns [])) ms) ≡ group_rows columns calls ms
-totals_in_turn columns calls ms keys = ap (finished_rows calls) (sym (put_totals_all calls (groups_of columns []) ms) ∙ ap (running_groups calls) (put_in_turn columns ms keys)) ∙ rows_finished columns calls ms
-
-module _ {X : Type 0} (cells_of : X → Cells) (role : Name) (calls : List AggregateCall) where
-  -- the outcomes of the combinations
-  abbrev pub outcomes : List ColumnId → List X → List (Fate Member)
-  outcomes columns xs = map (λ x. gives (member_on (cells_of x) role columns calls)) xs
-
-  keys_empty : (xs : List X) → AllByRecursion (λ m. m.key ≡ []) (filter_map given_in (outcomes [] xs))
-  keys_empty [] = tt
-  keys_empty (x ∷ xs) = go (arguments (cells_of x) role calls) (keys_empty xs)
+  -- without GROUP BY keys are empty
+  keys_fit : (xs : List X) → AllByRecursion (λ m. columns ≡ [] → m.key ≡ []) (filter_map given_in (outcomes xs))
+  keys_fit [] = tt
+  keys_fit (x ∷ xs) = go (arguments (cells_of x) role calls) (keys_fit xs)
     where
-      go : (r : Result Row Fault) → AllByRecursion (λ m. m.key ≡ []) (filter_map given_in (outcomes [] xs)) → AllByRecursion (λ m. m.key ≡ []) (cons_option (given_in (gives (with_key [] r))) (filter_map given_in (outcomes [] xs)))
-      go (Ok args) more = (refl, more)
+      go : (r : Result Row Fault) → AllByRecursion (λ m. columns ≡ [] → m.key ≡ []) (filter_map given_in (outcomes xs)) →
+          AllByRecursion (λ m. columns ≡ [] → m.key ≡ []) (cons_option (given_in (gives (with_key (key_on (cells_of x) columns) r))) (filter_map given_in (outcomes xs)))
+      go (Ok args) more = ((λ none. ap (key_on (cells_of x)) none), more)
       go (Err f) more = more
-
-  put_one_by_one : (columns : List ColumnId) (xs : List X) → put_all (groups_of columns []) (filter_map given_in (outcomes columns xs)) ≡ groups_of columns (filter_map given_in (outcomes columns xs))
-  put_one_by_one [] xs = in_one [] _ (keys_empty xs)
-  put_one_by_one (column ∷ columns) xs = all_put (filter_map given_in (outcomes (column ∷ columns) xs))
 
 -- ---- the groups from a state on, by further outcomes
 
@@ -72,15 +52,6 @@ module _ (calls : List AggregateCall) where
   folding known gs (Ok None ∷ fates) = folding known gs fates
   folding known gs (Err f ∷ fates) = folding (lesser fault_cmp known (Some f)) gs fates
 
-  folds : (known : Option Fault) (gs : List RunningGroup) (fates : List (Fate Member)) →
-      folding known gs fates ≡ unless_fault (lesser fault_cmp known (least fault_cmp (filter_map fault_in fates))) (put_all_running calls gs (filter_map given_in fates))
-  folds known gs [] = ap (λ o. unless_fault o gs) (sym (lesser_none fault_cmp known))
-  folds known gs (Ok (Some m) ∷ fates) = folds known (put_running calls m gs) fates
-  folds known gs (Ok None ∷ fates) = folds known gs fates
-  folds known gs (Err f ∷ fates) =
-      folds (lesser fault_cmp known (Some f)) gs fates
-      ∙ ap (λ o. unless_fault o (put_all_running calls gs (filter_map given_in fates))) (lesser_assoc fault_cmp fault_total known (Some f) (least fault_cmp (filter_map fault_in fates)))
-
   -- the totals of the groups of members, or the fault
   abbrev pub totals_over : List ColumnId → Result (List Member) Fault → Result (List RunningGroup) Fault
   totals_over columns (Ok ms) = Ok (running_groups calls (groups_of columns ms))
@@ -90,14 +61,23 @@ module _ (calls : List AggregateCall) where
   over_unless columns None ms = refl
   over_unless columns (Some f) ms = refl
 
+  -- further outcomes than those of some members
+  folds : (columns : List ColumnId) (known : Option Fault) (ms : List Member) (fates : List (Fate Member)) → AllByRecursion (λ m. columns ≡ [] → m.key ≡ []) (filter_map given_in fates) →
+      folding known (running_groups calls (groups_of columns ms)) fates ≡ totals_over columns (unless_fault (lesser fault_cmp known (least fault_cmp (filter_map fault_in fates))) (ms ++ filter_map given_in fates))
+  folds columns known ms [] keys = over_unless columns known ms ∙ ap₂ (λ o l. totals_over columns (unless_fault o l)) (sym (lesser_none fault_cmp known)) (sym (append-nil ms))
+  folds columns known ms (Ok (Some m) ∷ fates) keys =
+      ap (λ gs. folding known gs fates) (totals_more columns calls ms m keys.0)
+      ∙ folds columns known (ms ++ m ∷ []) fates keys.1
+      ∙ ap (λ l. totals_over columns (unless_fault (lesser fault_cmp known (least fault_cmp (filter_map fault_in fates))) l)) (append_assoc ms (m ∷ []) (filter_map given_in fates))
+  folds columns known ms (Ok None ∷ fates) keys = folds columns known ms fates keys
+  folds columns known ms (Err f ∷ fates) keys =
+      folds columns (lesser fault_cmp known (Some f)) ms fates keys
+      ∙ ap (λ o. totals_over columns (unless_fault o (ms ++ filter_map given_in fates))) (lesser_assoc fault_cmp fault_total known (Some f) (least fault_cmp (filter_map fault_in fates)))
+
   -- from the start they are those of the stage of arguments
   pub fold_start : {X : Type 0} (cells_of : X → Cells) (role : Name) (columns : List ColumnId) (xs : List X) →
-      folding None (running_groups calls (groups_of columns [])) (outcomes cells_of role calls columns xs) ≡ totals_over columns (stage (outcomes cells_of role calls columns xs))
-  fold_start cells_of role columns xs =
-      let fates = outcomes cells_of role calls columns xs in
-      folds None (running_groups calls (groups_of columns [])) fates
-      ∙ ap (unless_fault (least fault_cmp (filter_map fault_in fates))) (sym (put_totals_all calls (groups_of columns []) (filter_map given_in fates)) ∙ ap (running_groups calls) (put_one_by_one cells_of role calls columns xs))
-      ∙ over_unless columns (least fault_cmp (filter_map fault_in fates)) (filter_map given_in fates)
+      folding None (running_groups calls (groups_of columns [])) (outcomes cells_of role columns calls xs) ≡ totals_over columns (stage (outcomes cells_of role columns calls xs))
+  fold_start cells_of role columns xs = folds columns None [] (outcomes cells_of role columns calls xs) (keys_fit cells_of role columns calls xs)
 
   one_taken : {A : Type 0} (due : Result Member Fault) (old new : Groups A) (rest : List (Fate Member)) → Takes calls due old new → folding old.stage.least (totals_in old) (gives due ∷ rest) ≡ folding new.stage.least (totals_in new) rest
   one_taken (Ok m) old new rest takes = ap₂ (λ f gs. folding f gs rest) (sym takes.1) (sym takes.0)

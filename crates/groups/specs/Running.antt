@@ -1,6 +1,6 @@
 -- Running totals: the aggregates of the values so far, and the groups of the members so far.
-use Rattle.std.specs.Prelude.{◌≡◌, ℕ, ◌+◌, ℤ, pos, ◌+ℤ◌, Bool, true, false, List, [], ◌∷◌, map, length, Option, Some, None, Result, Ok}
-use Rattle.std.specs.List.{All}
+use Rattle.std.specs.Prelude.{ℕ, ◌+◌, ◌^◌, ◌<◌, ℤ, pos, ◌+ℤ◌, Bool, true, false, List, [], ◌∷◌, map, length, Option, Some, None, Result, Ok, FitsSigned, ⊤, if◌then◌else◌}
+use Rattle.std.specs.Int.{w128}
 use Rattle.std.specs.Ordering.{match_ordering}
 use Rattle.bags.specs.Least.{lesser, least}
 use Rattle.value.specs.Datum.{Datum, null, Row}
@@ -9,12 +9,11 @@ use Rattle.value.specs.Exact.{in_range}
 use Rattle.value.specs.declared.faults.Fault.{Fault}
 use Rattle.value.specs.declared.operators.Aggregate.{Aggregate}
 use Rattle.value.specs.declared.operators.Aggregate.TheVariants as aggregate
-use Rattle.expr.specs.declared.bound.ColumnId.{ColumnId}
 use Rattle.expr.specs.Aggregates.{AggregateCall}
 use Rattle.stages.specs.Stages.{gives, stage}
 use Rattle.memory.specs.Results.{first_then}
 use Rattle.groups.specs.Members.{Member}
-use Rattle.groups.specs.Groups.{Group}
+use Rattle.groups.specs.Groups.{Group, same_key}
 use Rattle.groups.specs.Aggregates.{exact_sum, not_null, number_at, or_null, towards, values_at}
 use Rattle.groups.specs.GroupRow.{GroupRow, with_totals}
 
@@ -49,6 +48,17 @@ abbrev pub with_argument : Total → Option Datum → Total
 with_argument t None = t
 with_argument t (Some d) = with_value t d
 
+-- one more value takes no memory: of a least or greatest value nothing is promised, since it may be a text, which is copied
+abbrev pub IsInPlace : Total → Datum → Type 0
+IsInPlace (Count n) d = n + 1 < 2 ^ 64
+IsInPlace (Sum z) d = FitsSigned w128 (or_zero z +ℤ number d)
+IsInPlace (Best descends o) d = ⊥
+
+-- nor does a null
+abbrev pub IsArgumentInPlace : Total → Option Datum → Type 0
+IsArgumentInPlace t None = ⊤
+IsArgumentInPlace t (Some d) = IsInPlace t d
+
 -- the value of the aggregate, when all values are in
 abbrev pub finished : ℕ → Total → Result Datum Fault
 finished offset (Count n) = number_at offset (in_range (pos n))
@@ -62,6 +72,12 @@ abbrev pub with_arguments : List Total → Row → List Total
 with_arguments [] ds = []
 with_arguments (t ∷ ts) [] = t ∷ ts
 with_arguments (t ∷ ts) (d ∷ ds) = with_argument t (not_null d) ∷ with_arguments ts ds
+
+-- none of them takes memory
+abbrev pub AreArgumentsInPlace : List Total → Row → Type 0
+AreArgumentsInPlace [] ds = ⊤
+AreArgumentsInPlace (t ∷ ts) [] = ⊤
+AreArgumentsInPlace (t ∷ ts) (d ∷ ds) = IsArgumentInPlace t (not_null d) × AreArgumentsInPlace ts ds
 
 -- of no members
 abbrev pub fresh : List AggregateCall → List Total
@@ -103,14 +119,14 @@ abbrev pub put_running : List AggregateCall → Member → List RunningGroup →
 put_running calls m [] = with_member calls m.key [] m.arguments ∷ []
 put_running calls m (g ∷ gs) = match_ordering (row_cmp m.key g.key) (with_member calls m.key [] m.arguments ∷ g ∷ gs) (with_member calls g.key g.totals m.arguments ∷ gs) (g ∷ put_running calls m gs)
 
--- members into groups, one after the other
-abbrev pub put_all_running : List AggregateCall → List RunningGroup → List Member → List RunningGroup
-put_all_running calls gs [] = gs
-put_all_running calls gs (m ∷ ms) = put_all_running calls (put_running calls m gs) ms
+-- the totals of the group with a key, none where there is no such group
+abbrev pub totals_for : Row → List RunningGroup → List Total
+totals_for key [] = []
+totals_for key (g ∷ gs) = if same_key key g.key then g.totals else totals_for key gs
 
--- without GROUP BY each key is empty
-abbrev pub HaveKeys : List ColumnId → List Member → Type 0
-HaveKeys columns members = columns ≡ [] → All (λ m. m.key ≡ []) members
+-- a member takes no memory: its group has totals, and its arguments are in place
+abbrev pub IsMemberInPlace : Member → List RunningGroup → Type 0
+IsMemberInPlace m gs = (0 < length (totals_for m.key gs)) × AreArgumentsInPlace (totals_for m.key gs) m.arguments
 
 -- the row of a group whose members are all in
 abbrev pub finished_row : List AggregateCall → RunningGroup → Result GroupRow Fault

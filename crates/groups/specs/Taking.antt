@@ -1,5 +1,5 @@
 -- The groups of the combinations so far, with the least fault.
-use Rattle.std.specs.Prelude.{◌≡◌, List, Some, Result, Ok, Err}
+use Rattle.std.specs.Prelude.{◌≡◌, List, Some, Result, Ok, Err, ⊤}
 use Rattle.memory.specs.Results.{and_then}
 use Rattle.memory.specs.declared.failure.Failure.{Failure}
 use Rattle.memory.specs.declared.failure.Failure.TheVariants as failures
@@ -11,7 +11,7 @@ use Rattle.groups.specs.declared.members.Member as code
 use Rattle.groups.specs.declared.groups.Groups.{Groups}
 use Rattle.groups.specs.Members.{Member}
 use Rattle.groups.specs.GroupRow.{GroupRow}
-use Rattle.groups.specs.Running.{RunningGroup, finished_rows, put_running}
+use Rattle.groups.specs.Running.{IsMemberInPlace, RunningGroup, finished_rows, put_running}
 use Rattle.groups.specs.View.{member_of, running_in}
 
 abbrev pub totals_in : {A : Type 0} → Groups A → List RunningGroup
@@ -27,6 +27,12 @@ abbrev pub TakesOutcome : {A : Type 0} → List AggregateCall → Result (code.M
 TakesOutcome calls (Ok m) old new = Takes calls (Ok (member_of m)) old new
 TakesOutcome calls (Err (failures.Error f)) old new = Takes calls (Err f) old new
 TakesOutcome calls (Err failures.OutOfMemory) old new = ⊥
+
+-- it is taken in without memory
+abbrev pub IsTakenInPlace : {A : Type 0} → Result (code.Member A) (Failure Fault) → Groups A → Type 0
+IsTakenInPlace (Ok m) groups = IsMemberInPlace (member_of m) (totals_in groups)
+IsTakenInPlace (Err (failures.Error f)) groups = ⊤
+IsTakenInPlace (Err failures.OutOfMemory) groups = ⊥
 
 -- the rows of the groups whose members are all in, where no argument faulted
 abbrev pub rows_of : {A : Type 0} → List AggregateCall → Groups A → Result (List GroupRow) Fault

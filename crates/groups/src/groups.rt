@@ -1,12 +1,12 @@
 //! The groups of the members so far, and the row of each.
 
-ghost use Rattle.std.specs.Prelude.{◌≡◌, [], ◌∷◌, map, IfOk, None, OnOk};
+ghost use Rattle.std.specs.Prelude.{◌≡◌, [], ◌∷◌, map, IfOk, IsOk, None, OnOk};
 ghost use Rattle.memory.specs.Gives.{Gives};
 ghost use Rattle.expr.specs.View.{aggregate_calls_of};
 ghost use Rattle.stages.specs.Stages.{gives, stage};
 ghost use Rattle.groups.specs.Groups.{all_in_one, groups_of};
-ghost use Rattle.groups.specs.Running.{finished_row, put_running, running_groups};
-ghost use Rattle.groups.specs.Taking.{TakesOutcome, rows_of, totals_in};
+ghost use Rattle.groups.specs.Running.{IsMemberInPlace, finished_row, put_running, running_groups};
+ghost use Rattle.groups.specs.Taking.{IsTakenInPlace, TakesOutcome, rows_of, totals_in};
 ghost use Rattle.groups.specs.View.{group_row_of, key_of, lent_row, member_of, running_in};
 
 use crate::group_row::{GroupRow, row_of_group};
@@ -40,7 +40,8 @@ fn put_arguments<A: Heap>(
     key: Key<A>,
     arguments: &[Val<'_, A>],
 ) -> Result<(), AllocError>
-    ensures { OnOk result (running_in groups.new.entries ≡ put_running (aggregate_calls_of calls.now) (record { key = key_of key; arguments = lent_row arguments.now }) (running_in groups.old.entries)) }
+    ensures added { OnOk result (running_in groups.new.entries ≡ put_running (aggregate_calls_of calls.now) (record { key = key_of key; arguments = lent_row arguments.now }) (running_in groups.old.entries)) }
+    ensures in_place { IsMemberInPlace (record { key = key_of key; arguments = lent_row arguments.now }) (running_in groups.old.entries) → IsOk result }
 {
     let totals = groups.entry(key)?.or_insert(Vec::new(alloc));
     add_arguments(alloc, calls, totals, arguments)?;
@@ -54,7 +55,8 @@ fn put_member<A: Heap>(
     groups: &mut ByKey<A>,
     member: Member<'_, A>,
 ) -> Result<(), AllocError>
-    ensures { OnOk result (running_in groups.new.entries ≡ put_running (aggregate_calls_of calls.now) (member_of member.entry) (running_in groups.old.entries)) }
+    ensures added { OnOk result (running_in groups.new.entries ≡ put_running (aggregate_calls_of calls.now) (member_of member.entry) (running_in groups.old.entries)) }
+    ensures in_place { IsMemberInPlace (member_of member.entry) (running_in groups.old.entries) → IsOk result }
 {
     let key = Key { values: member.key };
     put_arguments(alloc, calls, groups, key, member.arguments.as_slice())
@@ -119,14 +121,17 @@ impl<A: Heap> Groups<A> {
         })
     }
 
-    /// Adds the member of one more combination, or the fault of its arguments. Where memory ran out, it is reported.
+    /// Adds the member of one more combination, or the fault of its arguments. Where memory ran out, it is reported; a fault
+    /// takes none, nor does a member whose group has totals, while counts stay within 64 bits and sums within 128, and there
+    /// is no least or greatest value.
     pub fn add(
         &mut self,
         alloc: A,
         calls: &[AggregateCall<'_, A>],
         outcome: Result<Member<'_, A>, Failure<Fault>>,
     ) -> Result<(), AllocError>
-        ensures { OnOk result (TakesOutcome (aggregate_calls_of calls.now) outcome.entry self.old self.new) }
+        ensures taken { OnOk result (TakesOutcome (aggregate_calls_of calls.now) outcome.entry self.old self.new) }
+        ensures in_place { IsTakenInPlace outcome.entry self.old → IsOk result }
     {
         match outcome {
             Ok(member) => put_member(alloc, calls, &mut self.by_key, member),

@@ -1,13 +1,13 @@
 //! Laws of groups.
 
-ghost use Rattle.std.specs.Prelude.{◌≡◌, List, [], map, IsPermutation};
+ghost use Rattle.std.specs.Prelude.{◌≡◌, List, [], ◌∷◌, ◌++◌, map, IsPermutation};
 ghost use Rattle.std.specs.List.{flat_map, IsDistinct};
 ghost use Rattle.expr.specs.declared.bound.ColumnId as id;
 ghost use Rattle.expr.specs.Aggregates.{AggregateCall};
 ghost use Rattle.groups.specs.Members.{Member};
 ghost use Rattle.groups.specs.Groups.{groups_of, same_key};
 ghost use Rattle.groups.specs.GroupRow.{group_rows};
-ghost use Rattle.groups.specs.Running.{HaveKeys, finished_rows, put_all_running, running_groups};
+ghost use Rattle.groups.specs.Running.{finished_rows, put_running, running_groups};
 ghost use Rattle.groups.specs.ClassValues.{AggregatesOfClasses, CountsEachRow};
 
 /// The order of the members makes no difference to the rows of the groups.
@@ -28,10 +28,12 @@ pub fn law_no_member_lost()
     ensures { (columns : List id.ColumnId) (members : List Member) → IsPermutation (flat_map (λ g. g.members) (groups_of columns members)) (map (λ m. m.arguments) members) }
 {}
 
-/// The running totals of members that come one after the other are finished as the rows of their groups.
-#[tactic(auto, using(crate::proofs::Folding::totals_in_turn))]
+/// One more member, whose key is empty without GROUP BY, put into the running totals of the groups of some members gives
+/// those of the groups of all of them. When all members are in, the totals are finished as the rows of their groups.
+#[tactic(auto, using(crate::proofs::ClassLaws::totals_more, crate::proofs::ClassLaws::rows_finished))]
 pub fn law_running_totals()
-    ensures { (columns : List id.ColumnId) (calls : List AggregateCall) (members : List Member) → HaveKeys columns members → finished_rows calls (put_all_running calls (running_groups calls (groups_of columns [])) members) ≡ group_rows columns calls members }
+    ensures more { (columns : List id.ColumnId) (calls : List AggregateCall) (members : List Member) (m : Member) → (columns ≡ [] → m.key ≡ []) → put_running calls m (running_groups calls (groups_of columns members)) ≡ running_groups calls (groups_of columns (members ++ m ∷ [])) }
+    ensures finished { (columns : List id.ColumnId) (calls : List AggregateCall) (members : List Member) → finished_rows calls (running_groups calls (groups_of columns members)) ≡ group_rows columns calls members }
 {}
 
 /// In the row of a group each aggregate is the aggregate of its argument's values on the rows of the class: those that have

@@ -1,6 +1,7 @@
 //! The running totals of the aggregates of a group.
 
-ghost use Rattle.std.specs.Prelude.{◌≡◌, ◌+◌, ◌+ℤ◌, ◌++◌, [], IfOk, OnOk, Some, option_map, pos, if◌then◌else◌};
+ghost use Rattle.std.specs.Prelude.{◌≡◌, ◌+◌, ◌+ℤ◌, ◌^◌, ◌<◌, ◌≤◌, ◌++◌, [], length, IfOk, IsOk, OnOk, OnErr, Some, option_map, pos, if◌then◌else◌, FitsSigned};
+ghost use Rattle.std.specs.Int.{w128};
 ghost use Rattle.memory.specs.Gives.{Gives};
 ghost use Rattle.bags.specs.Least.{lesser};
 ghost use Rattle.value.specs.Datum.{datum, datum_of, row_of};
@@ -54,7 +55,8 @@ fn start<A: Heap>(aggregate: Aggregate) -> Total<A>
 
 // One more value in a count; out of memory past 64 bits, since so many values are in no memory.
 fn count_more(count: u64) -> Result<u64, AllocError>
-    ensures { IfOk result (λ more. more ≡ count + 1) }
+    ensures more { IfOk result (λ more. more ≡ count + 1) }
+    ensures refused { OnErr result (2 ^ 64 ≤ count + 1) }
 {
     match count.checked_add(1) {
         Some(more) => Ok(more),
@@ -74,7 +76,8 @@ fn number<A: Heap>(value: &Val<'_, A>) -> i64
 
 // One more number in the exact sum: that of up to 2^64 numbers of 64 bits fits in 128.
 fn sum_more(sum: Option<i128>, number: i64) -> Result<i128, AllocError>
-    ensures { IfOk result (λ more. more ≡ running.or_zero sum +ℤ number) }
+    ensures more { IfOk result (λ more. more ≡ running.or_zero sum +ℤ number) }
+    ensures refused { OnErr result (FitsSigned w128 (running.or_zero sum +ℤ number) → ⊥) }
 {
     match sum.unwrap_or(0).checked_add(i128::from(number)) {
         Some(more) => Ok(more),
@@ -102,7 +105,8 @@ fn is_better<A: Heap>(value: &Val<'_, A>, best: Option<&Value<A>>, descends: boo
 impl<A: Heap> Total<A> {
     // Adds a value that is not null.
     fn add_value(&mut self, alloc: A, value: &Val<'_, A>) -> Result<(), AllocError>
-        ensures { OnOk result (total_of self.new ≡ running.with_value (total_of self.old) (datum_of value.now)) }
+        ensures added { OnOk result (total_of self.new ≡ running.with_value (total_of self.old) (datum_of value.now)) }
+        ensures in_place { running.IsInPlace (total_of self.old) (datum_of value.now) → IsOk result }
     {
         match self {
             Total::Count(count) => *count = count_more(*count)?,
@@ -118,7 +122,8 @@ impl<A: Heap> Total<A> {
 
     // Adds an argument, of which a null is no value.
     fn add(&mut self, alloc: A, argument: &Val<'_, A>) -> Result<(), AllocError>
-        ensures { OnOk result (total_of self.new ≡ running.with_argument (total_of self.old) (not_null (datum_of argument.now))) }
+        ensures added { OnOk result (total_of self.new ≡ running.with_argument (total_of self.old) (not_null (datum_of argument.now))) }
+        ensures in_place { running.IsArgumentInPlace (total_of self.old) (not_null (datum_of argument.now)) → IsOk result }
     {
         match argument {
             Val::Null => Ok(()),
@@ -201,7 +206,8 @@ fn add_each<A: Heap>(
     totals: &mut [Total<A>],
     arguments: &[Val<'_, A>],
 ) -> Result<(), AllocError>
-    ensures { OnOk result (totals_of totals.new ≡ running.with_arguments (totals_of totals.old) (lent_row arguments.now)) }
+    ensures added { OnOk result (totals_of totals.new ≡ running.with_arguments (totals_of totals.old) (lent_row arguments.now)) }
+    ensures in_place { running.AreArgumentsInPlace (totals_of totals.old) (lent_row arguments.now) → IsOk result }
 {
     match totals.split_first_mut() {
         None => Ok(()),
@@ -221,7 +227,8 @@ fn start_totals<A: Heap>(
     totals: &mut Vec<Total<A>, A>,
     calls: &[AggregateCall<'_, A>],
 ) -> Result<(), AllocError>
-    ensures { OnOk result (totals_of totals.new.items ≡ running.started (aggregate_calls_of calls.now) (totals_of totals.old.items)) }
+    ensures started { OnOk result (totals_of totals.new.items ≡ running.started (aggregate_calls_of calls.now) (totals_of totals.old.items)) }
+    ensures in_place { 0 < length totals.old.items → IsOk result }
 {
     if totals.is_empty() {
         push_fresh(totals, calls)?;
@@ -236,7 +243,8 @@ pub fn add_arguments<A: Heap>(
     totals: &mut Vec<Total<A>, A>,
     arguments: &[Val<'_, A>],
 ) -> Result<(), AllocError>
-    ensures { OnOk result (totals_of totals.new.items ≡ running.with_arguments (running.started (aggregate_calls_of calls.now) (totals_of totals.old.items)) (lent_row arguments.now)) }
+    ensures added { OnOk result (totals_of totals.new.items ≡ running.with_arguments (running.started (aggregate_calls_of calls.now) (totals_of totals.old.items)) (lent_row arguments.now)) }
+    ensures in_place { 0 < length totals.old.items → running.AreArgumentsInPlace (totals_of totals.old.items) (lent_row arguments.now) → IsOk result }
 {
     start_totals(totals, calls)?;
     add_each(alloc, totals.as_mut_slice(), arguments)?;

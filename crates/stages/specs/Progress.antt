@@ -1,5 +1,5 @@
 -- The steps of a stage in Rust.
-use Rattle.std.specs.Prelude.{◌≡◌, Bool, true, false, [], ◌∷◌, ◌++◌, Option, Some, None, Result, Ok, Err}
+use Rattle.std.specs.Prelude.{◌≡◌, Bool, true, false, [], ◌∷◌, ◌++◌, Option, Some, None, Result, Ok, Err, ⊤}
 use Rattle.memory.specs.declared.failure.Failure.{Failure}
 use Rattle.memory.specs.declared.failure.Failure.TheVariants as failures
 use Rattle.bags.specs.Least.{lesser}
@@ -13,6 +13,13 @@ Adds (Ok (Some y)) old new = (new.given ≡ old.given ++ y ∷ []) × (new.least
 Adds (Ok None) old new = (new.given ≡ old.given) × (new.least ≡ old.least)
 Adds (Err (failures.Error f)) old new = (new.given ≡ old.given) × (new.least ≡ lesser fault_cmp old.least (Some f))
 Adds (Err failures.OutOfMemory) old new = ⊥
+
+-- it is added without memory, unless it gives a value
+abbrev pub IsAddedInPlace : {Y : Type 0} → Result (Option Y) (Failure Fault) → Type 0
+IsAddedInPlace (Ok (Some y)) = ⊥
+IsAddedInPlace (Ok None) = ⊤
+IsAddedInPlace (Err (failures.Error f)) = ⊤
+IsAddedInPlace (Err failures.OutOfMemory) = ⊥
 
 abbrev pub given : {Y : Type 0} → Result Y (Failure Fault) → Result (Option Y) (Failure Fault)
 given (Ok y) = Ok (Some y)

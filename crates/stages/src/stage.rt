@@ -1,9 +1,9 @@
 //! A stage of a query.
 
-ghost use Rattle.std.specs.Prelude.{◌≡◌, [], None, OnOk};
+ghost use Rattle.std.specs.Prelude.{◌≡◌, [], None, IsOk, OnOk};
 ghost use Rattle.memory.specs.Gives.{Gives};
 ghost use Rattle.stages.specs.Stages.{unless_fault};
-ghost use Rattle.stages.specs.Progress.{Adds, given, given_if};
+ghost use Rattle.stages.specs.Progress.{Adds, IsAddedInPlace, given, given_if};
 
 use crate::faults::lesser;
 use memory::{Failure, Heap, Items};
@@ -55,9 +55,10 @@ impl<Y: Drop, A: Heap> Stage<Y, A> {
         }
     }
 
-    /// Adds the outcome of one more: a value, nothing or a fault. Where memory ran out, it is reported.
+    /// Adds the outcome of one more: a value, nothing or a fault. Where memory ran out, it is reported; only a value takes any.
     pub fn add(&mut self, outcome: Result<Option<Y>, Failure<Fault>>) -> Result<(), AllocError>
-        ensures { OnOk result (Adds outcome self.old self.new) }
+        ensures added { OnOk result (Adds outcome self.old self.new) }
+        ensures in_place { IsAddedInPlace outcome → IsOk result }
     {
         match outcome {
             Ok(Some(value)) => {

@@ -16,7 +16,7 @@ use std::alloc::AllocError;
 use std::collections::HashSet;
 use std::hash::{BuildHasherDefault, FoldHasher};
 use tables::Table;
-use value::Value;
+use value::Lent;
 
 // Values by their type.
 #[derive(Drop)]
@@ -43,10 +43,10 @@ fn values_in<'t, A: Heap>(
     let mut truths = Vec::new(alloc);
     for row in 0..table.rows() {
         match table.value(row, column) {
-            Value::Null => {}
-            Value::Int(number) => numbers.push(*number)?,
-            Value::Text(text) => texts.push(text.as_str())?,
-            Value::Bool(truth) => truths.push(*truth)?,
+            None => {}
+            Some(Lent::Int(number)) => numbers.push(number)?,
+            Some(Lent::Text(text)) => texts.push(text)?,
+            Some(Lent::Bool(truth)) => truths.push(truth)?,
         }
     }
     Ok(Values {

@@ -52,7 +52,7 @@ pub(crate) fn new_table<A: Heap>(
 {
     let columns = copy_columns(alloc, columns)?;
     let name = Text::new(alloc, name)?;
-    let contents = Table::new(alloc, columns);
+    let contents = Table::new(alloc, columns)?;
     let statistics = Stats::of(alloc, &contents)?;
     Ok(Stored {
         name,

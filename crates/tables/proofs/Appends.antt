@@ -1,19 +1,19 @@
 -- Rows after those that a table has.
-use Rattle.std.proofs.Common.{ℕ, ◌≡◌, ◌-◌, ◌<◌, ◌≤◌, ◌^◌, List, [], ◌++◌, length, map, Option, Some, None, Result, Ok, Err, IfSome, OnErr, OnOk, All, refl, sym, ap, ◌∙◌, arith, Vec}
+use Rattle.std.proofs.Common.{ℕ, ◌≡◌, ◌-◌, ◌<◌, ◌≤◌, ◌^◌, List, [], ◌++◌, length, map, Option, Some, None, Result, Ok, Err, IfSome, OnErr, OnOk, All, refl, sym, ap, ◌∙◌, arith, take, ◌+◌}
 use Rattle.std.specs.Prelude.{IsErrAnd}
-use Rattle.std.proofs.lemmas.List.{length-append, length-map, map-append}
+use Rattle.std.proofs.lemmas.List.{length-append, length-map}
 use Rattle.std.proofs.lemmas.List.Elements.{All-append}
+use Rattle.std.proofs.Math.Seq.{take-append_seam}
 use Rattle.csv_records.specs.Left.{Left}
 use Rattle.memory.specs.declared.failure.Failure.{Failure}
 use Rattle.memory.specs.declared.failure.Failure.TheVariants.{OutOfMemory}
 use Rattle.memory.specs.Gives.{Gives, IsFailure}
-use Rattle.value.specs.declared.types.Value.{Value}
 use Rattle.value.specs.declared.column.Column as declared
 use Rattle.value.specs.Columns.{Column, column_of}
-use Rattle.value.specs.Datum.{Row, row_of}
+use Rattle.value.specs.Datum.{Row}
 use Rattle.tables.specs.declared.LoadError.{LoadError}
 use Rattle.tables.specs.declared.TheConstants.{MAX_ROWS}
-use Rattle.tables.specs.Loading.{Fields, StopsAfterGood, TableRows, appended, load_of, rows_data}
+use Rattle.tables.specs.Loading.{Fields, StopsAfterGood, TableRows, appended, load_of}
 use Rattle.tables.specs.Reading.{LoadFollows}
 use Rattle.tables.proofs.Cells.{exit_gives}
 use Rattle.tables.proofs.Follow.{fault_of_known, fault_of_some, rows_of_known, rows_of_some, same_load, stops_of_known}
@@ -23,33 +23,29 @@ use Rattle.tables.proofs.Follow.{fault_of_known, fault_of_some, rows_of_known, r
 pub columns_are : {A : Type 0} (read columns : List (declared.Column A)) (rows : List Row) (t : TableRows) → read ≡ columns → record { columns = map column_of columns; rows = rows } ≡ t → map column_of read ≡ t.columns
 columns_are read columns rows t same is = ap (map column_of) same ∙ ap (λ (v : TableRows). v.columns) is
 
-pub rows_are : {A : Type 0} (cols : List Column) (items : List (List (Value A))) (t : TableRows) → record { columns = cols; rows = rows_data items } ≡ t → rows_data items ≡ t.rows
-rows_are cols items t is = ap (λ (v : TableRows). v.rows) is
+pub count_is : (cols : List Column) (n : ℕ) (rows : List Row) (t : TableRows) → n ≡ length rows → record { columns = cols; rows = rows } ≡ t → n ≡ length t.rows
+count_is cols n rows t count is = count ∙ ap (λ (v : TableRows). length v.rows) is
 
-pub count_is : {A : Type 0} (cols : List Column) (n : ℕ) (items : List (List (Value A))) (t : TableRows) → n ≡ length items → record { columns = cols; rows = rows_data items } ≡ t → n ≡ length t.rows
-count_is cols n items t count is = count ∙ sym (length-map items (λ r. row_of r)) ∙ ap (λ (v : TableRows). length v.rows) is
-
-pub room_fits : (n : ℕ) → MAX_ROWS - n < 2 ^ 64 - 1
-room_fits n = omega arith
-
-pub count_within : (n m k : ℕ) → n ≡ m → m ≤ k → n ≤ k
-count_within n m k same within = omega arith
+pub room_fits : (n m : ℕ) → n ≡ m → m ≤ MAX_ROWS → m + (MAX_ROWS - n) < 2 ^ 63
+room_fits n m same few = omega arith
 
 -- ---- the table after
 
-pub same_table : {A : Type 0} (cols : List Column) (items new : List (List (Value A))) (t : TableRows) → new ≡ items → record { columns = cols; rows = rows_data items } ≡ t → record { columns = cols; rows = rows_data new } ≡ t
-same_table cols items new t same is = ap (λ (xs : List (List (Value _))). let v : TableRows = record { columns = cols; rows = rows_data xs } in v) same ∙ is
+-- the rows that were there are those before their number
+pub kept_front : (n : ℕ) (old new rows : List Row) → n ≡ length old → new ≡ old ++ rows → take n new ≡ old
+kept_front n old new rows count all = (λ i. take (count i) (all i)) ∙ take-append_seam old rows
 
-pub still_held : {A : Type 0} (wide : ℕ) (items new : List (List (Value A))) → new ≡ items → All (λ r. length r ≡ wide) items → length items ≤ MAX_ROWS → All (λ r. length r ≡ wide) new × (length new ≤ MAX_ROWS)
-still_held wide items new same all few = rw same (all, few)
+pub same_table : (cols : List Column) (items new : List Row) (t : TableRows) → new ≡ items → record { columns = cols; rows = items } ≡ t → record { columns = cols; rows = new } ≡ t
+same_table cols items new t same is = ap (λ (xs : List Row). let v : TableRows = record { columns = cols; rows = xs } in v) same ∙ is
 
-pub more_held : {A : Type 0} (read columns : List (declared.Column A)) (n : ℕ) (items rows new : List (List (Value A))) → read ≡ columns → n ≡ length items → new ≡ items ++ rows
-    → All (λ r. length r ≡ length columns) items → length items ≤ MAX_ROWS → All (λ r. length r ≡ length read) rows → length rows ≤ MAX_ROWS - n
-    → All (λ r. length r ≡ length columns) new × (length new ≤ MAX_ROWS)
-more_held read columns n items rows new same count grown all few more room =
-    let wide : All (λ r. length r ≡ length columns) rows = rw same at more in
-    let fits : length (items ++ rows) ≤ MAX_ROWS = rw length-append (omega (arith, few, room, count)) in
-    rw grown (All-append (λ r. length r ≡ length columns) items rows all wide, fits)
+pub more_wide : {A : Type 0} (read columns : List (declared.Column A)) (items rows new : List Row) → read ≡ columns → new ≡ items ++ rows → All (λ r. length r ≡ length columns) items → All (λ r. length r ≡ length (map column_of read)) rows
+    → All (λ r. length r ≡ length columns) new
+more_wide read columns items rows new same grown all more =
+    let wide : All (λ r. length r ≡ length columns) rows = rw (length-map, same) at more in
+    rw grown (All-append (λ r. length r ≡ length columns) items rows all wide)
+
+pub more_few : (n : ℕ) (items rows new : List Row) → n ≡ length items → new ≡ items ++ rows → length items ≤ MAX_ROWS → length rows ≤ MAX_ROWS - n → length new ≤ MAX_ROWS
+more_few n items rows new count grown few room = omega (arith, ap length grown, length-append items rows, count)
 
 -- ---- no rows came
 
@@ -67,14 +63,14 @@ exit_stops cols room None e r is stops = tt
 exit_stops cols room (Some recs) e (Ok x) is stops = tt
 exit_stops cols room (Some recs) e (Err y) is stops = λ row same pos. stops row (sym is ∙ same) pos
 
-module _ (A : Type 0) (cols cols' : List Column) (n : ℕ) (old : List Row) (known : Option (List Fields)) (left : Left) (at : cols ≡ cols') (count : n ≡ length old) where
+module _ (cols cols' : List Column) (n : ℕ) (old : List Row) (known : Option (List Fields)) (left : Left) (at : cols ≡ cols') (count : n ≡ length old) where
   -- the error is theirs
-  module _ (e : Failure LoadError) (r : Result (Unit {0}) (Failure LoadError)) (is : IsErrAnd r (λ y. y ≡ e)) (follows : LoadFollows {A = A} cols (MAX_ROWS - n) known left (Err e)) where
-    same_fault : LoadFollows {A = A} cols' (MAX_ROWS - length old) known left (Err e)
-    same_fault = same_load {A = A} cols cols' (MAX_ROWS - n) (MAX_ROWS - length old) known left (Err e) at (ap (λ (m : ℕ). MAX_ROWS - m) count) follows
+  module _ (e : Failure LoadError) (r : Result (Unit {0}) (Failure LoadError)) (is : IsErrAnd r (λ y. y ≡ e)) (follows : LoadFollows cols (MAX_ROWS - n) known left (Err e)) where
+    same_fault : LoadFollows cols' (MAX_ROWS - length old) known left (Err e)
+    same_fault = same_load cols cols' (MAX_ROWS - n) (MAX_ROWS - length old) known left (Err e) at (ap (λ (m : ℕ). MAX_ROWS - m) count) follows
 
     pub refused_known : (new : List Row) → left.failure ≡ None → IfSome known (λ recs. Gives {X = Unit {0}} (λ _. new) r (appended old (load_of cols' (MAX_ROWS - length old) recs)))
-    refused_known new none = by_known known (fault_of_known A cols' (MAX_ROWS - length old) known left e old new same_fault none) where
+    refused_known new none = by_known known (fault_of_known cols' (MAX_ROWS - length old) known left e old new same_fault none) where
       by_known : (k : Option (List Fields)) → IfSome k (λ recs. IsFailure e (appended old (load_of cols' (MAX_ROWS - length old) recs))) → IfSome k (λ recs. Gives {X = Unit {0}} (λ _. new) r (appended old (load_of cols' (MAX_ROWS - length old) recs)))
       by_known None h = tt
       by_known (Some recs) h = exit_gives (λ _. new) r e (appended old (load_of cols' (MAX_ROWS - length old) recs)) is h
@@ -82,25 +78,22 @@ module _ (A : Type 0) (cols cols' : List Column) (n : ℕ) (old : List Row) (kno
     pub refused_some : (new : List Row) (given : ℕ) → left.failure ≡ None
         → (recs : List Fields) × Gives {X = Unit {0}} (λ _. new) r (appended old (load_of cols' (MAX_ROWS - length old) recs)) × OnOk r (length recs ≡ given)
     refused_some new given none =
-        let s = fault_of_some A cols' (MAX_ROWS - length old) known left e old new same_fault none in
+        let s = fault_of_some cols' (MAX_ROWS - length old) known left e old new same_fault none in
         (s.0, exit_gives (λ _. new) r e (appended old (load_of cols' (MAX_ROWS - length old) s.0)) is s.1, no_value _ r e is)
 
     pub refused_stops : IfSome known (λ recs. StopsAfterGood cols' (MAX_ROWS - length old) recs r)
-    refused_stops = exit_stops cols' (MAX_ROWS - length old) known e r is (stops_of_known A cols' (MAX_ROWS - length old) known left e same_fault)
+    refused_stops = exit_stops cols' (MAX_ROWS - length old) known e r is (stops_of_known cols' (MAX_ROWS - length old) known left e same_fault)
 
   -- the rows are theirs
-  module _ (rows : Vec (List (Value A)) A) (items new : List (List (Value A))) (was : rows_data items ≡ old) (grown : new ≡ items ++ rows.items) (follows : LoadFollows cols (MAX_ROWS - n) known left (Ok rows)) where
+  module _ (rows new : List Row) (grown : new ≡ old ++ rows) (follows : LoadFollows cols (MAX_ROWS - n) known left (Ok rows)) where
     same_rows : LoadFollows cols' (MAX_ROWS - length old) known left (Ok rows)
-    same_rows = same_load {A = A} cols cols' (MAX_ROWS - n) (MAX_ROWS - length old) known left (Ok rows) at (ap (λ (m : ℕ). MAX_ROWS - m) count) follows
+    same_rows = same_load cols cols' (MAX_ROWS - n) (MAX_ROWS - length old) known left (Ok rows) at (ap (λ (m : ℕ). MAX_ROWS - m) count) follows
 
-    all_rows : rows_data new ≡ old ++ rows_data rows.items
-    all_rows = ap rows_data grown ∙ map-append (λ r. row_of r) items rows.items ∙ ap (λ (d : List Row). d ++ rows_data rows.items) was
+    pub loaded_known : IfSome known (λ recs. Gives {X = Unit {0}} (λ _. new) (Ok tt) (appended old (load_of cols' (MAX_ROWS - length old) recs)))
+    loaded_known = rows_of_known cols' (MAX_ROWS - length old) known left rows old new same_rows grown
 
-    pub loaded_known : IfSome known (λ recs. Gives {X = Unit {0}} (λ _. rows_data new) (Ok tt) (appended old (load_of cols' (MAX_ROWS - length old) recs)))
-    loaded_known = rows_of_known cols' (MAX_ROWS - length old) known left rows old (rows_data new) same_rows all_rows
-
-    pub loaded_some : (recs : List Fields) × Gives {X = Unit {0}} (λ _. rows_data new) (Ok tt) (appended old (load_of cols' (MAX_ROWS - length old) recs)) × (length recs ≡ left.given)
-    loaded_some = rows_of_some cols' (MAX_ROWS - length old) known left rows old (rows_data new) same_rows all_rows
+    pub loaded_some : (recs : List Fields) × Gives {X = Unit {0}} (λ _. new) (Ok tt) (appended old (load_of cols' (MAX_ROWS - length old) recs)) × (length recs ≡ left.given)
+    loaded_some = rows_of_some cols' (MAX_ROWS - length old) known left rows old new same_rows grown
 
 -- ---- memory ran out
 

@@ -1,27 +1,40 @@
 -- The cells of a row, one after another.
-use Rattle.std.proofs.Common.{ℕ, zero, suc, ◌≡◌, ◌≢◌, ◌+◌, ◌<◌, ◌≤◌, List, [], ◌∷◌, ◌++◌, length, map, drop, get_or, Some, None, Result, Ok, Err, IfErr, refl, sym, ap, ◌∙◌, arith, add-one, true, false}
+use Rattle.std.proofs.Common.{ℕ, ℤ, Bool, cond, zero, suc, ◌≡◌, ◌≢◌, ◌+◌, ◌<◌, ◌≤◌, List, [], ◌∷◌, ◌++◌, length, map, drop, get_or, Some, None, Result, Ok, Err, IfErr, refl, sym, ap, ◌∙◌, arith, add-one, true, false, if◌then◌else◌}
 use Rattle.std.specs.Str.{bytes_eq, is_utf8}
-use Rattle.std.proofs.lemmas.List.{append_assoc, append-nil, drop_all, length-append, length-map, map-append}
+use Rattle.std.proofs.lemmas.List.{append_assoc, append-nil, drop_all, get_or-map, length-append, length-map}
 use Rattle.std.specs.Prelude.{IsErrAnd}
 use Rattle.csv.specs.Records.{field_at}
-use Rattle.value.specs.Datum.{Datum, datum, row_of}
-use Rattle.value.specs.declared.types.Value.{Value}
-use Rattle.value.specs.Texts.{null_mark, value_at}
+use Rattle.value.specs.Datum.{Datum, Row, int, text, bool}
+use Rattle.value.specs.declared.types.ColType.{ColType}
+use Rattle.value.specs.declared.types.ColType.TheVariants as types
+use Rattle.value.specs.declared.types.FaultKind.{FaultKind}
+use Rattle.value.specs.declared.types.FaultKind.TheVariants.{BadText}
+use Rattle.value.specs.Exact.{as_number}
+use Rattle.value.specs.Texts.{bigint_at, null_mark, value_at, value_in}
+use Rattle.columns.specs.Rows.{types_of}
 use Rattle.memory.specs.declared.failure.Failure.{Failure}
 use Rattle.memory.specs.declared.failure.Failure.TheVariants.{Error, OutOfMemory}
 use Rattle.memory.specs.Gives.{Gives, IsFailure}
 use Rattle.tables.specs.declared.LoadError.{LoadError}
 use Rattle.tables.specs.declared.LoadError.TheVariants as error
 use Rattle.value.specs.declared.column.Column as declared
-use Rattle.tables.specs.Loading.{Fields, cell_of, cells_of}
+use Rattle.tables.specs.Loading.{Fields, cell_of, cells_of, placed}
 use Rattle.memory.specs.Results.{first_then}
-use Rattle.value.specs.Columns.{Column, column_of}
-use Rattle.tables.specs.Reading.{AddsRow}
+use Rattle.value.specs.Columns.{Column, column_of, fits_type}
 use Rattle.tables.proofs.Records.{after, after-nil}
 
--- the value that a cell's text spells
-pub cell_of-spelled : (c : Column) (row column : ℕ) (f : List ℕ) (d : Datum) → bytes_eq f null_mark ≡ false → is_utf8 f ≡ true → value_at c.data_type f ≡ Ok d → cell_of c row column f ≡ Ok d
-cell_of-spelled c row column f d other utf8 spelled = rw (other, utf8, spelled) refl
+-- the value that a cell's bytes spell, or none
+pub cell_of-spelled : (c : Column) (row column : ℕ) (f : List ℕ) (d : Datum) → bytes_eq f null_mark ≡ false → value_in c.data_type f ≡ Ok d → cell_of c row column f ≡ Ok d
+cell_of-spelled c row column f d other spelled = rw other (by (is_utf8 f) spelled) where
+  by : (b : Bool) → cond b (value_at c.data_type f) (Err BadText) ≡ Ok d → cond b (placed row column (value_at c.data_type f)) (Err (error.Cell row column)) ≡ Ok d
+  by true e = ap (placed row column) e
+  by false e = cc e
+
+pub cell_of-refused : (c : Column) (row column : ℕ) (f : List ℕ) (k : FaultKind) → bytes_eq f null_mark ≡ false → value_in c.data_type f ≡ Err k → cell_of c row column f ≡ Err (error.Cell row column)
+cell_of-refused c row column f k other spelled = rw other (by (is_utf8 f) spelled) where
+  by : (b : Bool) → cond b (value_at c.data_type f) (Err BadText) ≡ Err k → cond b (placed row column (value_at c.data_type f)) (Err (error.Cell row column)) ≡ Err (error.Cell row column)
+  by true e = ap (placed row column) e
+  by false e = refl
 
 -- a list from an index on
 pub drop-field_at : (fs : Fields) (i : ℕ) (f : List ℕ) → Some f ≡ field_at fs i → drop i fs ≡ f ∷ drop (i + 1) fs
@@ -66,16 +79,15 @@ one_cell : {A : Type 0} (columns : List (declared.Column A)) (fs : Fields) (row 
 one_cell columns fs row i x f xs whole lt is at e = e ∙ ap (after xs) (cells_step _ _ row i _ _ (drop-map column_of columns i x lt is) (drop-field_at fs i f at))
 
 -- a cell of the row gives no value
-cell_refused : {X Y : Type 0} (view : X → Datum) (views : Y → List Datum) (e : Failure LoadError) (xs : List Datum) (cell : Result Datum LoadError) (rest whole : Result (List Datum) LoadError)
-    → whole ≡ after xs (first_then cell rest) → Gives view (Err e) cell → Gives views (Err e) whole
-cell_refused view views OutOfMemory xs cell rest whole is gives = tt
-cell_refused view views (Error e) xs cell rest whole is gives = rw gives at is
+cell_refused : (e : Failure LoadError) (xs : List Datum) (cell : Result Datum LoadError) (rest whole : Result (List Datum) LoadError) → whole ≡ after xs (first_then cell rest) → IsFailure e cell → IsFailure e whole
+cell_refused OutOfMemory xs cell rest whole is fails = tt
+cell_refused (Error e) xs cell rest whole is fails = rw fails at is
 
 -- the cell of this column is refused
 pub one_refused : {A : Type 0} (columns : List (declared.Column A)) (fs : Fields) (row i : ℕ) (x : declared.Column A) (f : List ℕ) (xs : List Datum) (e : Failure LoadError) (whole : Result (List Datum) LoadError)
     → i < length columns → x ≡ get_or columns i x → Some f ≡ field_at fs i → whole ≡ after xs (cells_of (drop i (map column_of columns)) row i (drop i fs)) → IsFailure e (cell_of (column_of x) row i f) → IsFailure e whole
-one_refused {A} columns fs row i x f xs e whole lt is at so_far fails =
-    cell_refused (datum {A = A}) (row_of {A = A}) e xs (cell_of (column_of x) row i f) (cells_of (drop (i + 1) (map column_of columns)) row (i + 1) (drop (i + 1) fs)) whole (one_cell columns fs row i x f xs whole lt is at so_far) fails
+one_refused columns fs row i x f xs e whole lt is at so_far fails =
+    cell_refused e xs (cell_of (column_of x) row i f) (cells_of (drop (i + 1) (map column_of columns)) row (i + 1) (drop (i + 1) fs)) whole (one_cell columns fs row i x f xs whole lt is at so_far) fails
 
 -- no cell is left
 pub no_cells : (cs : List Column) (fs : Fields) (row i : ℕ) (xs : List Datum) → length cs ≤ i → after xs (cells_of (drop i cs) row i fs) ≡ Ok xs
@@ -83,26 +95,23 @@ unfolding cells_of
 no_cells cs fs row i xs h = rw (drop_all i cs h) (ap Ok (append-nil xs))
 
 -- one more cell was read
-pub one_more_cell : {A : Type 0} (columns : List (declared.Column A)) (fs : Fields) (row i : ℕ) (x : declared.Column A) (f : List ℕ) (values : List (Value A)) (v : Value A) (new : List (Value A)) (whole : Result (List Datum) LoadError)
-    → i < length columns → x ≡ get_or columns i x → Some f ≡ field_at fs i → length values ≡ i → whole ≡ after (row_of values) (cells_of (drop i (map column_of columns)) row i (drop i fs))
-    → cell_of (column_of x) row i f ≡ Ok (datum v) → new ≡ values ++ v ∷ []
-    → (length new ≡ i + 1) × (whole ≡ after (row_of new) (cells_of (drop (i + 1) (map column_of columns)) row (i + 1) (drop (i + 1) fs)))
-one_more_cell columns fs row i x f values v new whole lt is at count so_far cell all =
+pub one_more_cell : {A : Type 0} (columns : List (declared.Column A)) (fs : Fields) (row i : ℕ) (x : declared.Column A) (f : List ℕ) (values : Row) (d : Datum) (new : Row) (whole : Result (List Datum) LoadError)
+    → i < length columns → x ≡ get_or columns i x → Some f ≡ field_at fs i → length values ≡ i → whole ≡ after values (cells_of (drop i (map column_of columns)) row i (drop i fs))
+    → cell_of (column_of x) row i f ≡ Ok d → new ≡ values ++ d ∷ []
+    → (length new ≡ i + 1) × (whole ≡ after new (cells_of (drop (i + 1) (map column_of columns)) row (i + 1) (drop (i + 1) fs)))
+one_more_cell columns fs row i x f values d new whole lt is at count so_far cell all =
     let rest = cells_of (drop (i + 1) (map column_of columns)) row (i + 1) (drop (i + 1) fs) in
-    let next = one_cell columns fs row i x f (row_of values) whole lt is at so_far in
-    let two : row_of new ≡ row_of values ++ datum v ∷ [] = ap row_of all ∙ map-append datum values (v ∷ []) in
-    let longer : length new ≡ i + 1 = omega (arith, ap length all, length-append values (v ∷ []), count) in
-    (longer, next ∙ ap (λ (r : Result Datum LoadError). after (row_of values) (first_then r rest)) cell ∙ after-first_then (row_of values) (datum v) rest ∙ ap (λ (xs : List Datum). after xs rest) (sym two))
+    let next = one_cell columns fs row i x f values whole lt is at so_far in
+    let longer : length new ≡ i + 1 = omega (arith, ap length all, length-append values (d ∷ []), count) in
+    (longer, next ∙ ap (λ (r : Result Datum LoadError). after values (first_then r rest)) cell ∙ after-first_then values d rest ∙ ap (λ (xs : List Datum). after xs rest) (sym all))
 
 -- before the first cell
-pub no_cell_yet : {A : Type 0} (cs : List Column) (fs : Fields) (row : ℕ) (values : List (Value A)) → values ≡ []
-    → (length values ≡ 0) × (cells_of cs row 0 fs ≡ after (row_of values) (cells_of (drop 0 cs) row 0 (drop 0 fs)))
+pub no_cell_yet : (cs : List Column) (fs : Fields) (row : ℕ) (values : Row) → values ≡ [] → (length values ≡ 0) × (cells_of cs row 0 fs ≡ after values (cells_of (drop 0 cs) row 0 (drop 0 fs)))
 no_cell_yet cs fs row values none = rw none (refl, sym (after-nil (cells_of cs row 0 fs)))
 
 -- every cell was read
-pub all_cells : {A : Type 0} (columns : List (declared.Column A)) (fs : Fields) (row i : ℕ) (values : List (Value A)) (whole : Result (List Datum) LoadError) → length columns ≤ i
-    → whole ≡ after (row_of values) (cells_of (drop i (map column_of columns)) row i (drop i fs)) → whole ≡ Ok (row_of values)
-all_cells columns fs row i values whole over so_far = so_far ∙ no_cells (map column_of columns) (drop i fs) row i (row_of values) (rw length-map over)
+pub all_cells : (cs : List Column) (fs : Fields) (row i : ℕ) (values : Row) (whole : Result (List Datum) LoadError) → length cs ≤ i → whole ≡ after values (cells_of (drop i cs) row i (drop i fs)) → whole ≡ Ok values
+all_cells cs fs row i values whole over so_far = so_far ∙ no_cells cs (drop i fs) row i values over
 
 -- the exit of a `?`
 pub exit_gives : {X Y : Type 0} (view : X → Y) (r : Result X (Failure LoadError)) (f : Failure LoadError) (m : Result Y LoadError) → IsErrAnd r (λ e. e ≡ f) → IsFailure f m → Gives view r m
@@ -120,7 +129,29 @@ exit_no_reader (Err e) f is none = λ row same. none row (sym is ∙ same)
 pub memory_is_no_reader : (row : ℕ) → OutOfMemory ≢ Error (error.Reader row)
 memory_is_no_reader row same = cc same
 
--- the row was added
-pub row_added : {A : Type 0} (columns : List (declared.Column A)) (row : ℕ) (fs : Fields) (old new : List (List (Value A))) (values read : List (Value A)) → new ≡ old ++ values ∷ [] → values ≡ read → length read ≡ length columns
-    → cells_of (map column_of columns) row 0 fs ≡ Ok (row_of read) → AddsRow (map column_of columns) row fs old new
-row_added columns row fs old new values read all is wide cells = (values, all, ap length is ∙ wide ∙ sym (length-map columns column_of), cells ∙ ap (λ (v : List (Value _)). let o : Result (List Datum) LoadError = Ok (row_of v) in o) (sym is))
+-- the type of a column
+pub type_at : {A : Type 0} (columns : List (declared.Column A)) (i : ℕ) (x : declared.Column A) → i < length columns → x ≡ get_or columns i x → get_or (types_of (map column_of columns)) i types.Bigint ≡ x.data_type
+type_at columns i x lt is =
+    get_or-map (λ (c : Column). c.data_type) (map column_of columns) i (column_of x) types.Bigint (rw length-map lt)
+    ∙ ap (λ (c : Column). c.data_type) (get_or-map column_of columns i x (column_of x) lt ∙ ap column_of (sym is))
+
+-- a value of a type fits it
+number_fits : (r : Result ℤ FaultKind) (d : Datum) → as_number r ≡ Ok d → fits_type types.Bigint d ≡ true
+number_fits (Ok n) d e = let is : int n ≡ d = cc e in rw (← is) refl
+number_fits (Err k) d e = cc e
+
+truth_fits : (a b : Bool) (d : Datum) → (if a then Ok (bool true) else if b then Ok (bool false) else Err BadText) ≡ Ok d → fits_type types.Boolean d ≡ true
+truth_fits true b d e = let is : bool true ≡ d = cc e in rw (← is) refl
+truth_fits false true d e = let is : bool false ≡ d = cc e in rw (← is) refl
+truth_fits false false d e = cc e
+
+value_fits : (kind : ColType) (f : List ℕ) (d : Datum) → value_at kind f ≡ Ok d → fits_type kind d ≡ true
+value_fits types.Bigint f d e = number_fits (bigint_at f) d e
+value_fits types.Text f d e = let is : text f ≡ d = cc e in rw (← is) refl
+value_fits types.Boolean f d e = truth_fits _ _ d e
+
+pub spelled_fits : (kind : ColType) (f : List ℕ) (d : Datum) → value_in kind f ≡ Ok d → fits_type kind d ≡ true
+spelled_fits kind f d e = by (is_utf8 f) e where
+  by : (b : Bool) → cond b (value_at kind f) (Err BadText) ≡ Ok d → fits_type kind d ≡ true
+  by true h = value_fits kind f d h
+  by false h = cc h

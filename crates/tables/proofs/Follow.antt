@@ -1,6 +1,6 @@
 -- The rows that were read follow from the records.
-use Rattle.std.proofs.Common.{ℕ, zero, suc, ◌≡◌, ◌≢◌, ◌+◌, ◌-◌, ◌<◌, ◌≤◌, ◌^◌, Bool, true, false, List, [], ◌∷◌, ◌++◌, length, take, Option, Some, None, Result, Ok, Err, IfSome, All, map, refl, sym, ap, ◌∙◌, arith, rules, length-append, subst, Vec}
-use Rattle.std.proofs.lemmas.List.{length-map, map-append}
+use Rattle.std.proofs.Common.{ℕ, zero, suc, ◌≡◌, ◌≢◌, ◌+◌, ◌-◌, ◌<◌, ◌≤◌, ◌^◌, Bool, true, false, List, [], ◌∷◌, ◌++◌, length, take, Option, Some, None, Result, Ok, Err, IfSome, All, map, refl, sym, ap, ◌∙◌, arith, rules, length-append, subst}
+use Rattle.std.proofs.lemmas.List.{append_assoc, append-nil, length-map}
 use Rattle.std.proofs.lemmas.List.Elements.{All-push}
 use Rattle.std.specs.Option.{unwrap_or}
 use Rattle.std.specs.Prelude.{IsErrAnd, IsErrOf, MatchOption}
@@ -10,14 +10,13 @@ use Rattle.memory.specs.declared.failure.Failure.TheVariants.{Error, OutOfMemory
 use Rattle.memory.specs.Gives.{Gives, IsFailure}
 use Rattle.csv_records.specs.declared.RecordError.{RecordError}
 use Rattle.csv_records.specs.declared.RecordError.TheVariants as why
-use Rattle.value.specs.declared.types.Value.{Value}
-use Rattle.value.specs.Datum.{Row, row_of}
+use Rattle.value.specs.Datum.{Row}
 use Rattle.value.specs.declared.column.Column as declared
 use Rattle.tables.specs.declared.LoadError.{LoadError}
 use Rattle.tables.specs.declared.LoadError.TheVariants as error
-use Rattle.tables.specs.Loading.{Fields, Follows, StopsAfterGood, appended, cells_of, is_fault, load_of, names, reported, rows_data, rows_of}
+use Rattle.tables.specs.Loading.{Fields, Follows, StopsAfterGood, appended, cells_of, is_fault, load_of, names, reported, rows_of}
 use Rattle.value.specs.Columns.{Column, column_of}
-use Rattle.tables.specs.Reading.{AddsRow, AreKnown, HeaderIs, LoadFollows, Refuses, RowsFollow, filled}
+use Rattle.tables.specs.Reading.{Added, AddsRow, AreKnown, HeaderIs, LoadFollows, Refuses, RowsFollow, filled}
 use Rattle.tables.proofs.Records.{Leaves, cell_fault, leaves_all, leaves_none, leaves_one_less, leaves_other, leaves_some, one_more_row, rows_of-nil, take-seen, too_many, uneven_fault}
 
 -- so many records were seen, and they gave these rows; of the records that are known, the others are left
@@ -52,21 +51,21 @@ one_more_seen cols room done rows values known old new r lt (seen, len, was, lea
 )
 
 -- there are no more records
-all_seen : {A : Type 0} (cols : List Column) (room done : ℕ) (rows : Vec (List (Value A)) A) (known : Option (List Fields)) (old new : Left) (r : Fields)
-    → SeenRows cols room done (rows_data rows.items) known old.records → TakesNext old new false r → new.given ≡ counted false old.given → old.given ≡ done + 1 → RowsFollow cols room known new (Ok rows)
+all_seen : (cols : List Column) (room done : ℕ) (rows : List Row) (known : Option (List Fields)) (old new : Left) (r : Fields)
+    → SeenRows cols room done rows known old.records → TakesNext old new false r → new.given ≡ counted false old.given → old.given ≡ done + 1 → RowsFollow cols room known new (Ok rows)
 all_seen cols room done rows known old new r (seen, len, was, leaves) gives counts before =
     (seen, leaves_none known seen old.records new.records r leaves gives.0, was, omega (arith, len, counts, before), tt)
 
 -- memory ran out
-out_of_memory : (A : Type 0) (cols : List Column) (room : ℕ) (known : Option (List Fields)) (new : Left) (e : Failure LoadError) → e ≡ OutOfMemory → RowsFollow {A = A} cols room known new (Err e)
-out_of_memory A cols room known new e is = rw is (unwrap_or known [], known_are known, tt, tt, λ row same. cc same)
+out_of_memory : (cols : List Column) (room : ℕ) (known : Option (List Fields)) (new : Left) (e : Failure LoadError) → e ≡ OutOfMemory → RowsFollow cols room known new (Err e)
+out_of_memory cols room known new e is = rw is (unwrap_or known [], known_are known, tt, tt, λ row same. cc same)
 
 -- a cell of the next record is refused
-row_refused : (A : Type 0) {X : Type 0} (view : X → Row) (cols : List Column) (room done : ℕ) (rows : List Row) (known : Option (List Fields)) (old new : Left) (r : Fields) (e : Failure LoadError) → done < room
+row_refused : {X : Type 0} (view : X → Row) (cols : List Column) (room done : ℕ) (rows : List Row) (known : Option (List Fields)) (old new : Left) (r : Fields) (e : Failure LoadError) → done < room
     → SeenRows cols room done rows known old.records → TakesNext old new true r → old.expected ≡ Some (length cols)
-    → Gives view (Err e) (cells_of cols (done + 1) 0 r) → ((row : ℕ) → e ≢ Error (error.Reader row)) → RowsFollow {A = A} cols room known new (Err e)
-row_refused A view cols room done rows known old new r OutOfMemory lt seen gives expected cells other = out_of_memory A cols room known new OutOfMemory refl
-row_refused A view cols room done rows known old new r (Error e) lt (seen, len, was, leaves) gives expected cells other =
+    → Gives view (Err e) (cells_of cols (done + 1) 0 r) → ((row : ℕ) → e ≢ Error (error.Reader row)) → RowsFollow cols room known new (Err e)
+row_refused view cols room done rows known old new r OutOfMemory lt seen gives expected cells other = out_of_memory cols room known new OutOfMemory refl
+row_refused view cols room done rows known old new r (Error e) lt (seen, len, was, leaves) gives expected cells other =
     let rest = leaves_some known (seen ++ r ∷ []) new.records (leaves_one_less known seen old.records new.records r leaves gives.0) in
     let n = (width (length cols) old new r gives expected).0 in (
       (seen ++ r ∷ []) ++ rest.0,
@@ -77,9 +76,9 @@ row_refused A view cols room done rows known old new r (Error e) lt (seen, len, 
     )
 
 -- there is no room for the next record
-no_room_left : (A : Type 0) (cols : List Column) (room done : ℕ) (rows : List Row) (known : Option (List Fields)) (old new : Left) (r : Fields) → done ≡ room
-    → SeenRows cols room done rows known old.records → TakesNext old new true r → old.expected ≡ Some (length cols) → RowsFollow {A = A} cols room known new (Err (Error error.TooMany))
-no_room_left A cols room done rows known old new r same (seen, len, was, leaves) gives expected =
+no_room_left : (cols : List Column) (room done : ℕ) (rows : List Row) (known : Option (List Fields)) (old new : Left) (r : Fields) → done ≡ room
+    → SeenRows cols room done rows known old.records → TakesNext old new true r → old.expected ≡ Some (length cols) → RowsFollow cols room known new (Err (Error error.TooMany))
+no_room_left cols room done rows known old new r same (seen, len, was, leaves) gives expected =
     let rest = leaves_some known (seen ++ r ∷ []) new.records (leaves_one_less known seen old.records new.records r leaves gives.0) in
     let n = (width (length cols) old new r gives expected).0 in
     ((seen ++ r ∷ []) ++ rest.0, rest.1, λ fault. too_many cols room seen rows r rest.0 (len ∙ same) was n, tt, λ row is. cc is)
@@ -96,9 +95,9 @@ before_unread : (cols : List Column) (room done : ℕ) (seen rest : List Fields)
 before_unread cols room done seen rest rows len was row is = (rw (reader_row row done is) (seen_within seen rest done len), rows, rw (reader_row row done is, take-seen seen rest done len) was)
 
 -- the next record is uneven
-uneven_row : (A : Type 0) (cols : List Column) (room done : ℕ) (rows : List Row) (known : Option (List Fields)) (old new : Left) → done ≤ room
-    → SeenRows cols room done rows known old.records → old.expected ≡ Some (length cols) → NextIsUneven old → RowsFollow {A = A} cols room known new (Err (Error (error.Reader (done + 1))))
-uneven_row A cols room done rows known old new le (seen, len, was, leaves) expected next =
+uneven_row : (cols : List Column) (room done : ℕ) (rows : List Row) (known : Option (List Fields)) (old new : Left) → done ≤ room
+    → SeenRows cols room done rows known old.records → old.expected ≡ Some (length cols) → NextIsUneven old → RowsFollow cols room known new (Err (Error (error.Reader (done + 1))))
+uneven_row cols room done rows known old new le (seen, len, was, leaves) expected next =
     let n : next.0 ≡ length cols = cc (next.1, expected) in
     let o = leaves_other known seen old.records next.0 leaves next.2 in (
       seen ++ o.0 ∷ o.1,
@@ -109,10 +108,10 @@ uneven_row A cols room done rows known old new le (seen, len, was, leaves) expec
     )
 
 -- its read failed
-failed_row : (A : Type 0) (cols : List Column) (room done : ℕ) (rows : List Row) (known left : Option (List Fields)) (new : Left) (why : Failure RecordError) → new.failure ≡ Some why
-    → SeenRows cols room done rows known left → (e : Failure LoadError) → e ≡ reported why (done + 1) → RowsFollow {A = A} cols room known new (Err e)
-failed_row A cols room done rows known left new OutOfMemory failed seen e is = out_of_memory A cols room known new e is
-failed_row A cols room done rows known left new (Error why) failed (seen, len, was, leaves) e is =
+failed_row : (cols : List Column) (room done : ℕ) (rows : List Row) (known left : Option (List Fields)) (new : Left) (why : Failure RecordError) → new.failure ≡ Some why
+    → SeenRows cols room done rows known left → (e : Failure LoadError) → e ≡ reported why (done + 1) → RowsFollow cols room known new (Err e)
+failed_row cols room done rows known left new OutOfMemory failed seen e is = out_of_memory cols room known new e is
+failed_row cols room done rows known left new (Error why) failed (seen, len, was, leaves) e is =
     let rest = leaves_some known seen left leaves in
     rw (is, failed) (seen ++ rest.0, rest.1, λ fault. cc fault, tt, before_unread cols room done seen rest.0 rows len was)
 
@@ -123,12 +122,12 @@ unread row old new (Error why.Failed) keeps uneven = rw keeps refl
 unread row old new OutOfMemory keeps uneven = rw keeps refl
 
 -- the next record was not read
-refused : (A : Type 0) (cols : List Column) (room done : ℕ) (rows : List Row) (known : Option (List Fields)) (old new : Left) (e : Failure LoadError) → done ≤ room
-    → SeenRows cols room done rows known old.records → old.expected ≡ Some (length cols) → Refuses (done + 1) old new e → RowsFollow {A = A} cols room known new (Err e)
-refused A cols room done rows known old new e le seen expected refuses = by_failure new.failure refl refuses where
-  by_failure : (failure : Option (Failure RecordError)) → new.failure ≡ failure → MatchOption failure ((e ≡ Error (error.Reader (done + 1))) × NextIsUneven old) (λ why. e ≡ reported why (done + 1)) → RowsFollow {A = A} cols room known new (Err e)
-  by_failure None none (is, uneven) = rw is (uneven_row A cols room done rows known old new le seen expected uneven)
-  by_failure (Some why) failed is = failed_row A cols room done rows known old.records new why failed seen e is
+refused : (cols : List Column) (room done : ℕ) (rows : List Row) (known : Option (List Fields)) (old new : Left) (e : Failure LoadError) → done ≤ room
+    → SeenRows cols room done rows known old.records → old.expected ≡ Some (length cols) → Refuses (done + 1) old new e → RowsFollow cols room known new (Err e)
+refused cols room done rows known old new e le seen expected refuses = by_failure new.failure refl refuses where
+  by_failure : (failure : Option (Failure RecordError)) → new.failure ≡ failure → MatchOption failure ((e ≡ Error (error.Reader (done + 1))) × NextIsUneven old) (λ why. e ≡ reported why (done + 1)) → RowsFollow cols room known new (Err e)
+  by_failure None none (is, uneven) = rw is (uneven_row cols room done rows known old new le seen expected uneven)
+  by_failure (Some why) failed is = failed_row cols room done rows known old.records new why failed seen e is
 
 -- ---- while rows are added, of so many columns
 
@@ -138,31 +137,31 @@ as_many columns old expected = expected ∙ ap Some (sym (length-map columns col
 found_is : (found : Bool) (b : Bool) (old new : Left) (r : Fields) → found ≡ b → TakesNext old new found r → TakesNext old new b r
 found_is found b old new r is gives = subst (λ (x : Bool). TakesNext old new x r) is gives
 
-exit_rows : {A : Type 0} (cols : List Column) (room : ℕ) (known : Option (List Fields)) (new : Left) (rows : Vec (List (Value A)) A) (r : Result (Unit {0}) (Failure LoadError)) (f : Failure LoadError)
-    → IsErrAnd r (λ e. e ≡ f) → RowsFollow {A = A} cols room known new (Err f) → RowsFollow cols room known new (filled rows r)
+exit_rows : (cols : List Column) (room : ℕ) (known : Option (List Fields)) (new : Left) (rows : List Row) (r : Result (Unit {0}) (Failure LoadError)) (f : Failure LoadError)
+    → IsErrAnd r (λ e. e ≡ f) → RowsFollow cols room known new (Err f) → RowsFollow cols room known new (filled rows r)
 exit_rows cols room known new rows (Ok u) f is follows = absurd is
 exit_rows cols room known new rows (Err e) f is follows = rw is follows
 
-module _ {A : Type 0} (columns : List (declared.Column A)) (room done : ℕ) (rows : Vec (List (Value A)) A) (known : Option (List Fields)) (old : Left)
-    (seen : SeenRows (map column_of columns) room done (rows_data rows.items) known old.records) (expected : old.expected ≡ Some (length columns)) where
+module _ {A : Type 0} (columns : List (declared.Column A)) (room done : ℕ) (rows : List Row) (known : Option (List Fields)) (old : Left)
+    (seen : SeenRows (map column_of columns) room done rows known old.records) (expected : old.expected ≡ Some (length columns)) where
   -- the next record was not read
-  pub exit_next : (new : Left) (filling : Vec (List (Value A)) A) (row : ℕ) (e : Failure LoadError) (r : Result (Unit {0}) (Failure LoadError)) → done ≤ room → row ≡ done + 1 → Refuses row old new e → IsErrAnd r (λ y. y ≡ e)
+  pub exit_next : (new : Left) (filling : List Row) (row : ℕ) (e : Failure LoadError) (r : Result (Unit {0}) (Failure LoadError)) → done ≤ room → row ≡ done + 1 → Refuses row old new e → IsErrAnd r (λ y. y ≡ e)
       → RowsFollow (map column_of columns) room known new (filled filling r)
   exit_next new filling row e r le at refuses is =
       exit_rows (map column_of columns) room known new filling r e is
-      (refused A (map column_of columns) room done (rows_data rows.items) known old new e le seen (as_many columns old expected) (subst (λ (n : ℕ). Refuses n old new e) at refuses))
+      (refused (map column_of columns) room done rows known old new e le seen (as_many columns old expected) (subst (λ (n : ℕ). Refuses n old new e) at refuses))
 
   -- a cell of the next record is refused, or memory ran out
-  pub exit_row : (new : Left) (filling : Vec (List (Value A)) A) (fs : Fields) (found : Bool) (e : Failure LoadError) (r : Result (Unit {0}) (Failure LoadError)) → done < room → TakesNext old new found fs → found ≡ true
+  pub exit_row : (new : Left) (filling : List Row) (fs : Fields) (found : Bool) (e : Failure LoadError) (r : Result (Unit {0}) (Failure LoadError)) → done < room → TakesNext old new found fs → found ≡ true
       → IsFailure e (cells_of (map column_of columns) (done + 1) 0 fs) → ((row : ℕ) → e ≢ Error (error.Reader row)) → IsErrAnd r (λ y. y ≡ e) → RowsFollow (map column_of columns) room known new (filled filling r)
   exit_row new filling fs found e r lt gives is_found fails other is =
       exit_rows (map column_of columns) room known new filling r e is
-      (row_refused A (λ (x : Row). x) (map column_of columns) room done (rows_data rows.items) known old new fs e lt seen (found_is found true old new fs is_found gives) (as_many columns old expected) fails other)
+      (row_refused (λ (x : Row). x) (map column_of columns) room done rows known old new fs e lt seen (found_is found true old new fs is_found gives) (as_many columns old expected) fails other)
 
   -- there is no room for the next record
-  pub exit_room : (new : Left) (fs : Fields) (found : Bool) → done ≤ room → room ≤ done → TakesNext old new found fs → found ≡ true → RowsFollow {A = A} (map column_of columns) room known new (Err (Error error.TooMany))
+  pub exit_room : (new : Left) (fs : Fields) (found : Bool) → done ≤ room → room ≤ done → TakesNext old new found fs → found ≡ true → RowsFollow (map column_of columns) room known new (Err (Error error.TooMany))
   exit_room new fs found le ge gives is_found =
-      no_room_left A (map column_of columns) room done (rows_data rows.items) known old new fs (omega (arith, le, ge)) seen (found_is found true old new fs is_found gives) (as_many columns old expected)
+      no_room_left (map column_of columns) room done rows known old new fs (omega (arith, le, ge)) seen (found_is found true old new fs is_found gives) (as_many columns old expected)
 
   -- there are no more records
   pub exit_end : (new : Left) (fs : Fields) (found : Bool) → TakesNext old new found fs → found ≡ false → new.given ≡ counted found old.given → old.given ≡ done + 1 → RowsFollow (map column_of columns) room known new (Ok rows)
@@ -177,24 +176,69 @@ module _ {A : Type 0} (columns : List (declared.Column A)) (room done : ℕ) (ro
     pub next_expected : new.expected ≡ Some (length columns)
     next_expected = (width (length columns) old new fs (found_is found true old new fs is_found gives) expected).1
 
-    pub next_seen : (items : List (List (Value A))) → AddsRow (map column_of columns) (done + 1) fs rows.items items → SeenRows (map column_of columns) room (done + 1) (rows_data items) known new.records
+    pub next_seen : (items : List Row) → AddsRow (map column_of columns) (done + 1) fs rows items → SeenRows (map column_of columns) room (done + 1) items known new.records
     next_seen items (values, all, wide, cells) =
-        let grown : rows_data items ≡ rows_data rows.items ++ row_of values ∷ [] = ap rows_data all ∙ map-append (λ r. row_of r) rows.items (values ∷ []) in
-        rw grown (one_more_seen (map column_of columns) room done (rows_data rows.items) (row_of values) known old new fs lt seen (found_is found true old new fs is_found gives) (as_many columns old expected) cells)
+        rw all (one_more_seen (map column_of columns) room done rows values known old new fs lt seen (found_is found true old new fs is_found gives) (as_many columns old expected) cells)
 
--- one more row was added
-pub one_more_wide : {A : Type 0} (columns : List (declared.Column A)) (row : ℕ) (fs : Fields) (items new : List (List (Value A))) → All (λ r. length r ≡ length columns) items → AddsRow (map column_of columns) row fs items new
-    → All (λ r. length r ≡ length columns) new
-one_more_wide columns row fs items new wide (values, all, long, cells) = rw all (All-push (λ r. length r ≡ length columns) items values wide (long ∙ length-map columns column_of))
+-- ---- the rows that were added
 
-pub one_more_counted : {A : Type 0} (cols : List Column) (row done : ℕ) (fs : Fields) (items new : List (List (Value A))) → length items ≡ done → AddsRow cols row fs items new → length new ≡ done + 1
-one_more_counted cols row done fs items new count (values, all, long, cells) = omega (arith, ap length all, length-append items (values ∷ []), count)
+-- so many records gave the rows that were added
+pub record AddedSo (cols : List Column) (room done : ℕ) (known left : Option (List Fields)) (old new : List Row) : Type 0 where
+  pub rows : List Row
+  pub all : new ≡ old ++ rows
+  pub wide : All (λ r. length r ≡ length cols) rows
+  pub count : length rows ≡ done
+  pub seen : SeenRows cols room done rows known left
+
+all_of_none : (P : Row → Type 0) → All P []
+all_of_none P = search rules
+
+pub none_added : (cols : List Column) (room : ℕ) (known : Option (List Fields)) (old : List Row) → AddedSo cols room 0 known known old old
+none_added cols room known old = record { rows = []; all = sym (append-nil old); wide = all_of_none (λ r. length r ≡ length cols); count = refl; seen = start_seen cols room known }
+
+module _ {A : Type 0} (columns : List (declared.Column A)) (room done : ℕ) (known : Option (List Fields)) (old : Left) (rows before : List Row) (so : AddedSo (map column_of columns) room done known old.records before rows)
+    (expected : old.expected ≡ Some (length columns)) (le : done ≤ room) where
+  abbrev pub cols : List Column
+  cols = map column_of columns
+
+  few_of : length so.rows ≤ room
+  few_of = omega (arith, so.count)
+
+  -- the rows so far, with what follows of them
+  pub so_far : (Follow : Result (List Row) (Failure LoadError) → Type 0) (after : List Row) (r : Result (Unit {0}) (Failure LoadError)) → after ≡ rows → Follow (filled so.rows r) → Added cols room Follow before after r
+  so_far Follow after r same follow = record { rows = so.rows; all = same ∙ so.all; wide = so.wide; few = few_of; follow = follow }
+
+  pub at_next : (new : Left) (row : ℕ) (e : Failure LoadError) (r : Result (Unit {0}) (Failure LoadError)) → row ≡ done + 1 → Refuses row old new e → IsErrAnd r (λ y. y ≡ e) → Added cols room (RowsFollow cols room known new) before rows r
+  at_next new row e r at refuses is = so_far (RowsFollow cols room known new) rows r refl (exit_next columns room done so.rows known old so.seen expected new so.rows row e r le at refuses is)
+
+  pub at_row : (new : Left) (fs : Fields) (found : Bool) (e : Failure LoadError) (r : Result (Unit {0}) (Failure LoadError)) (after : List Row) → after ≡ rows → done < room → TakesNext old new found fs → found ≡ true
+      → IsFailure e (cells_of cols (done + 1) 0 fs) → ((row : ℕ) → e ≢ Error (error.Reader row)) → IsErrAnd r (λ y. y ≡ e) → Added cols room (RowsFollow cols room known new) before after r
+  at_row new fs found e r after same lt gives is_found fails other is = so_far (RowsFollow cols room known new) after r same (exit_row columns room done so.rows known old so.seen expected new so.rows fs found e r lt gives is_found fails other is)
+
+  pub at_room : (new : Left) (fs : Fields) (found : Bool) → room ≤ done → TakesNext old new found fs → found ≡ true → Added cols room (RowsFollow cols room known new) before rows (Err (Error error.TooMany))
+  at_room new fs found ge gives is_found = so_far (RowsFollow cols room known new) rows (Err (Error error.TooMany)) refl (exit_room columns room done so.rows known old so.seen expected new fs found le ge gives is_found)
+
+  pub at_end : (new : Left) (fs : Fields) (found : Bool) → TakesNext old new found fs → found ≡ false → new.given ≡ counted found old.given → old.given ≡ done + 1 → Added cols room (RowsFollow cols room known new) before rows (Ok tt)
+  at_end new fs found gives is_found counts was = so_far (RowsFollow cols room known new) rows (Ok tt) refl (exit_end columns room done so.rows known old so.seen expected new fs found gives is_found counts was)
+
+  pub one_more_added : (new : Left) (fs : Fields) (found : Bool) (after : List Row) → found ≡ true → done < room → TakesNext old new found fs → AddsRow cols (done + 1) fs rows after → AddedSo cols room (done + 1) known new.records before after
+  one_more_added new fs found after is_found lt gives (values, all, wide, cells) = record {
+    rows = so.rows ++ values ∷ [];
+    all = all ∙ ap (λ (l : List Row). l ++ values ∷ []) so.all ∙ append_assoc before so.rows (values ∷ []);
+    wide = All-push (λ r. length r ≡ length cols) so.rows values so.wide wide;
+    count = omega (arith, so.count, length-append so.rows (values ∷ []));
+    seen = next_seen columns room done so.rows known old so.seen expected new fs found is_found lt gives (so.rows ++ values ∷ []) (values, refl, wide, cells);
+  }
+
+-- so many rows are there in the end
+pub few_there : (cols : List Column) (room done : ℕ) (known left : Option (List Fields)) (old new : List Row) → AddedSo cols room done known left old new → length new ≡ length old + done
+few_there cols room done known left old new so = omega (arith, ap length so.all, length-append old so.rows, so.count)
 
 -- ---- with the header
 
-pub no_header : (A : Type 0) (cols : List Column) (room : ℕ) (old new : Left) (e : Failure LoadError) → HeaderIs cols old new (Err e) → LoadFollows {A = A} cols room old.records new (Err e)
-no_header A cols room old new OutOfMemory none = (unwrap_or old.records [], known_are old.records, tt, tt, λ row same pos. cc same)
-no_header A cols room old new (Error e) (fault, at) = (unwrap_or old.records [], known_are old.records, λ is. fault is room, tt, λ row same pos. let is : e ≡ error.Reader row = cc same in absurd (not_first row (at row is) pos)) where
+pub no_header : (cols : List Column) (room : ℕ) (old new : Left) (e : Failure LoadError) → HeaderIs cols old new (Err e) → LoadFollows cols room old.records new (Err e)
+no_header cols room old new OutOfMemory none = (unwrap_or old.records [], known_are old.records, tt, tt, λ row same pos. cc same)
+no_header cols room old new (Error e) (fault, at) = (unwrap_or old.records [], known_are old.records, λ is. fault is room, tt, λ row same pos. let is : e ≡ error.Reader row = cc same in absurd (not_first row (at row is) pos)) where
   not_first : (row : ℕ) → row ≡ 0 → 0 < row → ⊥
   not_first row e lt = omega arith
 
@@ -218,17 +262,25 @@ header_read cols room h recs named = rw named refl
 follows_of : {X Y : Type 0} (view : Y → X) (failure : Option (Failure RecordError)) (due other : Result X LoadError) (r : Result Y (Failure LoadError)) → due ≡ other → Follows view failure other r → Follows view failure due r
 follows_of {X} view failure due other r same follows = subst (λ (x : Result X LoadError). Follows view failure x r) (sym same) follows
 
-pub header_then_rows : {A : Type 0} (cols : List Column) (room : ℕ) (old mid new : Left) (result : Result (Vec (List (Value A)) A) (Failure LoadError))
+header_then_follow : (cols : List Column) (room : ℕ) (old mid new : Left) (result : Result (List Row) (Failure LoadError))
     → HeaderIs cols old mid (Ok tt) → RowsFollow cols room mid.records new result → LoadFollows cols room old.records new result
-header_then_rows cols room old mid new (Ok rows) (h, named, gives) (recs, known, follows, many, stops) =
+header_then_follow cols room old mid new (Ok rows) (h, named, gives) (recs, known, follows, many, stops) =
     (h ∷ recs, known_after old.records mid.records h recs gives known, rw named follows, omega (arith, many), tt)
-header_then_rows {A} cols room old mid new (Err e) (h, named, gives) (recs, known, follows, many, stops) = (
+header_then_follow cols room old mid new (Err e) (h, named, gives) (recs, known, follows, many, stops) = (
   h ∷ recs,
   known_after old.records mid.records h recs gives known,
-  follows_of (λ (rows : Vec (List (Value A)) A). rows_data rows.items) new.failure (load_of cols room (h ∷ recs)) (rows_of cols room 1 recs) (Err e) (header_read cols room h recs named) follows,
+  follows_of (λ (rows : List Row). rows) new.failure (load_of cols room (h ∷ recs)) (rows_of cols room 1 recs) (Err e) (header_read cols room h recs named) follows,
   tt,
   λ row same pos. let s = stops row same in (one_more row (length recs) pos s.0, s.1, load-take cols room row h recs named pos ∙ s.2),
 )
+
+pub header_then_rows : (cols : List Column) (room : ℕ) (old mid new : Left) (before after : List Row) (result : Result (Unit {0}) (Failure LoadError))
+    → HeaderIs cols old mid (Ok tt) → Added cols room (RowsFollow cols room mid.records new) before after result → Added cols room (LoadFollows cols room old.records new) before after result
+header_then_rows cols room old mid new before after result header added =
+    record { rows = added.rows; all = added.all; wide = added.wide; few = added.few; follow = header_then_follow cols room old mid new (filled added.rows result) header added.follow }
+
+pub nothing_added : (cols : List Column) (room : ℕ) (old new : Left) (before : List Row) (e : Failure LoadError) → HeaderIs cols old new (Err e) → Added cols room (LoadFollows cols room old.records new) before before (Err e)
+nothing_added cols room old new before e header = record { rows = []; all = sym (append-nil before); wide = all_of_none (λ r. length r ≡ length cols); few = omega arith; follow = no_header cols room old new e header }
 
 -- ---- a read failed
 
@@ -260,7 +312,7 @@ pub counted_one : (done room : ℕ) (old new : ℕ) (found : Bool) → done < ro
 counted_one done room old new found lt few is count was = let first = rw is at count in omega (arith, lt, few, first, was)
 
 -- the same load, in other words
-pub same_load : {A : Type 0} (cols cols' : List Column) (room room' : ℕ) (known : Option (List Fields)) (left : Left) (result : Result (Vec (List (Value A)) A) (Failure LoadError)) → cols ≡ cols' → room ≡ room'
+pub same_load : (cols cols' : List Column) (room room' : ℕ) (known : Option (List Fields)) (left : Left) (result : Result (List Row) (Failure LoadError)) → cols ≡ cols' → room ≡ room'
     → LoadFollows cols room known left result → LoadFollows cols' room' known left result
 same_load cols cols' room room' known left result is at follows =
     subst (λ (c : List Column). LoadFollows c room' known left result) is (subst (λ (n : ℕ). LoadFollows cols n known left result) at follows)
@@ -275,30 +327,30 @@ fault_exactly failure (error.NotNull row column) none = refl
 fault_exactly failure error.TooMany none = refl
 
 -- an error of records
-pub fault_of_known : (A : Type 0) (cols : List Column) (room : ℕ) (known : Option (List Fields)) (left : Left) (e : Failure LoadError) (old new : List Row) → LoadFollows {A = A} cols room known left (Err e)
+pub fault_of_known : (cols : List Column) (room : ℕ) (known : Option (List Fields)) (left : Left) (e : Failure LoadError) (old new : List Row) → LoadFollows cols room known left (Err e)
     → left.failure ≡ None → IfSome known (λ recs. Gives {X = Unit {0}} (λ _. new) (Err e) (appended old (load_of cols room recs)))
-fault_of_known A cols room None left e old new follows none = tt
-fault_of_known A cols room (Some known) left OutOfMemory old new follows none = tt
-fault_of_known A cols room (Some known) left (Error e) old new (recs, are, due, many, stops) none = rw are (ap (appended old) (due (fault_exactly left.failure e none)))
+fault_of_known cols room None left e old new follows none = tt
+fault_of_known cols room (Some known) left OutOfMemory old new follows none = tt
+fault_of_known cols room (Some known) left (Error e) old new (recs, are, due, many, stops) none = rw are (ap (appended old) (due (fault_exactly left.failure e none)))
 
-pub fault_of_some : (A : Type 0) (cols : List Column) (room : ℕ) (known : Option (List Fields)) (left : Left) (e : Failure LoadError) (old new : List Row) → LoadFollows {A = A} cols room known left (Err e)
+pub fault_of_some : (cols : List Column) (room : ℕ) (known : Option (List Fields)) (left : Left) (e : Failure LoadError) (old new : List Row) → LoadFollows cols room known left (Err e)
     → left.failure ≡ None → (recs : List Fields) × Gives {X = Unit {0}} (λ _. new) (Err e) (appended old (load_of cols room recs)) × Unit {0}
-fault_of_some A cols room known left OutOfMemory old new (recs, are, due, many, stops) none = (recs, tt, tt)
-fault_of_some A cols room known left (Error e) old new (recs, are, due, many, stops) none = (recs, ap (appended old) (due (fault_exactly left.failure e none)), tt)
+fault_of_some cols room known left OutOfMemory old new (recs, are, due, many, stops) none = (recs, tt, tt)
+fault_of_some cols room known left (Error e) old new (recs, are, due, many, stops) none = (recs, ap (appended old) (due (fault_exactly left.failure e none)), tt)
 
-pub stops_of_known : (A : Type 0) (cols : List Column) (room : ℕ) (known : Option (List Fields)) (left : Left) (e : Failure LoadError) → LoadFollows {A = A} cols room known left (Err e)
+pub stops_of_known : (cols : List Column) (room : ℕ) (known : Option (List Fields)) (left : Left) (e : Failure LoadError) → LoadFollows cols room known left (Err e)
     → IfSome known (λ recs. StopsAfterGood {Y = Unit {0}} cols room recs (Err e))
-stops_of_known A cols room None left e follows = tt
-stops_of_known A cols room (Some known) left e (recs, are, due, many, stops) = rw are stops
+stops_of_known cols room None left e follows = tt
+stops_of_known cols room (Some known) left e (recs, are, due, many, stops) = rw are stops
 
 -- rows of records
-pub rows_of_known : {A : Type 0} (cols : List Column) (room : ℕ) (known : Option (List Fields)) (left : Left) (rows : Vec (List (Value A)) A) (old new : List Row) → LoadFollows cols room known left (Ok rows)
-    → new ≡ old ++ rows_data rows.items → IfSome known (λ recs. Gives {X = Unit {0}} (λ _. new) (Ok tt) (appended old (load_of cols room recs)))
+pub rows_of_known : (cols : List Column) (room : ℕ) (known : Option (List Fields)) (left : Left) (rows : List Row) (old new : List Row) → LoadFollows cols room known left (Ok rows)
+    → new ≡ old ++ rows → IfSome known (λ recs. Gives {X = Unit {0}} (λ _. new) (Ok tt) (appended old (load_of cols room recs)))
 rows_of_known cols room None left rows old new follows all = tt
 rows_of_known cols room (Some known) left rows old new (recs, are, due, many, stops) all = rw are (ap (appended old) due ∙ ap Ok (sym all))
 
-pub rows_of_some : {A : Type 0} (cols : List Column) (room : ℕ) (known : Option (List Fields)) (left : Left) (rows : Vec (List (Value A)) A) (old new : List Row) → LoadFollows cols room known left (Ok rows)
-    → new ≡ old ++ rows_data rows.items → (recs : List Fields) × Gives {X = Unit {0}} (λ _. new) (Ok tt) (appended old (load_of cols room recs)) × (length recs ≡ left.given)
+pub rows_of_some : (cols : List Column) (room : ℕ) (known : Option (List Fields)) (left : Left) (rows : List Row) (old new : List Row) → LoadFollows cols room known left (Ok rows)
+    → new ≡ old ++ rows → (recs : List Fields) × Gives {X = Unit {0}} (λ _. new) (Ok tt) (appended old (load_of cols room recs)) × (length recs ≡ left.given)
 rows_of_some cols room known left rows old new (recs, are, due, many, stops) all = (recs, ap (appended old) due ∙ ap Ok (sym all), many)
 
 -- ---- for callers: the rows that were appended

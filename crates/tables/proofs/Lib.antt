@@ -5,5 +5,4 @@ pub mod Follow
 pub mod Names
 pub mod NullText
 pub mod Records
-pub mod Utf8
 pub mod Wide

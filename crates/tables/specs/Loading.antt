@@ -1,9 +1,8 @@
 -- The rows that the records of a text give, or the first load error.
-use Rattle.std.specs.Prelude.{ℕ, zero, suc, ◌+◌, ◌<◌, ◌≤◌, ◌==◌, ◌&&◌, ◌≡◌, ◌≢◌, Bool, true, false, List, [], ◌∷◌, ◌++◌, length, map, take, Option, is_none, Result, Ok, Err, IfErr, All, if◌then◌else◌, ⊤}
+use Rattle.std.specs.Prelude.{ℕ, zero, suc, ◌+◌, ◌<◌, ◌≤◌, ◌==◌, ◌&&◌, ◌≡◌, ◌≢◌, Bool, true, false, List, [], ◌∷◌, ◌++◌, length, take, Option, is_none, Result, Ok, Err, IfErr, All, if◌then◌else◌, ⊤}
 use Rattle.std.specs.Str.{bytes_eq, is_utf8}
 use Rattle.value.specs.declared.types.FaultKind.{FaultKind}
-use Rattle.value.specs.declared.types.Value.{Value}
-use Rattle.value.specs.Datum.{Datum, null, Row, row_of}
+use Rattle.value.specs.Datum.{Datum, null, Row}
 use Rattle.value.specs.Columns.{Column}
 use Rattle.value.specs.Texts.{IsNoNullMark, null_mark, value_at}
 use Rattle.csv_records.specs.declared.RecordError.{RecordError}
@@ -95,6 +94,3 @@ UnlessUnread (Err e) fact = ((row : ℕ) → e ≢ Error (error.Reader row)) →
 abbrev pub StopsAfterGood : {Y : Type 0} → List Column → ℕ → List Fields → Result Y (Failure LoadError) → Type 0
 StopsAfterGood cols room recs result =
     IfErr result (λ e. (row : ℕ) → e ≡ Error (error.Reader row) → 0 < row → (row ≤ length recs) × (rows : List Row) × (load_of cols room (take row recs) ≡ Ok rows))
-
-abbrev pub rows_data : {A : Type 0} → List (List (Value A)) → List Row
-rows_data rs = map (λ r. row_of r) rs

@@ -1,90 +1,95 @@
 //! Rows from records.
 
-ghost use Rattle.std.specs.Prelude.{◌≡◌, ◌≢◌, ◌+◌, ◌-◌, ◌<◌, ◌≤◌, ◌^◌, ℕ, [], length, true, None, Some, All, IfOk, IfErr, IfSome, IsErrOf, OnErr, OnOk};
+ghost use Rattle.std.specs.Prelude.{◌≡◌, ◌≢◌, ◌+◌, ◌<◌, ◌^◌, ℕ, [], length, true, None, Some, IfOk, IfErr, IfSome, IsErrOf, OnErr, OnOk};
 ghost use Rattle.csv.specs.Records.{fields_of};
 ghost use Rattle.memory.specs.Gives.{Gives, IsFailure};
 ghost use Rattle.memory.specs.declared.failure.Failure.TheVariants.{Error};
 ghost use Rattle.csv_records.specs.Left.{TakesNext, counted};
-ghost use Rattle.value.specs.Datum.{datum, row_of};
+ghost use Rattle.value.specs.Columns.{column_of, columns_of, fits_type};
+ghost use Rattle.value.specs.Datum.{datum_of};
+ghost use Rattle.columns.specs.Rows.{types_of};
 ghost use Rattle.tables.specs.Loading.{cell_of, cells_of, names, reported};
-ghost use Rattle.value.specs.Columns.{column_of, columns_of};
-ghost use Rattle.tables.specs.Reading.{AddsRow, HeaderIs, LoadFollows, Refuses, RowsFollow, filled};
+ghost use Rattle.tables.specs.Reading.{Added, AddsRow, HeaderIs, LoadFollows, Refuses, RowsFollow};
 ghost use Rattle.tables.specs.declared.LoadError.TheVariants.{Reader};
 
 use crate::LoadError;
+use columns::Rows;
 use csv::ByteRecord;
 use csv_records::{RecordError, Records};
-use memory::{Failure, Heap, Items};
+use memory::{Failure, Heap};
 use std::io::Read;
-use std::str;
-use value::{Column, Value, read_value};
+use value::{Column, Val, read_value};
 
-// The value of a cell.
-fn read_cell<A: Heap>(
-    alloc: A,
+// The value of a cell. A field of a bigint or boolean column is not tested for UTF-8, since only ASCII spells one.
+fn read_cell<'f, A: Heap>(
     column: &Column<A>,
-    field: &[u8],
+    field: &'f [u8],
     row: u64,
     at: u64,
-) -> Result<Value<A>, Failure<LoadError>>
-    ensures cell { Gives datum result (cell_of (column_of column.now) row at field.now) }
+) -> Result<Val<'f, A>, Failure<LoadError>>
+    ensures cell { Gives datum_of result (cell_of (column_of column.now) row at field.now) }
+    ensures fits { IfOk result (λ v. fits_type column.now.data_type (datum_of v) ≡ true) }
     ensures no_reader { IfErr result (λ e. (r : ℕ) → e ≢ Error (Reader r)) }
 {
     if field == b"\\N".as_slice() {
         if column.not_null {
             return Err(Failure::Error(LoadError::NotNull { row, column: at }));
         }
-        return Ok(Value::Null);
+        return Ok(Val::Null);
     }
-    let Ok(text) = str::from_utf8(field) else {
-        return Err(Failure::Error(LoadError::Cell { row, column: at }));
-    };
-    match read_value(alloc, column.data_type, text) {
+    match read_value(column.data_type, field) {
         Ok(value) => Ok(value),
-        Err(Failure::Error(_)) => Err(Failure::Error(LoadError::Cell { row, column: at })),
-        Err(Failure::OutOfMemory) => Err(Failure::OutOfMemory),
+        Err(_) => Err(Failure::Error(LoadError::Cell { row, column: at })),
     }
 }
 
-// Adds the values of a row.
+// Adds the values of a row to the unfinished row, which has none.
 fn add_cells<A: Heap>(
-    alloc: A,
     columns: &[Column<A>],
     cells: &ByteRecord,
     row: u64,
-    values: &mut Vec<Value<A>, A>,
+    rows: &mut Rows<A>,
 ) -> Result<(), Failure<LoadError>>
-    requires none { values.old.items ≡ [] }
+    requires none { rows.old.unfinished ≡ [] }
+    requires types { rows.old.types ≡ types_of (columns_of columns.now) }
     requires wide { length (fields_of cells.now) ≡ length columns.now }
-    ensures wide { OnOk result (length values.new.items ≡ length columns.now) }
-    ensures cells { Gives (λ _. row_of values.new.items) result (cells_of (columns_of columns.now) row 0 (fields_of cells.now)) }
+    requires room { length rows.old.rows < 2 ^ 63 }
+    ensures types { rows.new.types ≡ rows.old.types }
+    ensures rows { rows.new.rows ≡ rows.old.rows }
+    ensures wide { OnOk result (length rows.new.unfinished ≡ length columns.now) }
+    ensures cells { Gives (λ _. rows.new.unfinished) result (cells_of (columns_of columns.now) row 0 (fields_of cells.now)) }
     ensures no_reader { IfErr result (λ e. (r : ℕ) → e ≢ Error (Reader r)) }
 {
     for (i, column) in columns.iter().enumerate() {
         let Some(field) = cells.get(i) else {
             return Err(Failure::Error(LoadError::Reader { row }));
         };
-        values.push(read_cell(alloc, column, field, row, i as u64)?)?;
+        let value = read_cell(column, field, row, i as u64)?;
+        rows.push_cell(&value)?;
     }
     Ok(())
 }
 
-// Adds a row.
+// Adds a row. After an error its first values may be there, in the unfinished row.
 fn add_row<A: Heap>(
-    alloc: A,
     columns: &[Column<A>],
     cells: &ByteRecord,
     row: u64,
-    rows: &mut Vec<Items<Value<A>, A>, A>,
+    rows: &mut Rows<A>,
 ) -> Result<(), Failure<LoadError>>
-    requires { length (fields_of cells.now) ≡ length columns.now }
-    ensures row { OnOk result (AddsRow (columns_of columns.now) row (fields_of cells.now) rows.old.items rows.new.items) }
+    requires none { rows.old.unfinished ≡ [] }
+    requires types { rows.old.types ≡ types_of (columns_of columns.now) }
+    requires wide { length (fields_of cells.now) ≡ length columns.now }
+    requires room { length rows.old.rows < 2 ^ 63 }
+    ensures types { rows.new.types ≡ rows.old.types }
+    ensures finished { OnOk result (rows.new.unfinished ≡ []) }
+    ensures row { OnOk result (AddsRow (columns_of columns.now) row (fields_of cells.now) rows.old.rows rows.new.rows) }
+    ensures kept { OnErr result (rows.new.rows ≡ rows.old.rows) }
     ensures refused { IfErr result (λ e. IsFailure e (cells_of (columns_of columns.now) row 0 (fields_of cells.now))) }
     ensures no_reader { IfErr result (λ e. (r : ℕ) → e ≢ Error (Reader r)) }
 {
-    let mut values = Vec::with_capacity(alloc, columns.len())?;
-    add_cells(alloc, columns, cells, row, &mut values)?;
-    rows.push(Items::from(values))?;
+    add_cells(columns, cells, row, rows)?;
+    rows.finish_row();
     Ok(())
 }
 
@@ -117,57 +122,36 @@ fn next_record<R: Read>(
 }
 
 // Adds the rows of the records that are left, where there is room for so many; `cells` holds the fields of one at a time.
+// After an error some of them may be there.
 fn add_rows<A: Heap, R: Read>(
-    alloc: A,
     columns: &[Column<A>],
     records: &mut Records<R>,
     room: u64,
     cells: &mut ByteRecord,
-    rows: &mut Vec<Items<Value<A>, A>, A>,
+    rows: &mut Rows<A>,
 ) -> Result<(), Failure<LoadError>>
-    requires none { rows.old.items ≡ [] }
+    requires none { rows.old.unfinished ≡ [] }
+    requires types { rows.old.types ≡ types_of (columns_of columns.now) }
     requires expected { records.old.expected ≡ Some (length columns.now) }
     requires given { records.old.given ≡ 1 }
     requires fresh { records.old.failure ≡ None }
-    requires room { room < 2 ^ 64 - 1 }
-    ensures wide { OnOk result (All (λ r. length r ≡ length columns.now) rows.new.items) }
-    ensures few { OnOk result (length rows.new.items ≤ room) }
+    requires room { length rows.old.rows + room < 2 ^ 63 }
+    ensures types { rows.new.types ≡ rows.old.types }
+    ensures finished { OnOk result (rows.new.unfinished ≡ []) }
     ensures failed { IfSome records.new.failure (λ why. IsErrOf result (reported why records.new.given)) }
-    ensures rows { RowsFollow (columns_of columns.now) room records.old.records records.new (filled rows.new result) }
+    ensures rows { Added (columns_of columns.now) room (RowsFollow (columns_of columns.now) room records.old.records records.new) rows.old.rows rows.new.rows result }
 {
     for done in 0..room {
         let row = done + 1;
         if !next_record(records, cells, row)? {
             return Ok(());
         }
-        add_row(alloc, columns, cells, row, rows)?;
+        add_row(columns, cells, row, rows)?;
     }
     if next_record(records, cells, room + 1)? {
         return Err(Failure::Error(LoadError::TooMany));
     }
     Ok(())
-}
-
-// The rows of the records that are left, where there is room for so many.
-fn read_rows<A: Heap, R: Read>(
-    alloc: A,
-    columns: &[Column<A>],
-    records: &mut Records<R>,
-    room: u64,
-) -> Result<Vec<Items<Value<A>, A>, A>, Failure<LoadError>>
-    requires expected { records.old.expected ≡ Some (length columns.now) }
-    requires given { records.old.given ≡ 1 }
-    requires fresh { records.old.failure ≡ None }
-    requires room { room < 2 ^ 64 - 1 }
-    ensures wide { IfOk result (λ rows. All (λ r. length r ≡ length columns.now) rows.items) }
-    ensures few { IfOk result (λ rows. length rows.items ≤ room) }
-    ensures failed { IfSome records.new.failure (λ why. IsErrOf result (reported why records.new.given)) }
-    ensures rows { RowsFollow (columns_of columns.now) room records.old.records records.new result }
-{
-    let mut rows = Vec::new(alloc);
-    let mut cells = ByteRecord::new(alloc.global());
-    add_rows(alloc, columns, records, room, &mut cells, &mut rows)?;
-    Ok(rows)
 }
 
 // True where the fields are the names of the columns.
@@ -189,11 +173,11 @@ fn has_names<A: Heap>(columns: &[Column<A>], cells: &ByteRecord) -> bool
     true
 }
 
-// Reads the header.
+// Reads the header; `cells` holds its fields.
 fn read_header<A: Heap, R: Read>(
-    alloc: A,
     columns: &[Column<A>],
     records: &mut Records<R>,
+    cells: &mut ByteRecord,
 ) -> Result<(), Failure<LoadError>>
     requires expected { records.old.expected ≡ None }
     requires given { records.old.given ≡ 0 }
@@ -204,30 +188,34 @@ fn read_header<A: Heap, R: Read>(
     ensures failed { IfSome records.new.failure (λ why. IsErrOf result (reported why records.new.given)) }
     ensures header { HeaderIs (columns_of columns.now) records.old records.new result }
 {
-    let mut cells = ByteRecord::new(alloc.global());
-    if next_record(records, &mut cells, 0)? && has_names(columns, &cells) {
+    if next_record(records, cells, 0)? && has_names(columns, cells) {
         Ok(())
     } else {
         Err(Failure::Error(LoadError::Header))
     }
 }
 
-// The rows of all the records, the header among them, where there is room for so many rows.
-pub(crate) fn read_table<A: Heap, R: Read>(
+/// Adds the rows of all the records, the header among them, where there is room for so many rows. After an error some of
+/// them may be there.
+pub(crate) fn add_records<A: Heap, R: Read>(
     alloc: A,
     columns: &[Column<A>],
     records: &mut Records<R>,
     room: u64,
-) -> Result<Vec<Items<Value<A>, A>, A>, Failure<LoadError>>
+    rows: &mut Rows<A>,
+) -> Result<(), Failure<LoadError>>
+    requires none { rows.old.unfinished ≡ [] }
+    requires types { rows.old.types ≡ types_of (columns_of columns.now) }
     requires expected { records.old.expected ≡ None }
     requires given { records.old.given ≡ 0 }
     requires fresh { records.old.failure ≡ None }
-    requires room { room < 2 ^ 64 - 1 }
-    ensures wide { IfOk result (λ rows. All (λ r. length r ≡ length columns.now) rows.items) }
-    ensures few { IfOk result (λ rows. length rows.items ≤ room) }
+    requires room { length rows.old.rows + room < 2 ^ 63 }
+    ensures types { rows.new.types ≡ rows.old.types }
+    ensures finished { OnOk result (rows.new.unfinished ≡ []) }
     ensures failed { IfSome records.new.failure (λ why. IsErrOf result (reported why records.new.given)) }
-    ensures rows { LoadFollows (columns_of columns.now) room records.old.records records.new result }
+    ensures rows { Added (columns_of columns.now) room (LoadFollows (columns_of columns.now) room records.old.records records.new) rows.old.rows rows.new.rows result }
 {
-    read_header(alloc, columns, records)?;
-    read_rows(alloc, columns, records, room)
+    let mut cells = ByteRecord::new(alloc.global());
+    read_header(columns, records, &mut cells)?;
+    add_rows(columns, records, room, &mut cells, rows)
 }

@@ -1,27 +1,32 @@
 //! A table and its rows.
 
-ghost use Rattle.std.specs.Prelude.{◌≡◌, ◌-◌, ◌<◌, ◌≤◌, None, List, [], length, All, IfOk, IfSome, IsErrOf, OnErr, OnOk, take};
+ghost use Rattle.std.specs.Prelude.{◌≡◌, ◌-◌, ◌<◌, ◌≤◌, None, List, [], length, map, get_or, All, IfOk, IfSome, IsErrOf, OnErr, OnOk, take};
 ghost use Rattle.memory.specs.Gives.{Gives};
 ghost use Rattle.csv_records.specs.Left.{records_of};
 ghost use Rattle.value.specs.Columns.{columns_of};
-ghost use Rattle.value.specs.Datum.{cell, datum, datum_of, row_at};
+ghost use Rattle.value.specs.Datum.{cell, datum_of, null_or, row_at};
+ghost use Rattle.value.specs.declared.types.ColType.TheVariants.{Bigint};
+ghost use Rattle.columns.specs.Data.{cells_of, type_of};
+ghost use Rattle.columns.specs.Rows.{types_of};
 ghost use Rattle.tables.specs.Loading.{Fields, NoTextIsNull, StopsAfterGood, UnlessUnread, appended, load_of, reported};
 ghost use Rattle.tables.specs.declared.TheConstants.{MAX_ROWS};
 
-use crate::load::read_table;
+use crate::load::add_records;
 use crate::{LoadError, MAX_ROWS};
+use columns::{ColumnData, Rows};
 use csv_records::Records;
 use memory::{Failure, Heap, Items};
+use std::alloc::AllocError;
 use std::io::Read;
 use std::marker::Model;
-use value::{Column, Val, Value};
+use value::{Column, Lent, Val};
 
 /// A table: its columns, and its rows in the order in which they were read.
 #[derive(Drop)]
 pub struct Table<A: Heap> {
     alloc: A,
     columns: Items<Column<A>, A>,
-    rows: Vec<Items<Value<A>, A>, A>,
+    rows: Rows<A>,
 }
 
 impl<A: Heap> Model for Table<A> {
@@ -38,15 +43,16 @@ impl<A: Heap> Model for Table<A> {
 
 impl<A: Heap> Table<A> {
     /// A table with no rows.
-    pub fn new(alloc: A, columns: Items<Column<A>, A>) -> Table<A>
-        ensures columns { result.columns ≡ columns_of columns }
-        ensures rows { result.rows ≡ [] }
+    pub fn new(alloc: A, columns: Items<Column<A>, A>) -> Result<Table<A>, AllocError>
+        ensures columns { IfOk result (λ t. t.columns ≡ columns_of columns) }
+        ensures rows { IfOk result (λ t. t.rows ≡ []) }
     {
-        Table {
+        let rows = Rows::new(alloc, columns.as_slice())?;
+        Ok(Table {
             alloc,
             columns,
-            rows: Vec::new(alloc),
-        }
+            rows,
+        })
     }
 
     /// The table of the records that a reader gives, of which the first is the names of the columns (PostgreSQL: COPY
@@ -98,7 +104,7 @@ impl<A: Heap> Table<A> {
         ensures failed { IfSome records.new.failure (λ why. IsErrOf result (reported why records.new.given)) }
         ensures stops { IfSome records.old.records (λ recs. StopsAfterGood (columns_of columns) MAX_ROWS recs result) }
     {
-        let mut table = Table::new(alloc, columns);
+        let mut table = Table::new(alloc, columns)?;
         table.append_records(records)?;
         Ok(table)
     }
@@ -119,10 +125,16 @@ impl<A: Heap> Table<A> {
         ensures failed { IfSome records.new.failure (λ why. IsErrOf result (reported why records.new.given)) }
         ensures stops { IfSome records.old.records (λ recs. StopsAfterGood self.old.columns (MAX_ROWS - length self.old.rows) recs result) }
     {
-        let room = MAX_ROWS - self.rows.len() as u64;
-        let mut rows = read_table(self.alloc, self.columns.as_slice(), records, room)?;
-        self.rows.append(&mut rows)?;
-        Ok(())
+        let before = self.rows.len();
+        let room = MAX_ROWS - before as u64;
+        let columns = self.columns.as_slice();
+        match add_records(self.alloc, columns, records, room, &mut self.rows) {
+            Ok(()) => Ok(()),
+            Err(error) => {
+                self.rows.truncate(before);
+                Err(error)
+            }
+        }
     }
 
     /// Drops the rows from a number on, which counts from 0. It takes no memory.
@@ -130,7 +142,8 @@ impl<A: Heap> Table<A> {
         ensures columns { self.new.columns ≡ self.old.columns }
         ensures rows { self.new.rows ≡ take rows self.old.rows }
     {
-        self.rows.truncate(rows as usize);
+        let len = self.rows.len();
+        self.rows.truncate(len.min(rows as usize));
     }
 
     /// The columns, in order.
@@ -149,13 +162,13 @@ impl<A: Heap> Table<A> {
         self.rows.len() as u64
     }
 
-    /// The value of a cell, with row and column counted from 0.
-    pub fn value(&self, row: u64, column: u64) -> &Value<A>
+    /// The value of a cell, with row and column counted from 0, unless it is null.
+    pub fn value(&self, row: u64, column: u64) -> Option<Lent<'_>>
         requires row { row < length self.now.rows }
         requires column { column < length self.now.columns }
-        ensures { datum result.now ≡ cell (row_at self.now.rows row) column }
+        ensures { null_or result ≡ cell (row_at self.now.rows row) column }
     {
-        &self.rows[row as usize].as_slice()[column as usize]
+        self.rows.cell(row as usize, column as usize)
     }
 
     /// A cell, with row and column counted from 0.
@@ -164,7 +177,16 @@ impl<A: Heap> Table<A> {
         requires column { column < length self.now.columns }
         ensures { datum_of result ≡ cell (row_at self.now.rows row) column }
     {
-        self.rows[row as usize].as_slice()[column as usize].as_val()
+        Val::of(self.value(row, column))
+    }
+
+    /// The values of a column, which is counted from 0, in the order of the rows.
+    pub fn data(&self, column: u64) -> &ColumnData<A>
+        requires { column < length self.now.columns }
+        ensures data_type { type_of result.now ≡ get_or (types_of self.now.columns) column Bigint }
+        ensures cells { cells_of result.now ≡ map (λ row. cell row column) self.now.rows }
+    {
+        self.rows.data(column as usize)
     }
 }
 

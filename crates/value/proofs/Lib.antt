@@ -1,6 +1,7 @@
 pub mod Cells
 pub mod DatumOrder
 pub mod DigitValue
+pub mod NoUtf8
 pub mod OneSpelling
 pub mod ReadBack
 pub mod Spelling

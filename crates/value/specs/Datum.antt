@@ -1,10 +1,12 @@
 -- Values as spec data.
-use Rattle.std.specs.Prelude.{ℕ, ℤ, Bool, List, [], map, slice_index_or, Result, Ok, Err}
+use Rattle.std.specs.Prelude.{ℕ, ℤ, Bool, List, [], map, slice_index_or, Option, None, Some, Result, Ok, Err}
 use Rattle.std.specs.Cow.{cow_str_bytes}
 use Rattle.value.specs.declared.types.Value.{Value}
 use Rattle.value.specs.declared.types.Value.TheVariants as owned
 use Rattle.value.specs.declared.types.Val.{Val}
 use Rattle.value.specs.declared.types.Val.TheVariants as lent
+use Rattle.value.specs.declared.types.Lent.{Lent}
+use Rattle.value.specs.declared.types.Lent.TheVariants.{Int, Text, Bool as Truth}
 
 -- null, a whole number, the bytes of a text, or a truth value
 pub data Datum : Type 0 where
@@ -38,6 +40,16 @@ datum_of lent.Null = null
 datum_of (lent.Int n) = int n
 datum_of (lent.Text s) = text (cow_str_bytes s)
 datum_of (lent.Bool b) = bool b
+
+-- the view of a value that is lent and not null, and of one that is null where there is none
+abbrev pub lent_datum : Lent → Datum
+lent_datum (Int n) = int n
+lent_datum (Text t) = text t.now
+lent_datum (Truth b) = bool b
+
+abbrev pub null_or : Option Lent → Datum
+null_or None = null
+null_or (Some v) = lent_datum v
 
 abbrev pub row_of : {A : Type 0} → List (Value A) → Row
 row_of values = map datum values

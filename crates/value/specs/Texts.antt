@@ -2,7 +2,7 @@
 use Rattle.std.specs.Fmt.{signed_decimal}
 use Rattle.std.specs.Prelude.{◌≡◌, ◌≢◌, ℕ, ℤ, pos, neg_ℤ, Bool, true, false, not, ◌&&◌, ◌==◌, if◌then◌else◌, List, [], ◌∷◌, codes, Option, Some, None, Result, Ok, Err}
 use Rattle.std.specs.List.{list_all}
-use Rattle.std.specs.Str.{bytes_eq}
+use Rattle.std.specs.Str.{bytes_eq, is_utf8}
 use Rattle.std.specs.Char.{is_ascii_digit}
 use Rattle.std.specs.Str.Parse.{digits_value}
 use Rattle.value.specs.declared.types.FaultKind.{FaultKind}
@@ -48,6 +48,10 @@ abbrev pub value_at : ColType → List ℕ → Result Datum FaultKind
 value_at types.Bigint t = as_number (bigint_at t)
 value_at types.Text t = Ok (text t)
 value_at types.Boolean t = boolean_at t
+
+-- the value of a type that bytes spell; bytes that are no UTF-8 spell none
+abbrev pub value_in : ColType → List ℕ → Result Datum FaultKind
+value_in kind t = if is_utf8 t then value_at kind t else Err BadText
 
 -- the field that means null: a backslash and N
 abbrev pub null_mark : List ℕ

@@ -23,7 +23,7 @@ pub fn cast<'a, A: Heap>(
     ensures memory { result ≡ Err Failure.OutOfMemory → to ≡ ColType.Text }
 {
     match (to, value) {
-        (ColType::Bigint, Val::Text(text)) => match read_bigint(text.as_str()) {
+        (ColType::Bigint, Val::Text(text)) => match read_bigint(text.as_str().as_bytes()) {
             Ok(n) => Ok(Val::Int(n)),
             Err(kind) => Err(Failure::Error(kind)),
         },

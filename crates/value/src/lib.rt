@@ -23,5 +23,5 @@ pub use order::{Truth, cmp_rows, cmp_values, eq3, law_sorted_rows, lt3, sort_row
 pub use reading::{law_one_spelling, read_bigint, read_value};
 pub use refusal::Refusal;
 pub use truth::{and3, as_condition, not3, of_truth, or3};
-pub use types::{ColType, FaultKind, Val, Value};
+pub use types::{ColType, FaultKind, Lent, Val, Value};
 pub use writing::{law_texts_read_back, text_of};

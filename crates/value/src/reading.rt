@@ -3,13 +3,14 @@
 ghost use Rattle.std.specs.Prelude.{◌≡◌};
 ghost use Rattle.std.specs.List.{list_all};
 ghost use Rattle.std.specs.Char.{is_ascii_digit};
-ghost use Rattle.memory.specs.Gives.{Gives};
-ghost use Rattle.value.specs.Datum.{datum};
-ghost use Rattle.value.specs.Texts.{is_positive, is_spelled, bigint_at, value_at, ReadAgain, OneSpelling};
+ghost use Rattle.value.specs.Datum.{datums_of};
+ghost use Rattle.value.specs.Texts.{is_positive, is_spelled, bigint_at, boolean_at, value_in, ReadAgain, OneSpelling};
 
 use crate::digits::few_spelled;
-use crate::types::{ColType, FaultKind, Value};
-use memory::{Failure, Heap, Text};
+use crate::types::{ColType, FaultKind, Val};
+use memory::Heap;
+use std::borrow::CowStr;
+use std::str;
 
 fn are_digits(text: &[u8]) -> bool
     ensures { result ≡ list_all is_ascii_digit text.now }
@@ -55,18 +56,28 @@ fn any_bigint(text: &str) -> Result<i64, FaultKind>
     }
 }
 
-/// The bigint that a text spells: `0`, or an optional minus and digits that do not start with 0. One of at most 18 bytes is
-/// read in one pass.
-pub fn read_bigint(text: &str) -> Result<i64, FaultKind>
+// The bigint that bytes of any length spell; bytes that are no UTF-8 spell none.
+fn bigint_of_bytes(text: &[u8]) -> Result<i64, FaultKind>
+    ensures { result ≡ bigint_at text.now }
+{
+    match str::from_utf8(text) {
+        Ok(text) => any_bigint(text),
+        Err(_) => Err(FaultKind::BadText),
+    }
+}
+
+/// The bigint that bytes spell: `0`, or an optional minus and digits that do not start with 0. At most 18 bytes are read in
+/// one pass.
+pub fn read_bigint(text: &[u8]) -> Result<i64, FaultKind>
     ensures { result ≡ bigint_at text.now }
 {
     if text.len() > 18 {
-        return any_bigint(text);
+        return bigint_of_bytes(text);
     }
-    match few_spelled(text.as_bytes()) {
+    match few_spelled(text) {
         Some(n) => Ok(n),
         None => {
-            if text == "0" {
+            if text == b"0".as_slice() {
                 Ok(0)
             } else {
                 Err(FaultKind::BadText)
@@ -75,32 +86,38 @@ pub fn read_bigint(text: &str) -> Result<i64, FaultKind>
     }
 }
 
-fn read_boolean<A: Heap>(text: &str) -> Result<Value<A>, Failure<FaultKind>>
-    ensures { Gives datum result (value_at ColType.Boolean text.now) }
+fn read_boolean<'t, A: Heap>(text: &[u8]) -> Result<Val<'t, A>, FaultKind>
+    ensures { datums_of result ≡ boolean_at text.now }
 {
-    if text == "t" {
-        Ok(Value::Bool(true))
-    } else if text == "f" {
-        Ok(Value::Bool(false))
+    if text == b"t".as_slice() {
+        Ok(Val::Bool(true))
+    } else if text == b"f".as_slice() {
+        Ok(Val::Bool(false))
     } else {
-        Err(Failure::Error(FaultKind::BadText))
+        Err(FaultKind::BadText)
     }
 }
 
-/// The value of a type that a text spells: a bigint, `t` or `f`, or the text itself.
-pub fn read_value<A: Heap>(
-    alloc: A,
-    kind: ColType,
-    text: &str,
-) -> Result<Value<A>, Failure<FaultKind>>
-    ensures { Gives datum result (value_at kind text.now) }
+fn read_text<'t, A: Heap>(text: &'t [u8]) -> Result<Val<'t, A>, FaultKind>
+    ensures { datums_of result ≡ value_in ColType.Text text.now }
+{
+    match str::from_utf8(text) {
+        Ok(text) => Ok(Val::Text(CowStr::Borrowed(text))),
+        Err(_) => Err(FaultKind::BadText),
+    }
+}
+
+/// The value of a type that bytes spell: a bigint, `t` or `f`, or the text itself, which is lent. Bytes that are no UTF-8
+/// spell none.
+pub fn read_value<'t, A: Heap>(kind: ColType, text: &'t [u8]) -> Result<Val<'t, A>, FaultKind>
+    ensures { datums_of result ≡ value_in kind text.now }
 {
     match kind {
         ColType::Bigint => match read_bigint(text) {
-            Ok(n) => Ok(Value::Int(n)),
-            Err(kind) => Err(Failure::Error(kind)),
+            Ok(n) => Ok(Val::Int(n)),
+            Err(kind) => Err(kind),
         },
-        ColType::Text => Ok(Value::Text(Text::new(alloc, text)?)),
+        ColType::Text => read_text(text),
         ColType::Boolean => read_boolean(text),
     }
 }

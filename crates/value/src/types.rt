@@ -30,6 +30,17 @@ pub enum Val<'a, A: Heap> {
     Bool(bool),
 }
 
+/// A value that is not null, with its text lent.
+#[derive(Clone, Copy, Debug, PartialEq, Eq, Hash)]
+pub enum Lent<'t> {
+    /// A signed number of 64 bits.
+    Int(i64),
+    /// A text in UTF-8.
+    Text(&'t str),
+    /// A truth value.
+    Bool(bool),
+}
+
 /// The type of a column (PostgreSQL: Data Types).
 #[derive(Clone, Copy, Debug, PartialEq, Eq)]
 pub enum ColType {
@@ -81,9 +92,21 @@ impl<A: Heap> Value<A> {
     }
 }
 
-impl<A: Heap> Val<'_, A> {
+impl<'t, A: Heap> Val<'t, A> {
     ghost use Rattle.std.specs.Prelude.{◌≡◌, IfOk};
-    ghost use Rattle.value.specs.Datum.{datum, datum_of};
+    ghost use Rattle.value.specs.Datum.{datum, datum_of, null_or};
+
+    /// The value that is lent, or null.
+    pub fn of(value: Option<Lent<'t>>) -> Val<'t, A>
+        ensures { datum_of result ≡ null_or value.entry }
+    {
+        match value {
+            None => Val::Null,
+            Some(Lent::Int(n)) => Val::Int(n),
+            Some(Lent::Text(text)) => Val::Text(CowStr::Borrowed(text)),
+            Some(Lent::Bool(b)) => Val::Bool(b),
+        }
+    }
 
     /// The same value in memory of its own.
     pub fn to_value(&self, alloc: A) -> Result<Value<A>, AllocError>

@@ -16,4 +16,4 @@ pub loop-key-preserved : goal.loop-key-preserved
 loop-key-preserved g c =
     let step : c.loop-key.key-iterator ≡ (c.in-Some.key, c.in-Some.totals) ∷ c.next.new.self = c.in-Some.ensures.steps in
     stage_next (λ r. group_row_of r) _ _ c.loop-key.stage c.add.new.self _ _ _ (ap (λ es. map (λ r. gives (finished_row (aggregate_calls_of c.args.calls.now) r)) (running_in es)) step)
-    (rw c.gives.ensures (gives_some (λ r. group_row_of r) _ _ (rw c.as_slice.ensures.value at c.row_of_group.ensures))) c.in_ok-add.ensures c.loop-key.invariant
+    (rw c.gives.ensures (gives_some (λ r. group_row_of r) _ _ (rw c.as_slice.ensures.value at c.row_of_group.ensures))) c.in_ok-add.ensures.added c.loop-key.invariant

@@ -3,7 +3,8 @@ use Rattle.std.proofs.lemmas.List.{append-nil, at_drop_all}
 use Rattle.std.proofs.lemmas.Result.{err_from_is_err_and}
 use Rattle.value.specs.Datum.{datum_of}
 use Rattle.expr.specs.View.{aggregate_calls_of}
-use Rattle.stages.proofs.Walks.{next, done_then, done_nothing, fails_here}
+use Rattle.memory.proofs.Each.{after, after_nothing}
+use Rattle.stages.proofs.Walks.{next, fails_here}
 use Rattle.groups.specs.Members.{arguments}
 use Rattle.groups.specs.View.{lent_row}
 use Rattle.groups.proofs.Putting.{put_step}
@@ -11,13 +12,13 @@ use Rattle.groups.proofs.members.arguments_on.Goals as goal
 
 pub loop-call-init : goal.loop-call-init
 loop-call-init g c =
-    ap (λ l. done_then (lent_row l) (arguments (g.R.Row.cells c.args.row.now) c.args.role.now (aggregate_calls_of c.args.calls.now))) c.new-values.ensures ∙ done_nothing _
+    ap (λ l. after (lent_row l) (arguments (g.R.Row.cells c.args.row.now) c.args.role.now (aggregate_calls_of c.args.calls.now))) c.new-values.ensures ∙ after_nothing _
 
 pub returns-in_err-argument_on : goal.returns-in_err-argument_on
 returns-in_err-argument_on g c =
     let values = arguments (g.R.Row.cells c.args.row.now) c.args.role.now in
     let first = next c.args.calls.now c.loop-call.call-index c.call-item.result c.loop-call-test.true c.call-item.is in
-    let is = ap (λ l. done_then (lent_row c.loop-call.values) (values (aggregate_calls_of l))) (sym first) ∙ c.loop-call.invariant in
+    let is = ap (λ l. after (lent_row c.loop-call.values) (values (aggregate_calls_of l))) (sym first) ∙ c.loop-call.invariant in
     let fails = fails_here (lent_row c.loop-call.values) _ _ _ _ c.in_err-argument_on.ensures is in
     let p = err_from_is_err_and c.from_residual.result c.from_residual.ensures.1 in
     rw (p.1, p.2) fails
@@ -34,4 +35,4 @@ loop-call-preserved g c =
 
 pub returns : goal.returns
 returns g c =
-    sym c.loop-call.invariant ∙ at_drop_all (λ l. done_then (lent_row c.loop-call.values) (arguments (g.R.Row.cells c.args.row.now) c.args.role.now (aggregate_calls_of l))) c.args.calls.now c.loop-call.call-index (omega arith) ∙ ap Ok (append-nil _)
+    sym c.loop-call.invariant ∙ at_drop_all (λ l. after (lent_row c.loop-call.values) (arguments (g.R.Row.cells c.args.row.now) c.args.role.now (aggregate_calls_of l))) c.args.calls.now c.loop-call.call-index (omega arith) ∙ ap Ok (append-nil _)

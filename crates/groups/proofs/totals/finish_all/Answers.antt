@@ -3,7 +3,7 @@ use Rattle.std.proofs.lemmas.List.{append-nil}
 use Rattle.std.proofs.lemmas.Slice.Zip.{Zip-more, either_empty_from_Zip}
 use Rattle.value.specs.Datum.{datum, row_of}
 use Rattle.expr.specs.View.{aggregate_calls_of}
-use Rattle.stages.proofs.Walks.{done_then}
+use Rattle.memory.proofs.Each.{after}
 use Rattle.groups.specs.Running.{all_finished}
 use Rattle.groups.specs.View.{totals_of}
 use Rattle.groups.proofs.Cells.{either_map}
@@ -19,4 +19,4 @@ loop-call-preserved g c =
 pub returns : goal.returns
 returns g c =
     let ended = either_map (λ xs. aggregate_calls_of xs) (λ ys. totals_of ys) refl refl _ _ (either_empty_from_Zip c.loop-call.call-iterator c.next.new.self _ c.in-None.is c.next.ensures.steps) in
-    sym c.loop-call.invariant ∙ ap (done_then (row_of c.loop-call.values)) (none_finished _ _ ended) ∙ ap Ok (append-nil _)
+    sym c.loop-call.invariant ∙ ap (after (row_of c.loop-call.values)) (none_finished _ _ ended) ∙ ap Ok (append-nil _)

@@ -16,4 +16,4 @@ returns g c =
     let due = member_on (joined_cells (combination_at (world_of c.args.world.now).tables c.args.combination.now)) c.args.world.now.role.now q.group_by (query_aggregates q) in
     let given : Gives (λ m. member_of m) c.member_on-member.result due = search rules in
     taken (query_aggregates q) c.member_on-member.result due c.args.groups.now c.add.new.self given
-    (subst (λ calls. TakesOutcome calls c.member_on-member.result c.args.groups.now c.add.new.self) c.requires.calls c.in_ok-add.ensures)
+    (subst (λ calls. TakesOutcome calls c.member_on-member.result c.args.groups.now c.add.new.self) c.requires.calls c.in_ok-add.ensures.taken)

@@ -14,7 +14,7 @@ pub loop-group-preserved : goal.loop-group-preserved
 loop-group-preserved g c =
     let first = next c.args.groups.now c.loop-group.group-index c.group-item.result c.loop-group-test.true c.group-item.is in
     stage_next (λ h. group_row_of h.now) _ _ _ _ _ _ _ (ap (λ l. map (having_fate c.args.world.now.role.now (world_of c.args.world.now).query) (map (λ h. group_row_of h) l)) first)
-    c.having_fate.ensures c.in_ok-add.ensures c.loop-group.invariant
+    c.having_fate.ensures c.in_ok-add.ensures.added c.loop-group.invariant
 
 pub returns-in_err-add : goal.returns-in_err-add
 returns-in_err-add g c =

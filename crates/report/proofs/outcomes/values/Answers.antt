@@ -6,24 +6,25 @@ use Rattle.value.specs.declared.types.Value.{Value}
 use Rattle.value.specs.declared.faults.Fault.{Fault}
 use Rattle.expr.specs.View.{bound_item_of}
 use Rattle.memory.specs.Results.{first_then}
-use Rattle.stages.proofs.Walks.{next, done_then, done_nothing, put_next, fails_here}
+use Rattle.memory.proofs.Each.{after, after_nothing}
+use Rattle.stages.proofs.Walks.{next, put_next, fails_here}
 use Rattle.report.specs.QueryStages.{values_of}
 use Rattle.report.proofs.outcomes.values.Goals as goal
 
 -- a value is put: the part that is done, and then the rest, is still the whole
-put_step : {A : Type 0} (done new : List (Value A)) (v : Value A) (o : Result Datum Fault) (rest here whole : Result (List Datum) Fault) → here ≡ first_then o rest → done_then (row_of done) here ≡ whole → o ≡ Ok (datum v) → new ≡ done ++ v ∷ [] → done_then (row_of new) rest ≡ whole
+put_step : {A : Type 0} (done new : List (Value A)) (v : Value A) (o : Result Datum Fault) (rest here whole : Result (List Datum) Fault) → here ≡ first_then o rest → after (row_of done) here ≡ whole → o ≡ Ok (datum v) → new ≡ done ++ v ∷ [] → after (row_of new) rest ≡ whole
 put_step done new v o rest here whole is so_far given pushed =
-    ap (λ l. done_then (row_of l) rest) pushed ∙ put_next done v rest ∙ ap (λ x. done_then (row_of done) (first_then x rest)) (sym given) ∙ ap (done_then (row_of done)) (sym is) ∙ so_far
+    ap (λ l. after (row_of l) rest) pushed ∙ put_next done v rest ∙ ap (λ x. after (row_of done) (first_then x rest)) (sym given) ∙ ap (after (row_of done)) (sym is) ∙ so_far
 
 pub loop-item-init : goal.loop-item-init
 loop-item-init g c =
-    ap (λ l. done_then (row_of l) (values_of (g.R.Row.cells c.args.row.now) c.args.role.now (map bound_item_of c.args.items.now))) c.new-values.ensures ∙ done_nothing _
+    ap (λ l. after (row_of l) (values_of (g.R.Row.cells c.args.row.now) c.args.role.now (map bound_item_of c.args.items.now))) c.new-values.ensures ∙ after_nothing _
 
 pub returns-in_err-item_on : goal.returns-in_err-item_on
 returns-in_err-item_on g c =
     let values = values_of (g.R.Row.cells c.args.row.now) c.args.role.now in
     let first = next c.args.items.now c.loop-item.item-index c.item-item.result c.loop-item-test.true c.item-item.is in
-    let is = ap (λ l. done_then (row_of c.loop-item.values) (values (map bound_item_of l))) (sym first) ∙ c.loop-item.invariant in
+    let is = ap (λ l. after (row_of c.loop-item.values) (values (map bound_item_of l))) (sym first) ∙ c.loop-item.invariant in
     let fails = fails_here (row_of c.loop-item.values) _ _ _ _ c.in_err-item_on.ensures is in
     let p = err_from_is_err_and c.from_residual.result c.from_residual.ensures.1 in
     rw (p.1, p.2) fails
@@ -40,4 +41,4 @@ loop-item-preserved g c =
 
 pub returns : goal.returns
 returns g c =
-    sym c.loop-item.invariant ∙ at_drop_all (λ l. done_then (row_of c.loop-item.values) (values_of (g.R.Row.cells c.args.row.now) c.args.role.now (map bound_item_of l))) c.args.items.now c.loop-item.item-index (omega arith) ∙ ap Ok (append-nil _)
+    sym c.loop-item.invariant ∙ at_drop_all (λ l. after (row_of c.loop-item.values) (values_of (g.R.Row.cells c.args.row.now) c.args.role.now (map bound_item_of l))) c.args.items.now c.loop-item.item-index (omega arith) ∙ ap Ok (append-nil _)

@@ -13,4 +13,4 @@ pub loop-combination-preserved : goal.loop-combination-preserved
 loop-combination-preserved g c =
     let first = next c.args.combos.now c.loop-combination.combination-index c.combination-item.result c.loop-combination-test.true c.combination-item.is in
     stage_next (λ d. combination_at (world_of c.args.world.now).tables d.now) _ _ _ _ _ _ _ (ap (λ l. map (where_fate c.args.world.now.role.now (world_of c.args.world.now).query) (map (combination_at (world_of c.args.world.now).tables) l)) first)
-    c.where_fate.ensures c.in_ok-add.ensures c.loop-combination.invariant
+    c.where_fate.ensures c.in_ok-add.ensures.added c.loop-combination.invariant

@@ -13,7 +13,6 @@ use Rattle.tables.specs.declared.LoadError.TheVariants as error
 use Rattle.tables.specs.Loading.{Fields, is_fault, load_of, names, reported}
 use Rattle.tables.specs.Reading.{HeaderIs, Refuses}
 use Rattle.tables.proofs.Follow.{refuses_unread}
-use Rattle.tables.proofs.load.read_header.Goals.{else-branch-via-then-branch+else-has_names, else-branch-via-else-branch}
 use Rattle.tables.proofs.load.read_header.Goals as goal
 
 -- a header that was not read is no error of the records
@@ -80,25 +79,3 @@ pub returns-then-has_names-clause-header : goal.returns-then-has_names-clause-he
 returns-then-has_names-clause-header g c =
     let gives = rw c.if-branch.true at c.in_ok-next_record.ensures.gives in
     (fields_of c.next_record.new.cells, sym c.has_names.ensures.names ∙ c.if-has_names.true, gives.0)
-
-pub returns-clause-expected : goal.returns-clause-expected
-returns-clause-expected g c = tt
-
-pub returns-clause-given : goal.returns-clause-given
-returns-clause-given g c = tt
-
-pub returns-clause-fresh : goal.returns-clause-fresh
-returns-clause-fresh g c = tt
-
-pub returns-clause-failed : goal.returns-clause-failed
-returns-clause-failed g c = rw (c.in_ok-next_record.ensures.goes_on ∙ c.requires.fresh) tt
-
-pub returns-clause-header : goal.returns-clause-header
-returns-clause-header g c =
-    let cols = map column_of c.args.columns.now in (
-      λ _. elim c.else-branch.branch [
-        | else-branch-via-then-branch+else-has_names w ↦ no_names cols c.args.records.now.records c.next_record.new.records.records (fields_of c.next_record.new.cells) (rw w.if-branch.true at c.in_ok-next_record.ensures.gives).0 (sym w.has_names.ensures.names ∙ w.if-has_names.false)
-        | else-branch-via-else-branch w ↦ no_first cols c.args.records.now.records c.next_record.new.records.records (fields_of c.next_record.new.cells) (rw w.if-branch.false at c.in_ok-next_record.ensures.gives).0
-      ],
-      λ row is. cc is,
-    )

@@ -3,7 +3,7 @@ use Rattle.std.proofs.lemmas.List.{get_or-map, length-map}
 use Rattle.value.specs.Datum.{Datum, null}
 use Rattle.columns.specs.Data.{cells_of, type_of}
 use Rattle.columns.specs.Rows.{TypedRows, row_across}
-use Rattle.columns.proofs.Growth.{length-rows, row_in, item_is}
+use Rattle.columns.proofs.Growth.{length-rows, row_in, item_is, hold_long}
 use Rattle.columns.proofs.rows.Rows.cell.Goals as goal
 
 pub get-requires : goal.get-requires
@@ -17,7 +17,7 @@ get-requires g c =
       ap (λ (t : TypedRows). length t.rows) c.self.view_is,
       length-rows (map cells_of xs) 0 n,
       ap length (item_is cells_of xs c.args.column c.index.result.now [] within c.index.ensures),
-      c.self.invariant c.args.column [] (omega (arith, length-map xs cells_of)),
+      hold_long n c.self.inside.started (map cells_of xs) c.self.invariant c.args.column [] (omega (arith, length-map xs cells_of)),
     )
 
 pub returns : goal.returns

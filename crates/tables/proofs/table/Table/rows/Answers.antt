@@ -1,5 +1,5 @@
-use Rattle.tables.proofs.Wide.{wide_data}
+use Rattle.tables.proofs.Wide.{wide_rows}
 use Rattle.tables.proofs.table.Table.rows.Goals as goal
 
 pub returns-clause-wide : goal.returns-clause-wide
-returns-clause-wide g c = rw (← c.self.view_is) (wide_data c.self.inside.columns c.self.inside.rows.items c.self.invariant.0)
+returns-clause-wide g c = wide_rows c.self.inside.columns c.self.inside.rows.rows c.args.self.now c.self.view_is c.self.invariant.wide
