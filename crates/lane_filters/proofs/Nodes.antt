@@ -1,8 +1,8 @@
 -- What conditions give on each row, by what their parts give.
-use Rattle.std.proofs.Common.{◌≡◌, ℕ, Bool, true, false, List, [], ◌∷◌, map, length, replicate, Result, Ok, Err, refl, sym, ap, ◌∙◌, arith}
+use Rattle.std.proofs.Common.{◌≡◌, ℕ, Bool, List, [], ◌∷◌, map, length, replicate, Result, Ok, Err, refl, sym, ap, ◌∙◌}
 use Rattle.std.specs.Simd.Lanes.{zip2}
 use Rattle.std.proofs.lemmas.Simd.{splat_is_map}
-use Rattle.value.specs.Datum.{Datum, null, int, Row, cell}
+use Rattle.value.specs.Datum.{Datum, Row, cell}
 use Rattle.value.specs.Names.{Name}
 use Rattle.value.specs.Conditions.{truth_at, at_truth}
 use Rattle.value.specs.Truths.{least, greatest, negated}

@@ -6,7 +6,6 @@ use Rattle.std.proofs.lemmas.List.{get_or_past, get_or-map, get_or-replicate, le
 use Rattle.std.proofs.lemmas.Nat.Bits.{bit_at-zero}
 use Rattle.std.proofs.Math.ListN.{drop_of_length-le}
 use Rattle.value.specs.Datum.{Datum, null, int, text, bool}
-use Rattle.std.specs.Simd.Lanes.{zip2}
 use Rattle.std.proofs.lemmas.Simd.{length-zip2}
 use Rattle.value.specs.Orders.{is_true, is_unknown}
 use Rattle.value.specs.Truths.{negated}

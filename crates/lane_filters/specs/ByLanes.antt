@@ -1,6 +1,6 @@
 -- The conditions that are evaluated for all rows of a table at once, by the types of its columns.
-use Rattle.std.specs.Prelude.{ℕ, nat_lt, Bool, true, false, ◌&&◌, List, length, get_or}
-use Rattle.value.specs.Datum.{null, int, text, bool}
+use Rattle.std.specs.Prelude.{nat_lt, Bool, true, false, ◌&&◌, List, length, get_or}
+use Rattle.value.specs.Datum.{int}
 use Rattle.value.specs.declared.types.ColType.{ColType}
 use Rattle.value.specs.declared.types.ColType.TheVariants.{Bigint, Text, Boolean}
 use Rattle.expr.specs.Bound.{BoundExpr, Column, Literal, CurrentUser, Negate, Arithmetic, Comparison, Between, In, IsNull, Not, And, Or, Cast, Case, CountStar, Call, BoundExprs, no_expr, one_expr}
@@ -12,7 +12,7 @@ is_bigint Boolean = false
 
 -- a column of type bigint, or a bigint literal
 abbrev pub is_number : List ColType → BoundExpr → Bool
-is_number types (Column id) = nat_lt id.column (length types) && is_bigint (get_or types id.column Boolean)
+is_number types (Column id) = nat_lt id.column (length types) && is_bigint (get_or types id.column Bigint)
 is_number types (Literal (int n)) = true
 is_number types _ = false
 

@@ -5,6 +5,7 @@
 mod filters;
 mod leaves;
 mod operand;
+mod sizes;
 mod truths;
 
 pub use filters::truths_of;

@@ -64,7 +64,7 @@ impl<A: Heap> Truths<A> {
     }
 
     /// As many that are all true, or all false.
-    pub(crate) fn all(alloc: A, len: usize, truth: bool) -> Result<Truths<A>, AllocError>
+    pub fn all(alloc: A, len: usize, truth: bool) -> Result<Truths<A>, AllocError>
         ensures { IfOk result (λ t. t ≡ replicate len (of_bool truth)) }
     {
         let mut truths = Truths::all_false(alloc, len)?;
@@ -151,12 +151,7 @@ impl<A: Heap> Truths<A> {
         requires { length other.now ≡ length self.old }
         ensures { self.new ≡ zip2 least self.old other.now }
     {
-        and_masks(
-            &mut self.trues,
-            &mut self.nulls,
-            &other.trues,
-            &other.nulls,
-        );
+        and_masks(&mut self.trues, &mut self.nulls, &other.trues, &other.nulls);
     }
 
     /// OR with those of other conditions on the same rows.
@@ -164,12 +159,7 @@ impl<A: Heap> Truths<A> {
         requires { length other.now ≡ length self.old }
         ensures { self.new ≡ zip2 greatest self.old other.now }
     {
-        or_masks(
-            &mut self.trues,
-            &mut self.nulls,
-            &other.trues,
-            &other.nulls,
-        );
+        or_masks(&mut self.trues, &mut self.nulls, &other.trues, &other.nulls);
     }
 
     /// True where the condition is true on the row of this number: neither false nor null.

@@ -1,3 +1,4 @@
 pub mod Bags
 pub mod Cutting
 pub mod Scans
+pub mod Splitting

@@ -3,6 +3,7 @@
 
 mod entry_rows;
 mod index_scan;
+mod lane_rows;
 mod listed;
 mod range;
 mod rows;
@@ -11,6 +12,7 @@ mod source;
 
 pub use entry_rows::EntryRows;
 pub use index_scan::IndexScan;
+pub use lane_rows::LaneRows;
 pub use listed::Listed;
 pub use range::{Bound, range_of};
 pub use rows::Rows;

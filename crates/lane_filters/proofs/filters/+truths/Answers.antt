@@ -1,6 +1,5 @@
-use Rattle.std.proofs.Common.{◌≡◌, ℕ, ◌-◌, ◌<◌, ◌≤◌, Bool, true, false, List, [], length, drop, map, replicate, Ok, IfOk, IfSome, refl, sym, ap, subst, ◌∙◌, arith}
+use Rattle.std.proofs.Common.{◌≡◌, ℕ, ◌-◌, List, [], length, drop, map, replicate, Ok, IfOk, IfSome, sym, ap, subst, ◌∙◌, arith}
 use Rattle.std.specs.Option.{is_some}
-use Rattle.value.specs.Truths.{negated}
 use Rattle.value.specs.declared.order.Truth.{Truth}
 use Rattle.value.specs.declared.order.Truth.TheVariants.{False, True}
 use Rattle.expr.specs.Bound as bound
@@ -10,6 +9,7 @@ use Rattle.expr.proofs.Operands.{not_is}
 use Rattle.expr.proofs.Walks.{and_is, exprs_over, or_is}
 use Rattle.eval.specs.Meaning.{conjunction, disjunction}
 use Rattle.tuples.specs.Rows.{cells_of}
+use Rattle.columns.specs.Rows.{types_of}
 use Rattle.lane_filters.specs.ByLanes.{all_by_lanes}
 use Rattle.lane_filters.specs.Outcomes.{AreTruths}
 use Rattle.lane_filters.proofs.Members.{member_lighter, member_step, one_more, one_not, weaker}
@@ -22,12 +22,12 @@ use Rattle.lane_filters.proofs.filters.+truths.Goals as goal
 pub conjunction-loop-left-init : goal.conjunction-loop-left-init
 conjunction-loop-left-init g t c =
     let es = c.args.members.now in
-    let rows = c.args.rows.now.rows in
+    let rows = c.args.table.now.rows in
     let over : bound_exprs (drop (length es) es) ≡ bound.no_expr = exprs_over es (length es) (omega arith) in
     record {
       within = omega arith;
-      exact = ap (all_by_lanes c.args.rows.now.types) over;
-      known = λ role. no_conjunct role rows (bound_exprs (drop (length es) es)) over ∙ ap (map Ok) (sym (c.in_ok-known.ensures ∙ ap (λ (n : ℕ). replicate n True) c.len.ensures));
+      exact = ap (all_by_lanes (types_of c.args.table.now.columns)) over;
+      known = λ role. no_conjunct role rows (bound_exprs (drop (length es) es)) over ∙ ap (map Ok) (sym (c.in_ok-known.ensures ∙ ap (λ (n : ℕ). replicate n True) c.row_count.ensures));
     }
 
 pub conjunction-truths_of-requires : goal.conjunction-truths_of-requires
@@ -37,13 +37,13 @@ conjunction-truths_of-requires g t c κs within =
 
 pub conjunction-returns-in_default-clause-exact : goal.conjunction-returns-in_default-clause-exact
 conjunction-returns-in_default-clause-exact g t c =
-    one_not c.args.members.now c.loop-left.left c.index-members-left.result c.loop-left-test.true c.loop-left.invariant.within c.index-members-left.is c.args.rows.now.types
+    one_not c.args.members.now c.loop-left.left c.index-members-left.result c.loop-left-test.true c.loop-left.invariant.within c.index-members-left.is (types_of c.args.table.now.columns)
     (sym (ap is_some c.in_default.is) ∙ c.in_ok-truths.ensures.exact)
 
 pub conjunction-and-requires : goal.conjunction-and-requires
 conjunction-and-requires g t c =
     let es = c.args.members.now in
-    let rows = c.args.rows.now.rows in
+    let rows = c.args.table.now.rows in
     let truths = rw c.in-Some.is at (c.in_ok-truths.ensures.truths []) in
     as_many (λ row. conjunction (cells_of row) [] (bound_exprs (drop c.loop-left.left es))) rows c.loop-left.known (c.loop-left.invariant.known [])
     ∙ sym (as_many_truths [] rows (bound_expr_of c.index-members-left.result) c.in-Some.truths truths)
@@ -51,12 +51,12 @@ conjunction-and-requires g t c =
 pub conjunction-loop-left-preserved : goal.conjunction-loop-left-preserved
 conjunction-loop-left-preserved g t c =
     let es = c.args.members.now in
-    let rows = c.args.rows.now.rows in
+    let rows = c.args.table.now.rows in
     let left = c.loop-left.left in
     let e = c.index-members-left.result in
     record {
       within = omega (arith, c.loop-left.invariant.within);
-      exact = one_more es left e c.loop-left-test.true c.loop-left.invariant.within c.index-members-left.is c.args.rows.now.types c.loop-left.invariant.exact (sym (ap is_some c.in-Some.is) ∙ c.in_ok-truths.ensures.exact);
+      exact = one_more es left e c.loop-left-test.true c.loop-left.invariant.within c.index-members-left.is (types_of c.args.table.now.columns) c.loop-left.invariant.exact (sym (ap is_some c.in-Some.is) ∙ c.in_ok-truths.ensures.exact);
       known = λ role.
           let truths = rw c.in-Some.is at (c.in_ok-truths.ensures.truths role) in
           one_conjunct role rows (bound_expr_of e) (bound_exprs (drop left es)) (bound_exprs (drop (left - 1) es)) c.in-Some.truths c.loop-left.known
@@ -66,24 +66,24 @@ conjunction-loop-left-preserved g t c =
 pub conjunction-returns-clause-exact : goal.conjunction-returns-clause-exact
 conjunction-returns-clause-exact g t c =
     let over : c.loop-left.left ≡ 0 = omega (arith, c.loop-left-test.false) in
-    sym (sym (ap (λ (k : ℕ). all_by_lanes c.args.rows.now.types (bound_exprs (drop k c.args.members.now))) over) ∙ c.loop-left.invariant.exact)
+    sym (sym (ap (λ (k : ℕ). all_by_lanes (types_of c.args.table.now.columns) (bound_exprs (drop k c.args.members.now))) over) ∙ c.loop-left.invariant.exact)
 
 pub conjunction-returns-clause-truths : goal.conjunction-returns-clause-truths
 conjunction-returns-clause-truths g t c = λ role.
     let over : c.loop-left.left ≡ 0 = omega (arith, c.loop-left-test.false) in
-    sym (ap (λ (k : ℕ). map (λ row. conjunction (cells_of row) role (bound_exprs (drop k c.args.members.now))) c.args.rows.now.rows) over) ∙ c.loop-left.invariant.known role
+    sym (ap (λ (k : ℕ). map (λ row. conjunction (cells_of row) role (bound_exprs (drop k c.args.members.now))) c.args.table.now.rows) over) ∙ c.loop-left.invariant.known role
 
 -- ---- OR
 
 pub disjunction-loop-left-init : goal.disjunction-loop-left-init
 disjunction-loop-left-init g t c =
     let es = c.args.members.now in
-    let rows = c.args.rows.now.rows in
+    let rows = c.args.table.now.rows in
     let over : bound_exprs (drop (length es) es) ≡ bound.no_expr = exprs_over es (length es) (omega arith) in
     record {
       within = omega arith;
-      exact = ap (all_by_lanes c.args.rows.now.types) over;
-      known = λ role. no_disjunct role rows (bound_exprs (drop (length es) es)) over ∙ ap (map Ok) (sym (c.in_ok-known.ensures ∙ ap (λ (n : ℕ). replicate n False) c.len.ensures));
+      exact = ap (all_by_lanes (types_of c.args.table.now.columns)) over;
+      known = λ role. no_disjunct role rows (bound_exprs (drop (length es) es)) over ∙ ap (map Ok) (sym (c.in_ok-known.ensures ∙ ap (λ (n : ℕ). replicate n False) c.row_count.ensures));
     }
 
 pub disjunction-truths_of-requires : goal.disjunction-truths_of-requires
@@ -93,13 +93,13 @@ disjunction-truths_of-requires g t c κs within =
 
 pub disjunction-returns-in_default-clause-exact : goal.disjunction-returns-in_default-clause-exact
 disjunction-returns-in_default-clause-exact g t c =
-    one_not c.args.members.now c.loop-left.left c.index-members-left.result c.loop-left-test.true c.loop-left.invariant.within c.index-members-left.is c.args.rows.now.types
+    one_not c.args.members.now c.loop-left.left c.index-members-left.result c.loop-left-test.true c.loop-left.invariant.within c.index-members-left.is (types_of c.args.table.now.columns)
     (sym (ap is_some c.in_default.is) ∙ c.in_ok-truths.ensures.exact)
 
 pub disjunction-or-requires : goal.disjunction-or-requires
 disjunction-or-requires g t c =
     let es = c.args.members.now in
-    let rows = c.args.rows.now.rows in
+    let rows = c.args.table.now.rows in
     let truths = rw c.in-Some.is at (c.in_ok-truths.ensures.truths []) in
     as_many (λ row. disjunction (cells_of row) [] (bound_exprs (drop c.loop-left.left es))) rows c.loop-left.known (c.loop-left.invariant.known [])
     ∙ sym (as_many_truths [] rows (bound_expr_of c.index-members-left.result) c.in-Some.truths truths)
@@ -107,12 +107,12 @@ disjunction-or-requires g t c =
 pub disjunction-loop-left-preserved : goal.disjunction-loop-left-preserved
 disjunction-loop-left-preserved g t c =
     let es = c.args.members.now in
-    let rows = c.args.rows.now.rows in
+    let rows = c.args.table.now.rows in
     let left = c.loop-left.left in
     let e = c.index-members-left.result in
     record {
       within = omega (arith, c.loop-left.invariant.within);
-      exact = one_more es left e c.loop-left-test.true c.loop-left.invariant.within c.index-members-left.is c.args.rows.now.types c.loop-left.invariant.exact (sym (ap is_some c.in-Some.is) ∙ c.in_ok-truths.ensures.exact);
+      exact = one_more es left e c.loop-left-test.true c.loop-left.invariant.within c.index-members-left.is (types_of c.args.table.now.columns) c.loop-left.invariant.exact (sym (ap is_some c.in-Some.is) ∙ c.in_ok-truths.ensures.exact);
       known = λ role.
           let truths = rw c.in-Some.is at (c.in_ok-truths.ensures.truths role) in
           one_disjunct role rows (bound_expr_of e) (bound_exprs (drop left es)) (bound_exprs (drop (left - 1) es)) c.in-Some.truths c.loop-left.known
@@ -122,18 +122,18 @@ disjunction-loop-left-preserved g t c =
 pub disjunction-returns-clause-exact : goal.disjunction-returns-clause-exact
 disjunction-returns-clause-exact g t c =
     let over : c.loop-left.left ≡ 0 = omega (arith, c.loop-left-test.false) in
-    sym (sym (ap (λ (k : ℕ). all_by_lanes c.args.rows.now.types (bound_exprs (drop k c.args.members.now))) over) ∙ c.loop-left.invariant.exact)
+    sym (sym (ap (λ (k : ℕ). all_by_lanes (types_of c.args.table.now.columns) (bound_exprs (drop k c.args.members.now))) over) ∙ c.loop-left.invariant.exact)
 
 pub disjunction-returns-clause-truths : goal.disjunction-returns-clause-truths
 disjunction-returns-clause-truths g t c = λ role.
     let over : c.loop-left.left ≡ 0 = omega (arith, c.loop-left-test.false) in
-    sym (ap (λ (k : ℕ). map (λ row. disjunction (cells_of row) role (bound_exprs (drop k c.args.members.now))) c.args.rows.now.rows) over) ∙ c.loop-left.invariant.known role
+    sym (ap (λ (k : ℕ). map (λ row. disjunction (cells_of row) role (bound_exprs (drop k c.args.members.now))) c.args.table.now.rows) over) ∙ c.loop-left.invariant.known role
 
 -- ---- nodes
 
 pub truths_of-returns-in-Some-clause-truths : goal.truths_of-returns-in-Some-clause-truths
 truths_of-returns-in-Some-clause-truths g t c = λ role.
-    let rows = c.args.rows.now.rows in
+    let rows = c.args.table.now.rows in
     let e = c.deref-in-Not.result.now in
     let truths = rw c.in-Some.is at (c.in_ok-truths-in-Not.ensures.truths role) in
     subst (λ (x : bound.BoundExpr). AreTruths role rows x c.negate.new.self) (sym (not_is c.args.expression.now c.in-Not.offset c.in-Not.operand e c.deref-in-Not.ensures c.in-Not.is))
@@ -151,7 +151,7 @@ truths_of-returns-in-And-clause-exact g t c =
 
 pub truths_of-returns-in-And-clause-truths : goal.truths_of-returns-in-And-clause-truths
 truths_of-returns-in-And-clause-truths g t c = λ role.
-    let rows = c.args.rows.now.rows in
+    let rows = c.args.table.now.rows in
     let es = bound_exprs c.deref-in-And.result.now in
     subst (λ (x : bound.BoundExpr). IfOk c.conjunction.result (λ o. IfSome o (λ ts. AreTruths role rows x ts)))
     (sym (and_is c.args.expression.now c.in-And.offset c.in-And.members c.deref-in-And.result.now c.deref-in-And.ensures.value c.in-And.is))
@@ -169,7 +169,7 @@ truths_of-returns-in-Or-clause-exact g t c =
 
 pub truths_of-returns-in-Or-clause-truths : goal.truths_of-returns-in-Or-clause-truths
 truths_of-returns-in-Or-clause-truths g t c = λ role.
-    let rows = c.args.rows.now.rows in
+    let rows = c.args.table.now.rows in
     let es = bound_exprs c.deref-in-Or.result.now in
     subst (λ (x : bound.BoundExpr). IfOk c.disjunction.result (λ o. IfSome o (λ ts. AreTruths role rows x ts)))
     (sym (or_is c.args.expression.now c.in-Or.offset c.in-Or.members c.deref-in-Or.result.now c.deref-in-Or.ensures.value c.in-Or.is))

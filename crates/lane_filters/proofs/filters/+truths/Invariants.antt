@@ -3,6 +3,7 @@ use Rattle.expr.specs.View.{bound_expr_of, bound_exprs}
 use Rattle.expr.specs.Weights.{weight, all_weight}
 use Rattle.eval.specs.Meaning.{conjunction, disjunction}
 use Rattle.tuples.specs.Rows.{cells_of}
+use Rattle.columns.specs.Rows.{types_of}
 use Rattle.lane_filters.specs.ByLanes.{all_by_lanes}
 use Rattle.lane_filters.proofs.filters.+truths.Given as goal
 
@@ -18,15 +19,15 @@ decreases-disjunction g l = all_weight (bound_exprs l.members.now)
 abbrev pub invariant-conjunction-loop-left : goal.invariant-conjunction-loop-left
 invariant-conjunction-loop-left g l = record {
   within : l.left ≤ length l.members;
-  exact : all_by_lanes l.rows.types (bound_exprs (drop l.left l.members)) ≡ true;
-  known : (role : List ℕ) → map (λ row. conjunction (cells_of row) role (bound_exprs (drop l.left l.members))) l.rows.rows ≡ map Ok l.known;
+  exact : all_by_lanes (types_of l.table.columns) (bound_exprs (drop l.left l.members)) ≡ true;
+  known : (role : List ℕ) → map (λ row. conjunction (cells_of row) role (bound_exprs (drop l.left l.members))) l.table.rows ≡ map Ok l.known;
 }
 
 abbrev pub invariant-disjunction-loop-left : goal.invariant-disjunction-loop-left
 invariant-disjunction-loop-left g l = record {
   within : l.left ≤ length l.members;
-  exact : all_by_lanes l.rows.types (bound_exprs (drop l.left l.members)) ≡ true;
-  known : (role : List ℕ) → map (λ row. disjunction (cells_of row) role (bound_exprs (drop l.left l.members))) l.rows.rows ≡ map Ok l.known;
+  exact : all_by_lanes (types_of l.table.columns) (bound_exprs (drop l.left l.members)) ≡ true;
+  known : (role : List ℕ) → map (λ row. disjunction (cells_of row) role (bound_exprs (drop l.left l.members))) l.table.rows ≡ map Ok l.known;
 }
 
 abbrev pub decreases-conjunction-loop-left : goal.decreases-conjunction-loop-left

@@ -1,4 +1,4 @@
-use Rattle.std.proofs.Common.{◌≡◌, List, [], length, map, sym, ap, subst, ◌∙◌}
+use Rattle.std.proofs.Common.{List, [], map, sym, ap, subst, ◌∙◌}
 use Rattle.value.specs.declared.order.Truth.{Truth}
 use Rattle.value.specs.declared.operators.Comparison.TheVariants as operator
 use Rattle.eval.specs.Operators.{negated_if}
@@ -10,7 +10,7 @@ use Rattle.lane_filters.proofs.leaves.between.Goals as goal
 
 pub and-requires : goal.and-requires
 and-requires g c =
-    let rows = c.args.rows.now.rows in
+    let rows = c.args.table.now.rows in
     let e = bound_expr_of c.args.operand.now in
     let first = rw c.in-Some.is at (c.in_ok-truths.ensures.truths [] 0) in
     let second = rw c.in-Some-2.is at (c.in_ok-below.ensures.truths [] 0) in
@@ -19,7 +19,7 @@ and-requires g c =
 
 pub returns-clause-truths : goal.returns-clause-truths
 returns-clause-truths g c = λ role offset.
-    let rows = c.args.rows.now.rows in
+    let rows = c.args.table.now.rows in
     let e = bound_expr_of c.args.operand.now in
     let low = bound_expr_of c.args.low.now in
     let high = bound_expr_of c.args.high.now in

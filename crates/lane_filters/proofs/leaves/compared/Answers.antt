@@ -1,4 +1,4 @@
-use Rattle.std.proofs.Common.{◌≡◌, ℤ, List, FitsSigned, to_z, of_z, w64, rules, length, map, replicate, sym, ap, ◌∙◌}
+use Rattle.std.proofs.Common.{◌≡◌, ℤ, FitsSigned, to_z, of_z, w64, rules, length, map, replicate, sym, ap, ◌∙◌}
 use Rattle.std.specs.Simd.Lanes.{zip2}
 use Rattle.std.proofs.lemmas.Int.{to_z-of_z}
 use Rattle.std.proofs.lemmas.Result.{IfOk-weaker}
@@ -22,8 +22,8 @@ returns-in-Column-Number g c =
     let many : length column ≡ rows = sym (ap (λ o. length (values_of rows o)) c.in-Column-Number.is-0) ∙ c.requires.left in
     IfOk-weaker c.of_column.result _ _
     (λ t p.
-        p ∙ ap (λ (z : ℤ). map (λ (d : Datum). comparison_of op d (int z)) column) same ∙ literal_right op rows n column many
-        ∙ sym (λ i. zip2 (comparison_of op) (values_of rows (c.in-Column-Number.is-0 i)) (values_of rows (c.in-Column-Number.is-1 i))))
+    p ∙ ap (λ (z : ℤ). map (λ (d : Datum). comparison_of op d (int z)) column) same ∙ literal_right op rows n column many
+    ∙ sym (λ i. zip2 (comparison_of op) (values_of rows (c.in-Column-Number.is-0 i)) (values_of rows (c.in-Column-Number.is-1 i))))
     c.of_column.ensures
 
 pub returns-in-Number-Column : goal.returns-in-Number-Column
@@ -37,9 +37,9 @@ returns-in-Number-Column g c =
     let many : length column ≡ rows = sym (ap (λ o. length (values_of rows o)) c.in-Number-Column.is-1) ∙ c.requires.right in
     IfOk-weaker c.of_column-in-Number-Column.result _ _
     (λ t p.
-        p ∙ ap (λ (z : ℤ). map (λ (d : Datum). comparison_of c.exchanged.result d (int z)) column) same
-        ∙ ap (λ (o : Comparison). map (λ (d : Datum). comparison_of o d (int n)) column) c.exchanged.ensures ∙ literal_left op rows n column many
-        ∙ sym (λ i. zip2 (comparison_of op) (values_of rows (c.in-Number-Column.is-0 i)) (values_of rows (c.in-Number-Column.is-1 i))))
+    p ∙ ap (λ (z : ℤ). map (λ (d : Datum). comparison_of c.exchanged.result d (int z)) column) same
+    ∙ ap (λ (o : Comparison). map (λ (d : Datum). comparison_of o d (int n)) column) c.exchanged.ensures ∙ literal_left op rows n column many
+    ∙ sym (λ i. zip2 (comparison_of op) (values_of rows (c.in-Number-Column.is-0 i)) (values_of rows (c.in-Number-Column.is-1 i))))
     c.of_column-in-Number-Column.ensures
 
 pub returns-in-Number-Number : goal.returns-in-Number-Number
@@ -52,6 +52,6 @@ returns-in-Number-Number g c =
     let fits_right : FitsSigned w64 n = search rules in
     IfOk-weaker c.all.result _ _
     (λ t p.
-        p ∙ ap (λ b. replicate rows (of_bool b)) (c.holds.ensures ∙ (λ i. holds op (to_z-of_z w64 m fits_left i) (to_z-of_z w64 n fits_right i))) ∙ two_literals op rows m n
-        ∙ sym (λ i. zip2 (comparison_of op) (values_of rows (c.in-Number-Number.is-0 i)) (values_of rows (c.in-Number-Number.is-1 i))))
+    p ∙ ap (λ b. replicate rows (of_bool b)) (c.holds.ensures ∙ (λ i. holds op (to_z-of_z w64 m fits_left i) (to_z-of_z w64 n fits_right i))) ∙ two_literals op rows m n
+    ∙ sym (λ i. zip2 (comparison_of op) (values_of rows (c.in-Number-Number.is-0 i)) (values_of rows (c.in-Number-Number.is-1 i))))
     c.all.ensures

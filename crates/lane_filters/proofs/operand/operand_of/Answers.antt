@@ -10,13 +10,13 @@ use Rattle.lane_filters.proofs.operand.operand_of.Goals as goal
 
 pub returns-in-Ints-clause-values : goal.returns-in-Ints-clause-values
 returns-in-Ints-clause-values g c = λ role.
-    let rows = c.args.rows.now.rows in
+    let rows = c.args.table.now.rows in
     subst (λ (xs : List Datum). AreValues role rows (bound_expr_of c.args.expression.now) xs) (sym c.data.ensures.cells ∙ ap cells_of c.in-Ints.is)
     (subst (λ (e : bound.BoundExpr). AreValues role rows e (map (λ r. cell r c.in-Column.id.column) rows)) (sym (ap bound_expr_of c.in-Column.is)) (column_values role rows c.in-Column.id))
 
 pub returns-in-Int-clause-values : goal.returns-in-Int-clause-values
 returns-in-Int-clause-values g c = λ role.
-    let rows = c.args.rows.now.rows in
+    let rows = c.args.table.now.rows in
     let n = c.in-Int.n in
     let fits : FitsSigned w64 n = search rules in
     let same : to_z w64 (of_z w64 n) ≡ n = to_z-of_z w64 n fits in

@@ -1,4 +1,4 @@
-use Rattle.std.proofs.Common.{replicate, length, sym}
+use Rattle.std.proofs.Common.{replicate, sym}
 use Rattle.std.proofs.lemmas.List.{length-replicate}
 use Rattle.value.specs.declared.order.Truth.{Truth}
 use Rattle.value.specs.declared.order.Truth.TheVariants.{False}

@@ -1,4 +1,4 @@
-use Rattle.std.proofs.Common.{◌≡◌, ℕ, List, length, map, refl, sym, ap, ◌∙◌}
+use Rattle.std.proofs.Common.{length, map, sym, ap, ◌∙◌}
 use Rattle.std.proofs.lemmas.List.{length-map}
 use Rattle.value.specs.Truths.{negated}
 use Rattle.lane_filters.specs.View.{truths_from}
@@ -34,4 +34,3 @@ returns g c =
     (written_back c.self.inside.trues.len c.not_masks.new.is_true ts (c.not_masks.auto.is_true ∙ ap length c.deref_mut.ensures.value) c.self.inside.trues.ok.0) (sym c.deref.ensures.value)
     (sym (length-map xs negated ∙ long))
     (c.not_masks.ensures xs long (same_masks xs c.deref_mut.result.now c.deref.result.now ts ns n c.deref_mut.ensures.value c.deref.ensures.value (sym long) c.self.invariant)) ∙ ap (map negated) c.self.view_is
-

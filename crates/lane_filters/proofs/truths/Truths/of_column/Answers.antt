@@ -1,4 +1,4 @@
-use Rattle.std.proofs.Common.{◌≡◌, ℕ, ℤ, FitsSigned, to_z, of_z, w64, rules, List, length, map, sym, ap, ◌∙◌, arith}
+use Rattle.std.proofs.Common.{ℤ, FitsSigned, to_z, of_z, w64, rules, length, map, sym, ap, ◌∙◌}
 use Rattle.std.proofs.lemmas.Int.{to_z-of_z}
 use Rattle.std.proofs.lemmas.Simd.{length-zip2}
 use Rattle.std.proofs.lemmas.List.{length-map}

@@ -1,7 +1,6 @@
-use Rattle.std.proofs.Common.{◌≡◌, ℕ, List, length, sym, ap, ◌∙◌, arith}
+use Rattle.std.proofs.Common.{◌≡◌, length, sym, ap, ◌∙◌}
 use Rattle.std.specs.Simd.Lanes.{zip2}
 use Rattle.std.proofs.lemmas.Simd.{length-zip2}
-use Rattle.value.specs.Datum.{Datum}
 use Rattle.eval.specs.Operators.{comparison_of}
 use Rattle.masks.specs.Bits.{words_for}
 use Rattle.masks.specs.Columns.{int_unless, ints_of}

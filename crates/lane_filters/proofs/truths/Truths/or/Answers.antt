@@ -1,4 +1,4 @@
-use Rattle.std.proofs.Common.{◌≡◌, ℕ, List, length, sym, ap, ◌∙◌}
+use Rattle.std.proofs.Common.{◌≡◌, length, sym, ap, ◌∙◌}
 use Rattle.std.specs.Simd.Lanes.{zip2}
 use Rattle.std.proofs.lemmas.Simd.{length-zip2}
 use Rattle.value.specs.Truths.{greatest}
@@ -44,4 +44,3 @@ returns g c =
     (same_masks xs c.deref_mut.result.now c.deref_mut-2.result.now ts ns n c.deref_mut.ensures.value c.deref_mut-2.ensures.value (sym long) c.self.invariant)
     (same_masks ys c.deref.result.now c.deref-2.result.now us ms c.other.inside.len c.deref.ensures.value c.deref-2.ensures.value (sym (length-truths us ms 0 c.other.inside.len)) c.other.invariant))
     ∙ (λ i. zip2 greatest (c.self.view_is i) (c.other.view_is i))
-
