@@ -54,12 +54,7 @@ pub fn joined(
     }
 }
 
-fn three(
-    alloc: Global,
-    is_and: bool,
-    op: Comparison,
-    n: i64,
-) -> Copied<Global> {
+fn three(alloc: Global, is_and: bool, op: Comparison, n: i64) -> Copied<Global> {
     let less = compared(alloc, Comparison::Less, column(alloc, 0), number(alloc, n));
     let null = null_check(alloc, is_and, 0, column(alloc, 1));
     let pair = compared(alloc, op, column(alloc, 0), column(alloc, 1));

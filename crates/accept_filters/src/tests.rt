@@ -7,6 +7,7 @@ use expr::{Copied, logical_not};
 use lane_filters::truths_of;
 use std::alloc::{AllocError, AllocGlobal, Global};
 use std::process::Abort;
+use std::test::Fail;
 use tables::Table;
 
 fn table(rt: &(impl Abort + AllocGlobal), rows: usize) -> Result<Table<Global>, AllocError> {
@@ -76,7 +77,12 @@ fn other_conditions_stay_row_by_row(rt: HostRuntime) -> Result<(), Fail> {
     let alloc = rt.alloc();
     let equal = expression(alloc, Case::NoMember);
     stays(&rt, &table, is_x(alloc), "a comparison of texts")?;
-    stays(&rt, &table, joined(alloc, true, is_x(alloc), equal), "one member of two")?;
+    stays(
+        &rt,
+        &table,
+        joined(alloc, true, is_x(alloc), equal),
+        "one member of two",
+    )?;
     stays(&rt, &table, column(alloc, 0), "a column")?;
     Ok(())
 }
