@@ -1,5 +1,5 @@
 -- Conditions on the rows of a table, some of which are evaluated once for all rows.
-use Rattle.std.specs.Prelude.{◌≡◌, ◌<◌, ℕ, Bool, ◌&&◌, List, length, map, get_or, Option, IfSome}
+use Rattle.std.specs.Prelude.{◌≡◌, ◌<◌, ℕ, Bool, ◌&&◌, List, length, get_or}
 use Rattle.std.specs.List.{list_all}
 use Rattle.value.specs.Datum.{Row, row_at}
 use Rattle.value.specs.Names.{Name}
@@ -14,7 +14,7 @@ use Rattle.tuples.specs.Rows.{cells_of}
 abbrev pub all_hold : Name → Row → List BoundExpr → Bool
 all_hold role row conditions = list_all (λ e. holds (cells_of row) role e) conditions
 
--- there is a truth value for each row; on a row all conditions are true where its truth value is true and all of the rest are
-pub record IsSplit (role : Name) (rows : List Row) (conditions : List BoundExpr) (truths : List Truth) (rest : List BoundExpr) : Type 0 where
-  pub long : length truths ≡ length rows
-  pub each : (number : ℕ) → number < length rows → all_hold role (row_at rows number) conditions ≡ (is_true (get_or truths number False) && all_hold role (row_at rows number) rest)
+-- on each row all conditions are true where its truth value is true and all of the rest are
+abbrev pub AreSplit : Name → List Row → List BoundExpr → List Truth → List BoundExpr → Type 0
+AreSplit role rows conditions truths rest =
+    (number : ℕ) → number < length rows → all_hold role (row_at rows number) conditions ≡ (is_true (get_or truths number False) && all_hold role (row_at rows number) rest)
