@@ -1,0 +1,3 @@
+pub mod ShownChars
+pub mod Sides
+pub mod Times

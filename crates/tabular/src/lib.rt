@@ -1,0 +1,13 @@
+//! The rows of a reply as a table in aligned columns, as psql prints it by default.
+#![tactic(auto)]
+
+mod answer;
+mod cells;
+mod columns;
+mod lines;
+#[cfg(test)]
+mod tests;
+
+pub use answer::reply_table;
+pub use cells::shown;
+pub use lines::table_text;
