@@ -7,7 +7,9 @@ mod columns;
 mod lines;
 #[cfg(test)]
 mod tests;
+mod writing;
 
 pub use answer::reply_table;
 pub use cells::shown;
 pub use lines::table_text;
+pub use writing::write_table;

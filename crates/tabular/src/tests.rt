@@ -1,7 +1,10 @@
+//! Tables against those of psql 15 with `\pset null '\\N'`.
+
 use crate::{reply_table, shown};
 use memory::{Items, Text};
 use replies::Reply;
 use std::alloc::{AllocError, Global};
+use std::process::Abort;
 use value::{Refusal, Value};
 
 fn texts(alloc: Global, words: &[&str]) -> Result<Items<Text<Global>, Global>, AllocError> {
@@ -46,44 +49,52 @@ fn table(
     reply_table(alloc, &Reply::Rows { headings, rows })
 }
 
-/// The tables that psql 15 prints with `\pset null '\\N'`.
-#[test]
-fn psql_prints_the_same(rt: TestRuntime) -> Result<(), AllocError> {
-    let alloc = rt.alloc();
-    let ids: &[&[&str]] = &[&["1", "anna", "true"], &["-12345", "null", "false"]];
-    let two =
-        "   id   | name | ok \n--------+------+----\n      1 | anna | t\n -12345 | \\N   | f\n(2 rows)\n\n";
-    assert!(rt; table(alloc, &["id", "name", "ok"], ids)?.as_slice() == two.as_bytes());
-    let wide =
-        " a_longer_header |         n          \n-----------------+--------------------\n               1 | a longer text here\n(1 row)\n\n";
-    let long: &[&[&str]] = &[&["1", "a longer text here"]];
-    assert!(rt; table(alloc, &["a_longer_header", "n"], long)?.as_slice() == wide.as_bytes());
-    let none = " id \n----\n(0 rows)\n\n";
-    assert!(rt; table(alloc, &["id"], &[])?.as_slice() == none.as_bytes());
-    let japanese = "  wide   | nul \n---------+-----\n häß日本 | \n(1 row)\n\n";
-    let narrow: &[&[&str]] = &[&["häß日本", ""]];
-    assert!(rt; table(alloc, &["wide", "nul"], narrow)?.as_slice() == japanese.as_bytes());
-    Ok(())
+fn is_printed(rt: &(impl Abort + AllocGlobal), headings: &[&str], rows: &[&[&str]], text: &str) {
+    match table(rt.alloc(), headings, rows) {
+        Ok(made) => assert_eq!(rt; made.as_slice(), text.as_bytes()),
+        Err(_) => panic!(rt; "out of memory"),
+    }
 }
 
 #[test]
-fn control_characters_are_escaped(rt: TestRuntime) -> Result<(), AllocError> {
-    let alloc = rt.alloc();
-    assert!(rt;
-        shown(alloc, "a\nb\rc\td\u{1}e\u{7f}\u{1b}\u{85}é")?.as_str()
-            == "a\\nb\\rc\\td\\x01e\\x7F\\x1B\\u0085é"
+fn psql_prints_the_same(rt: HostRuntime) {
+    is_printed(
+        &rt,
+        &["id", "name", "ok"],
+        &[&["1", "anna", "true"], &["-12345", "null", "false"]],
+        "   id   | name | ok \n--------+------+----\n      1 | anna | t\n -12345 | \\N   | f\n(2 rows)\n\n",
     );
-    Ok(())
+    is_printed(
+        &rt,
+        &["a_longer_header", "n"],
+        &[&["1", "a longer text here"]],
+        " a_longer_header |         n          \n-----------------+--------------------\n               1 | a longer text here\n(1 row)\n\n",
+    );
+    is_printed(&rt, &["id"], &[], " id \n----\n(0 rows)\n\n");
+    is_printed(
+        &rt,
+        &["wide", "nul"],
+        &[&["häß日本", ""]],
+        "  wide   | nul \n---------+-----\n häß日本 | \n(1 row)\n\n",
+    );
 }
 
 #[test]
-fn a_refusal_has_its_own_text(rt: TestRuntime) -> Result<(), AllocError> {
+fn control_characters_are_escaped(rt: HostRuntime) {
+    match shown(rt.alloc(), "a\nb\rc\td\u{1}e\u{7f}\u{1b}\u{85}é") {
+        Ok(cell) => assert_eq!(&rt; cell.as_str(), "a\\nb\\rc\\td\\x01e\\x7F\\x1B\\u0085é"),
+        Err(_) => panic!(&rt; "out of memory"),
+    }
+}
+
+#[test]
+fn refusals_have_their_own_text(rt: HostRuntime) {
     let refused = Reply::Refused {
         code: Refusal::SyntaxError,
         offset: Some(7),
     };
-    assert!(rt;
-        reply_table(rt.alloc(), &refused)?.as_slice() == b"refused 42601 at 7\n".as_slice()
-    );
-    Ok(())
+    match reply_table(rt.alloc(), &refused) {
+        Ok(text) => assert_eq!(&rt; text.as_slice(), b"refused 42601 at 7\n".as_slice()),
+        Err(_) => panic!(&rt; "out of memory"),
+    }
 }
