@@ -3,10 +3,11 @@
 use diagnostics::codes_text;
 use fixture_stores::{SALES, sales, store_of};
 use output::Output;
-use setup::{Arguments, explain_refusal};
+use setup::{Arguments, SchemaError, explain_refusal, explain_schema};
 use std::alloc::Global;
 use std::process::Abort;
 use store::Store;
+use value::Refusal;
 
 // A role, its text, and its diagnostics: none of an answer, nor of a fault.
 static SAID: [(&str, &str, &str); 10] = [
@@ -89,6 +90,46 @@ fn texts_are_explained_the_same_without_rows(rt: HostRuntime) {
         Ok(store) => is_said(&rt, &store),
         Err(_) => panic!(&rt; "no store"),
     }
+}
+
+fn is_said_of_schema(rt: &(impl Abort + AllocGlobal), text: &str, error: SchemaError, lines: &str) {
+    let mut out = Output {
+        inner: Vec::new(rt.alloc()),
+        failed: 0,
+    };
+    explain_schema(rt.alloc(), text, error, &mut out);
+    assert_eq!(rt; out.inner.as_slice(), lines.as_bytes(), "{text}");
+}
+
+#[test]
+fn refused_schemas_are_explained(rt: HostRuntime) {
+    let twice =
+        "CREATE ROLE r;\n  CREATE TABLE t\n  (a text); CREATE TABLE t (a text);\nCREATE ROLE s;";
+    let code = Refusal::DuplicateTable;
+    is_said_of_schema(
+        &rt,
+        twice,
+        SchemaError::Statement { number: 2, code },
+        "42P07: a table has this name already\nLINE 2:   CREATE TABLE t\n          ^\n",
+    );
+    is_said_of_schema(
+        &rt,
+        twice,
+        SchemaError::Statement { number: 3, code },
+        "42P07: a table has this name already\nLINE 3:   (a text); CREATE TABLE t (a text);\n                    ^\n",
+    );
+    is_said_of_schema(
+        &rt,
+        "CREATE ROLE r;\nCREATE ROLL s;",
+        SchemaError::Syntax { offset: 22 },
+        "42601: syntax error: the text cannot go on like this from here\nLINE 2: CREATE ROLL s;\n               ^\n",
+    );
+    is_said_of_schema(
+        &rt,
+        "CREATE ROLE r;",
+        SchemaError::Limit,
+        "54000: the text is too long or too deeply nested, or the schema has too many objects\n",
+    );
 }
 
 const CODES: &str = "0LP01: the grant would make a role belong to itself

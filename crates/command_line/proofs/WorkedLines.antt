@@ -3,6 +3,7 @@ use Rattle.std.proofs.Common.{◌≡◌, ◌++◌, true, false, refl, codes, Lis
 use Rattle.clap.specs.Words.{Text, subcommand_of}
 use Rattle.clap.proofs.OnLiterals.{clap_on_literals}
 use Rattle.command_line.specs.Program.{program}
+use Rattle.command_line.specs.declared.arguments.Format.TheVariants.{Csv, Table}
 use Rattle.command_line.specs.Requests.{Request, Query, Explain, Verify, Session, Codes, Given, File, asked, reads_input_twice}
 
 -- the request of the words after the program's name
@@ -13,12 +14,21 @@ abbrev options : List Text
 options = codes "--schema" ∷ codes "s.sql" ∷ codes "--dir=d" ∷ codes "--role" ∷ codes "alice" ∷ []
 
 given_text : said (codes "query" ∷ options ++ codes "SELECT 1" ∷ [])
-    ≡ Some (Query (record { schema = codes "s.sql"; dir = codes "d"; role = codes "alice"; text = Given (codes "SELECT 1"); explain_refusal = false }))
+    ≡ Some (Query (record { schema = codes "s.sql"; dir = codes "d"; role = codes "alice"; text = Given (codes "SELECT 1"); explain_refusal = false; format = Csv }))
 unfolding program clap_on_literals
 given_text = refl
 
+rows_as_table : said (codes "query" ∷ codes "--format" ∷ codes "table" ∷ options ++ codes "SELECT 1" ∷ [])
+    ≡ Some (Query (record { schema = codes "s.sql"; dir = codes "d"; role = codes "alice"; text = Given (codes "SELECT 1"); explain_refusal = false; format = Table }))
+unfolding program clap_on_literals
+rows_as_table = refl
+
+no_such_format : said (codes "query" ∷ codes "--format=xml" ∷ options ++ codes "SELECT 1" ∷ []) ≡ None
+unfolding program clap_on_literals
+no_such_format = refl
+
 text_of_file : said (codes "explain" ∷ codes "--file" ∷ codes "-" ∷ codes "--explain-refusal" ∷ options)
-    ≡ Some (Explain (record { schema = codes "s.sql"; dir = codes "d"; role = codes "alice"; text = File (codes "-"); explain_refusal = true }))
+    ≡ Some (Explain (record { schema = codes "s.sql"; dir = codes "d"; role = codes "alice"; text = File (codes "-"); explain_refusal = true; format = Csv }))
 unfolding program clap_on_literals
 text_of_file = refl
 
@@ -41,7 +51,7 @@ unfolding program clap_on_literals
 script_missing = refl
 
 -- `-` as the role, the folder or the text is no standard input
-read_once : reads_input_twice (Query (record { schema = codes "-"; dir = codes "-"; role = codes "-"; text = Given (codes "-"); explain_refusal = false })) ≡ false
+read_once : reads_input_twice (Query (record { schema = codes "-"; dir = codes "-"; role = codes "-"; text = Given (codes "-"); explain_refusal = false; format = Csv })) ≡ false
 read_once = refl
 
 read_twice : reads_input_twice (Verify (record { schema = codes "s.sql"; role = codes "r"; plan = codes "-"; text = File (codes "-") })) ≡ true

@@ -1,5 +1,5 @@
 -- The program's command as clap's data: its subcommands, and the options and words of each.
-use Rattle.std.specs.Prelude.{true, false, List, [], ◌∷◌, Some, codes}
+use Rattle.std.specs.Prelude.{true, false, List, [], ◌∷◌, ◌++◌, Some, codes}
 use Rattle.clap.specs.Words.{App, Rule, Shape, Text, new_rule}
 use Rattle.clap.specs.Simple.{new_shape}
 use Rattle.clap.specs.declared.builder.ArgAction.TheVariants.{Set, SetTrue}
@@ -49,7 +49,7 @@ session_rules =
     required_option (codes "schema") ∷ required_option (codes "dir") ∷ flag (codes "frames") ∷ required_word (codes "SCRIPT") ∷ []
 
 abbrev pub query_shape : Shape
-query_shape = subcommand (codes "query") query_rules
+query_shape = subcommand (codes "query") (query_rules ++ option (codes "format") ∷ [])
 
 abbrev pub explain_shape : Shape
 explain_shape = subcommand (codes "explain") query_rules

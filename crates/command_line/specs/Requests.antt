@@ -1,8 +1,10 @@
 -- Requests as spec data, and the request that the matches of a command line say.
-use Rattle.std.specs.Prelude.{Bool, false, if◌then◌else◌, List, [], ◌∷◌, Option, Some, None, option_and_then, option_map, codes, count_by, nat_lt}
+use Rattle.std.specs.Prelude.{Bool, false, if◌then◌else◌, List, [], ◌∷◌, Option, Some, None, option_and_then, option_map, is_none, codes, count_by, nat_lt}
 use Rattle.std.specs.Option.{option_or, option_map_or}
 use Rattle.std.specs.Str.{bytes_eq}
 use Rattle.clap.specs.Words.{Row, Text, first_of, one_of}
+use Rattle.command_line.specs.declared.arguments.Format.{Format}
+use Rattle.command_line.specs.declared.arguments.Format.TheVariants as format
 
 -- the text of a query, or the path of its file
 pub data QueryText : Type 0 where
@@ -16,6 +18,7 @@ pub record QueryArguments : Type 0 where
   pub role : Text
   pub text : QueryText
   pub explain_refusal : Bool
+  pub format : Format
 
 pub record VerifyArguments : Type 0 where
   pub schema : Text
@@ -50,13 +53,24 @@ is_set name rows = option_map_or (λ text. bytes_eq text (codes "true")) (one_of
 abbrev pub query_text : List Row → Option QueryText
 query_text rows = option_or (option_map File (first_of (codes "file") rows)) (option_map Given (first_of (codes "TEXT") rows))
 
+abbrev pub format_called : Text → Option Format
+format_called name =
+    if bytes_eq name (codes "csv") then Some format.Csv
+    else if bytes_eq name (codes "table") then Some format.Table
+    else None
+
+-- comma-separated text where no format is named; no other name is one
+abbrev pub format_of : List Row → Option Format
+format_of rows = option_map_or format_called (first_of (codes "format") rows) (Some format.Csv)
+
 abbrev pub query_arguments : List Row → Option QueryArguments
 query_arguments rows = do
   schema ← first_of (codes "schema") rows
   dir ← first_of (codes "dir") rows
   role ← first_of (codes "role") rows
   text ← query_text rows
-  Some (record { schema = schema; dir = dir; role = role; text = text; explain_refusal = is_set (codes "explain-refusal") rows })
+  format ← format_of rows
+  Some (record { schema = schema; dir = dir; role = role; text = text; explain_refusal = is_set (codes "explain-refusal") rows; format = format })
 
 abbrev pub verify_arguments : List Row → Option VerifyArguments
 verify_arguments rows = do
@@ -86,6 +100,10 @@ asked_of name rows =
 -- the request of the subcommand that was met
 abbrev pub asked : Option (Text × List Row) → Option Request
 asked = option_and_then (λ met. asked_of met.0 met.1)
+
+-- the subcommand that was met has the name of no format
+abbrev pub is_format_unknown : Option (Text × List Row) → Bool
+is_format_unknown met = option_map_or (λ m. is_none (format_of m.1)) met false
 
 -- ---- standard input
 

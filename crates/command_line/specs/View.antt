@@ -19,6 +19,7 @@ query_of q = record {
   role = q.role.now;
   text = text_of q.text;
   explain_refusal = q.explain_refusal;
+  format = q.format;
 }
 
 abbrev pub audit_of : declared_audit.VerifyArguments → VerifyArguments

@@ -3,7 +3,7 @@ ghost use Rattle.std.specs.Prelude.{◌≡◌, IfOk, Some, false, map, option_ma
 ghost use Rattle.std.specs.List.{list_any};
 ghost use Rattle.clap.specs.Words.{found_of, rows_of, subcommand_of, subcommand_rows_of};
 ghost use Rattle.command_line.specs.Program.{program};
-ghost use Rattle.command_line.specs.Requests.{asked, asked_of, is_input, is_set, path_of};
+ghost use Rattle.command_line.specs.Requests.{asked, asked_of, format_called, format_of, is_format_unknown, is_input, is_set, path_of};
 ghost use Rattle.command_line.specs.Requests.{query_arguments, query_text, reads_input_twice};
 ghost use Rattle.command_line.specs.Requests.{session_arguments, verify_arguments};
 ghost use Rattle.command_line.specs.View.{audit_of, query_of, request_of, session_of, text_of};
@@ -23,6 +23,15 @@ pub enum QueryText<'a> {
     File(&'a str),
 }
 
+/// The form of the rows of an answer.
+#[derive(Clone, Copy, Debug, PartialEq, Eq)]
+pub enum Format {
+    /// Comma-separated text.
+    Csv,
+    /// A table in aligned columns.
+    Table,
+}
+
 /// The arguments of `rowplan query` and `rowplan explain`.
 #[derive(Clone, Copy)]
 pub struct QueryArguments<'a> {
@@ -36,6 +45,8 @@ pub struct QueryArguments<'a> {
     pub text: QueryText<'a>,
     /// True where the diagnostics of a refusal or a denial go to standard error.
     pub explain_refusal: bool,
+    /// The form of the rows, of `rowplan query`.
+    pub format: Format,
 }
 
 /// The arguments of `rowplan verify`.
@@ -96,6 +107,26 @@ fn query_text<'a>(found: &ArgMatches<'a>) -> Option<QueryText<'a>>
     }
 }
 
+fn format_called(name: &str) -> Option<Format>
+    ensures { result ≡ format_called name.now }
+{
+    match name {
+        "csv" => Some(Format::Csv),
+        "table" => Some(Format::Table),
+        _ => None,
+    }
+}
+
+// The format that is named, comma-separated text where none is; no other name is one.
+fn format_of(found: &ArgMatches<'_>) -> Option<Format>
+    ensures { result ≡ format_of (rows_of (found_of found.now)) }
+{
+    match found.get_str("format") {
+        Some(name) => format_called(name),
+        None => Some(Format::Csv),
+    }
+}
+
 fn query_arguments<'a>(found: &ArgMatches<'a>) -> Option<QueryArguments<'a>>
     ensures { option_map query_of result ≡ query_arguments (rows_of (found_of found.now)) }
 {
@@ -103,12 +134,14 @@ fn query_arguments<'a>(found: &ArgMatches<'a>) -> Option<QueryArguments<'a>>
     let dir = found.get_str("dir")?;
     let role = found.get_str("role")?;
     let text = query_text(found)?;
+    let format = format_of(found)?;
     Some(QueryArguments {
         schema,
         dir,
         role,
         text,
         explain_refusal: is_set(found, "explain-refusal"),
+        format,
     })
 }
 
@@ -217,6 +250,16 @@ fn accepted<'a>(
     Ok(request)
 }
 
+// True where the matches name no format that there is.
+fn is_format_unknown(matches: &ArgMatches<'_>) -> bool
+    ensures { result ≡ is_format_unknown (subcommand_rows_of matches.now) }
+{
+    match matches.subcommand() {
+        Some((_, found)) => format_of(found).is_none(),
+        None => false,
+    }
+}
+
 /// Reads the words of a command line, of which the first is the program's name: at `Ok` the request
 /// is the one that they say, and it reads standard input at most once.
 pub fn read_arguments<'a>(
@@ -230,5 +273,12 @@ pub fn read_arguments<'a>(
 {
     let mut command = command(alloc)?;
     let matches = command.try_get_matches_from_mut(words)?;
+    if is_format_unknown(&matches) {
+        let error = command.error(
+            ErrorKind::InvalidValue,
+            "the value of '--format <FORMAT>' is csv or table",
+        )?;
+        return Err(CommandLineError::Usage(error));
+    }
     accepted(&mut command, asked(&matches))
 }

@@ -6,6 +6,6 @@ mod error;
 mod program;
 
 pub use arguments::{
-    QueryArguments, QueryText, Request, SessionArguments, VerifyArguments, read_arguments,
+    Format, QueryArguments, QueryText, Request, SessionArguments, VerifyArguments, read_arguments,
 };
 pub use error::CommandLineError;

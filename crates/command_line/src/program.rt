@@ -94,6 +94,14 @@ fn explain_refusal<'a>(alloc: Global) -> Arg<'a>
     flag(alloc, "explain-refusal", help)
 }
 
+fn format_option<'a>(alloc: Global) -> Arg<'a>
+    ensures { HasRule result (option (codes "format")) }
+{
+    let help =
+        "How rows are written: csv, which is the default, or table, in aligned columns and with their number";
+    option(alloc, "format", "FORMAT", help)
+}
+
 fn script_word<'a>(alloc: Global) -> Arg<'a>
     ensures { HasRule result (required_word (codes "SCRIPT")) }
 {
@@ -121,9 +129,9 @@ fn query_command<'a>(alloc: Global) -> Result<Command<'a>, AllocError>
     ensures { IfOk result (λ c. HasShape c query_shape) }
 {
     let command = Command::new(alloc, "query")
-        .about("Writes the reply to a role's query as comma-separated text")
+        .about("Writes the reply to a role's query as comma-separated text, or as a table")
         .after_help(EXAMPLE);
-    with_query_words(alloc, command)
+    with_query_words(alloc, command)?.arg(format_option(alloc))
 }
 
 fn explain_command<'a>(alloc: Global) -> Result<Command<'a>, AllocError>

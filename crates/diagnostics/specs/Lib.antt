@@ -1,3 +1,4 @@
 pub mod Carets
 pub mod Diagnosis
 pub mod Meanings
+pub mod Statements

@@ -5,6 +5,8 @@
 mod caret;
 mod diagnosing;
 mod meanings;
+mod statements;
 
 pub use diagnosing::hint;
 pub use meanings::codes_text;
+pub use statements::statement_hint;

@@ -37,7 +37,8 @@ impl From<CommandLineError> for ProgramError {
     }
 }
 
-fn report_failure(rt: &HostRuntime, failure: &Failure<SetupError<Global>>) -> u8 {
+/// Writes the line of a failure to standard error, and returns its exit status.
+pub fn report_failure(rt: &HostRuntime, failure: &Failure<SetupError<Global>>) -> u8 {
     let mut out = Output {
         inner: rt.stderr(),
         failed: 0,

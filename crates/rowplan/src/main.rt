@@ -6,35 +6,37 @@ mod files;
 mod script;
 
 use command_line::{
-    QueryArguments, QueryText, Request, SessionArguments, VerifyArguments, read_arguments,
+    Format, QueryArguments, QueryText, Request, SessionArguments, VerifyArguments, read_arguments,
 };
 use diagnostics::codes_text;
 use engine::{explain, verify};
-use failure::{ProgramError, print_error};
+use failure::{ProgramError, print_error, report_failure};
 use files::{Directory, read_bytes, read_text};
 use memory::Failure;
 use output::{Output, write_whole};
 use script::{answer_input, answer_text};
 use session::Core;
-use setup::{Arguments, SetupError, explain_refusal, open_store, reply, store_of_schema};
+use setup::{
+    Arguments, SchemaError, SetupError, explain_refusal, explain_schema, open_store, reply,
+    reply_table, store_of_schema,
+};
 use std::alloc::{AllocError, Global};
 use std::process::ExitCode;
 use std::{env, io};
 use store::Store;
 
-// The store of a schema and of the files of a folder.
+// The store of a schema text and of the files of a folder.
 fn store_of(
     rt: &HostRuntime,
     alloc: Global,
     schema: &str,
     dir: &str,
 ) -> Result<Store<Global>, Failure<SetupError<Global>>> {
-    let schema = read_text(rt, alloc, schema)?;
     let folder = Directory {
         files: rt,
         path: dir,
     };
-    open_store(alloc, schema.as_str(), &folder)
+    open_store(alloc, schema, &folder)
 }
 
 // The text of the query.
@@ -49,10 +51,10 @@ fn query_text(
     }
 }
 
-// What is asked of a query: its rows, or its plan.
+// What is asked of a query: its rows in a form, or its plan.
 #[derive(Clone, Copy)]
 enum Asked {
-    Rows,
+    Rows(Format),
     Plan,
 }
 
@@ -71,7 +73,8 @@ fn write_reply(
         failed: 0,
     };
     let status = match asked {
-        Asked::Rows => reply(alloc, store, arguments, &mut out),
+        Asked::Rows(Format::Csv) => reply(alloc, store, arguments, &mut out),
+        Asked::Rows(Format::Table) => reply_table(alloc, store, arguments, &mut out),
         Asked::Plan => explain(alloc, store, arguments.role, arguments.text, &mut out),
     };
     if explains && (status == 3 || status == 4 || status == 6) {
@@ -102,6 +105,17 @@ fn answer(
     Ok(write_reply(rt, alloc, store, asked, &arguments, words.explain_refusal))
 }
 
+// Reports the error of a schema text with its diagnostics on standard error, and returns the status.
+fn refuse_schema(rt: &HostRuntime, alloc: Global, schema: &str, error: SchemaError) -> u8 {
+    let status = report_failure(rt, &Failure::Error(SetupError::Schema(error)));
+    let mut out = Output {
+        inner: rt.stderr(),
+        failed: 0,
+    };
+    explain_schema(alloc, schema, error, &mut out);
+    status
+}
+
 // Makes the store and answers or explains the query, and returns the status.
 fn query(
     rt: &HostRuntime,
@@ -109,8 +123,14 @@ fn query(
     asked: Asked,
     words: &QueryArguments<'_>,
 ) -> Result<u8, Failure<SetupError<Global>>> {
-    let store = store_of(rt, alloc, words.schema, words.dir)?;
-    answer(rt, alloc, &store, asked, words)
+    let schema = read_text(rt, alloc, words.schema)?;
+    match store_of(rt, alloc, schema.as_str(), words.dir) {
+        Ok(store) => answer(rt, alloc, &store, asked, words),
+        Err(Failure::Error(SetupError::Schema(error))) if words.explain_refusal => {
+            Ok(refuse_schema(rt, alloc, schema.as_str(), error))
+        }
+        Err(failure) => Err(failure),
+    }
 }
 
 // Takes the events of a script, and writes the reply to each.
@@ -119,7 +139,8 @@ fn session(
     alloc: Global,
     words: &SessionArguments<'_>,
 ) -> Result<(), ProgramError> {
-    let store = store_of(rt, alloc, words.schema, words.dir)?;
+    let schema = read_text(rt, alloc, words.schema)?;
+    let store = store_of(rt, alloc, schema.as_str(), words.dir)?;
     let mut core = Core::new(alloc, store);
     if words.script == "-" {
         return answer_input(rt, alloc, &mut core, words.frames);
@@ -190,7 +211,12 @@ fn run(rt: &HostRuntime) -> Result<u8, ProgramError> {
     let words = command_words(rt, alloc)?;
     let texts = texts_of(alloc, words.as_slice())?;
     match read_arguments(alloc, texts.as_slice())? {
-        Request::Query(arguments) => Ok(query(rt, alloc, Asked::Rows, &arguments)?),
+        Request::Query(arguments) => Ok(query(
+            rt,
+            alloc,
+            Asked::Rows(arguments.format),
+            &arguments,
+        )?),
         Request::Explain(arguments) => Ok(query(rt, alloc, Asked::Plan, &arguments)?),
         Request::Verify(arguments) => Ok(audit(rt, alloc, &arguments)?),
         Request::Session(arguments) => {

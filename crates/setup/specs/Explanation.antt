@@ -4,8 +4,12 @@ use Rattle.std.specs.Io.KnownBytes.{Appends}
 use Rattle.output.specs.Taken.{Begins}
 use Rattle.value.specs.Names.{Name}
 use Rattle.catalog.specs.Catalog.{Catalog}
-use Rattle.replies.specs.Reply.{Reply}
+use Rattle.replies.specs.Reply.{Reply, Refused}
+use Rattle.value.specs.declared.refusal.Refusal.TheVariants as code
 use Rattle.diagnostics.specs.Diagnosis.{hint}
+use Rattle.diagnostics.specs.Statements.{statement_hint}
+use Rattle.setup.specs.declared.error.SchemaError.{SchemaError}
+use Rattle.setup.specs.declared.error.SchemaError.TheVariants as errors
 use Rattle.analysis.specs.Analysis.{refusal_to}
 use Rattle.setup.specs.Lines.{memory_line}
 
@@ -16,6 +20,12 @@ hint_for text (Some refusal) = hint text refusal
 -- no row is an argument
 abbrev pub explanation : Catalog → Name → List ℕ → List ℕ
 explanation cat role text = hint_for text (refusal_to cat role text)
+
+-- the same of the error of a schema text: a refused statement has the offset at which it begins
+abbrev pub schema_explanation : List ℕ → SchemaError → List ℕ
+schema_explanation text (errors.Syntax offset) = hint text (Refused code.SyntaxError (Some offset))
+schema_explanation text errors.Limit = hint text (Refused code.ProgramLimitExceeded None)
+schema_explanation text (errors.Statement number why) = statement_hint text number why
 
 -- it went out, or memory ran out, and that did
 abbrev pub IsExplained : Option (List ℕ) → Option (List ℕ) → List ℕ → Type 0

@@ -8,7 +8,9 @@ mod explanation;
 mod line;
 mod load;
 mod open;
+mod reply_tables;
 mod schema;
+mod schema_explanation;
 
 pub use arguments::{Arguments, reply};
 pub use error::{SchemaError, SetupError};
@@ -16,4 +18,6 @@ pub use explanation::explain_refusal;
 pub use line::{line_of, report, status_of};
 pub use load::{Folder, load_table, load_tables};
 pub use open::{open_store, store_of_schema};
+pub use reply_tables::reply_table;
 pub use schema::apply_schema;
+pub use schema_explanation::explain_schema;

@@ -1,0 +1,4 @@
+pub mod Due
+pub mod ShownChars
+pub mod Sides
+pub mod Times

@@ -1,0 +1,4 @@
+pub mod Cells
+pub mod ReplyTables
+pub mod Tables
+pub mod Writing
