@@ -9,4 +9,4 @@ mod conditions;
 #[cfg(test)]
 mod numbers;
 #[cfg(test)]
-mod tests;
+mod truth_values;

@@ -162,6 +162,13 @@ impl<A: Heap> Truths<A> {
         or_masks(&mut self.trues, &mut self.nulls, &other.trues, &other.nulls);
     }
 
+    /// The number of rows.
+    pub fn len(&self) -> usize
+        ensures { result ≡ length self.now }
+    {
+        self.len
+    }
+
     /// True where the condition is true on the row of this number: neither false nor null.
     pub fn is_true(&self, row: usize) -> bool
         requires { row < length self.now }

@@ -29,7 +29,12 @@ fn is_true_where(
     let Some(truths) = truths_of(rt.alloc(), table, &*condition?)? else {
         panic!(rt; "{case:?} does not go by lanes");
     };
-    for row in 0..table.rows() as usize {
+    assert_eq!(rt;
+        truths.len() as u64,
+        table.rows(),
+        "{case:?}: a truth value for each row"
+    );
+    for row in 0..truths.len() {
         let wanted = truth(case, first(row), second(row)) == Some(want);
         let found = truths.is_true(row);
         assert_eq!(rt; found, wanted, "{case:?}, {want}: row {row}");
