@@ -30,12 +30,11 @@ ghost use Rattle.engine.specs.Serving.{IsExplained};
 
 use crate::known::known_statistics;
 use crate::setting::setting;
-use crate::writing::send;
 use analysis::{admit, read_query};
 use bound_plans::{named, plan_entries};
 use expr::{ColumnId, MovableExpr};
 use memory::{Heap, Items};
-use output::Out;
+use output::{Out, send};
 use plan_texts::{SortColumn, write_plan};
 use planning::Plan;
 use replies::{Reply, reply_status, reply_text};

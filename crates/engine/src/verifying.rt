@@ -12,10 +12,9 @@ ghost use Rattle.engine.specs.Serving.{IsAudited};
 ghost use Rattle.engine.specs.View.{audit_of};
 
 use crate::auditing::{Audit, audit_plan};
-use crate::writing::send;
 use catalog::Catalog;
 use memory::{Heap, push_number, push_str};
-use output::Out;
+use output::{Out, send};
 use replies::{reply_status, reply_text};
 use std::alloc::AllocError;
 use trailcheck::{Reason, Refusal, Verdict};

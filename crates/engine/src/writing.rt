@@ -1,6 +1,6 @@
 //! Writing the reply.
 
-ghost use Rattle.std.specs.Prelude.{◌≡◌, ◌≢◌, ◌⊎◌, ◌<◌, ℕ, List};
+ghost use Rattle.std.specs.Prelude.{◌≡◌, ◌≢◌, ◌⊎◌, ℕ, List};
 ghost use Rattle.std.specs.Io.KnownBytes.{Appends};
 ghost use Rattle.output.specs.Taken.{Begins, one_more};
 ghost use Rattle.value.specs.Names.{Name};
@@ -15,23 +15,9 @@ ghost use Rattle.engine.specs.Readable.{ReadsSame};
 
 use crate::asking::ask;
 use memory::Heap;
-use output::{Out, write_whole};
+use output::{Out, send};
 use replies::{reply_status, reply_text};
 use store::Store;
-
-/// Writes a text: its status, or 8 where the writer failed.
-pub(crate) fn send<W: Out>(out: &mut W, text: &[u8], status: u8) -> u8
-    requires { status < 8 }
-    ensures whole { result ≢ 8 → (result ≡ status) × Appends (W.taken out.old) (W.taken out.new) text.now }
-    ensures failed { result ≡ 8 → W.failures out.new ≡ one_more (W.failures out.old) }
-    ensures fine { result ≢ 8 → W.failures out.new ≡ W.failures out.old }
-    ensures beginning { result ≡ 8 → Begins (W.taken out.old) (W.taken out.new) text.now }
-{
-    match write_whole(out, text) {
-        Ok(()) => status,
-        Err(_) => 8,
-    }
-}
 
 // Writes the reply to a role's text, or one line where memory runs out.
 fn write_reply<A: Heap, W: Out>(

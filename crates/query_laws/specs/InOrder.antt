@@ -1,5 +1,5 @@
 -- The parts of a query are bound one after another, in written order.
-use Rattle.std.specs.Prelude.{◌≡◌, ◌<◌, ℕ, ◌+◌, List, [], ◌∷◌, length, take, get_or, Option, Some, Result, Ok}
+use Rattle.std.specs.Prelude.{◌≡◌, ℕ, ◌+◌, List, [], ◌∷◌, length, take, Some, Result, Ok}
 use Rattle.std.specs.List.{slice_get}
 use Rattle.row_ast.specs.Ast as ast
 use Rattle.memory.specs.Results.{on_each}

@@ -1,5 +1,5 @@
 -- A text without control characters, character by character.
-use Rattle.std.proofs.Common.{◌≡◌, ℕ, List, [], ◌∷◌, ◌++◌, length, chars, encode_utf8, encode_utf8_all, flat_map, IsUtf8}
+use Rattle.std.proofs.Common.{◌≡◌, ℕ, List, [], ◌++◌, length, encode_utf8, encode_utf8_all, IsUtf8}
 use Rattle.std.proofs.lemmas.Str.{chars_past_char, encodes-append}
 use Rattle.std.proofs.StrCases.{chars_of_empty}
 use Rattle.tabular.specs.Cells.{shown, shown_char}

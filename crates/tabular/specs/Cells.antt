@@ -1,5 +1,5 @@
 -- The cells of a table that is shown in a terminal.
-use Rattle.std.specs.Prelude.{ℕ, ◌+◌, ◌/◌, ◌%◌, ◌==◌, nat_lt, Bool, true, false, ◌||◌, ◌&&◌, if◌then◌else◌, List, [], ◌∷◌, ◌++◌, codes, chars, encode_utf8_all, flat_map, replicate}
+use Rattle.std.specs.Prelude.{ℕ, ◌+◌, ◌/◌, ◌%◌, ◌==◌, nat_lt, Bool, false, ◌||◌, ◌&&◌, if◌then◌else◌, List, [], ◌∷◌, ◌++◌, codes, chars, encode_utf8_all, flat_map}
 use Rattle.unicode_width.specs.Width.{str_width}
 
 -- the bytes of a text in UTF-8

@@ -1,30 +1,15 @@
 //! Writing a reply, its rows as a table.
 
-ghost use Rattle.std.specs.Prelude.{◌≡◌, ◌≢◌, ◌⊎◌, ◌<◌};
-ghost use Rattle.std.specs.Io.KnownBytes.{Appends};
-ghost use Rattle.output.specs.Taken.{Begins, one_more};
+ghost use Rattle.std.specs.Prelude.{◌≡◌, ◌≢◌, ◌⊎◌};
+ghost use Rattle.output.specs.Taken.{one_more};
 ghost use Rattle.replies.specs.Reply.{no_memory};
 ghost use Rattle.replies.specs.View.{reply_of};
 ghost use Rattle.tabular.specs.Writing.{BeginsTable, IsTable};
 
 use crate::answer::reply_table;
 use memory::Heap;
-use output::{Out, write_whole};
+use output::{Out, send};
 use replies::{Reply, reply_status};
-
-// Writes a text: its status, or 8 where the writer failed.
-fn send<W: Out>(out: &mut W, text: &[u8], status: u8) -> u8
-    requires { status < 8 }
-    ensures whole { result ≢ 8 → (result ≡ status) × Appends (W.taken out.old) (W.taken out.new) text.now }
-    ensures failed { result ≡ 8 → W.failures out.new ≡ one_more (W.failures out.old) }
-    ensures fine { result ≢ 8 → W.failures out.new ≡ W.failures out.old }
-    ensures beginning { result ≡ 8 → Begins (W.taken out.old) (W.taken out.new) text.now }
-{
-    match write_whole(out, text) {
-        Ok(()) => status,
-        Err(_) => 8,
-    }
-}
 
 /// Writes a reply, its rows as a table, and returns its status; or that of out of memory, with its line. The status is 8
 /// where the writer failed.
