@@ -1,5 +1,5 @@
 -- A load at the index of a table, and a database by its parts.
-use Rattle.std.proofs.Common.{◌≡◌, ◌⊎◌, inl, inr, ℕ, Bool, true, false, cond, ◌-◌, List, [], ◌++◌, append-nil, take, map, set, get_or, find, Option, Some, None, IfSome, Result, Ok, Err, refl, sym, ap, ◌∙◌, length}
+use Rattle.std.proofs.Common.{◌≡◌, ◌⊎◌, inl, inr, ℕ, Bool, true, false, cond, ◌-◌, List, [], ◌∷◌, ◌++◌, append-nil, take, map, set, get_or, find, Option, Some, None, IfSome, Result, Ok, Err, refl, sym, ap, subst, ◌∙◌, length}
 use Rattle.std.proofs.lemmas.List.{take_at}
 use Rattle.std.specs.List.{position_from}
 use Rattle.value.specs.Datum.{Row}
@@ -15,10 +15,12 @@ use Rattle.memory.specs.Gives.{Gives, IsFailure}
 use Rattle.memory.specs.declared.failure.Failure.{Failure}
 use Rattle.memory.specs.declared.failure.Failure.TheVariants.{Error, OutOfMemory}
 use Rattle.value.specs.Names.{Name}
-use Rattle.row_ast.specs.Statements.{Statement}
+use Rattle.row_ast.specs.Statements.{CreateTable, Statement}
 use Rattle.catalog.specs.Catalog.{Catalog}
 use Rattle.store.specs.declared.store.StoreError.TheVariants as errors
-use Rattle.store.specs.Database.{Database, is_named, with_catalog}
+use Rattle.value.specs.Columns.{Column}
+use Rattle.catalog.specs.Changes.{changed}
+use Rattle.store.specs.Database.{Database, changed_database, empty_table, is_named, with_catalog}
 use Rattle.store.specs.Loads.{IsFirstFault, IsLoad, IsLoadFrom, LoadStops, LoadsRows, due_rows, store_failure, store_result, with_rows}
 use Rattle.store.proofs.Places.{set_at, found_at}
 
@@ -34,6 +36,12 @@ IfSome-all (Some x) P f = f x
 -- a database is its catalogue and its tables
 pub same_database : (cat cat' : Catalog) (ts ts' : List (Name × TableRows)) → cat' ≡ cat → ts' ≡ ts → ◌≡◌ {A = Database} record { catalog = cat'; tables = ts' } record { catalog = cat; tables = ts }
 same_database cat cat' ts ts' a b = rw (a, b)
+
+-- a new table comes last
+pub added_table : (database : Database) (cat cat' : Catalog) (ts ts' : List (Name × TableRows)) (actor : Name) (statement : Statement) (name : Name) (columns : List Column) → record { catalog = cat; tables = ts } ≡ database → statement ≡ CreateTable name columns
+    → changed cat actor statement ≡ Ok cat' → ts' ≡ ts ++ (name, empty_table columns) ∷ [] → changed_database database actor statement ≡ Ok record { catalog = cat'; tables = ts' }
+added_table database cat cat' ts ts' actor statement name columns is create change all =
+    subst (λ (d : Database). changed_database d actor statement ≡ Ok record { catalog = cat'; tables = ts' }) is (rw change (rw create (rw all refl)))
 
 pub still_refused : (database : Database) (statement : Statement) (due : Result Catalog Refusal) (why : Refusal) → (why ≡ r.OutOfMemory) ⊎ (due ≡ Err why) → (why ≡ r.OutOfMemory) ⊎ (with_catalog database statement due ≡ Err why)
 still_refused database statement due why (inl e) = inl e
