@@ -8,8 +8,8 @@ use std::alloc::Global;
 use std::borrow::CowStr;
 use std::process::Abort;
 use value::{
-    ColType, FaultKind, Truth, Val, add, and3, as_condition, cast, div, eq3, lt3, mul, neg,
-    not3, of_truth, or3, read_bigint, read_value, rem, sub, text_of,
+    ColType, FaultKind, Truth, Val, add, and3, as_condition, cast, div, eq3, lt3, mul, neg, not3,
+    of_truth, or3, read_bigint, read_value, rem, sub, text_of,
 };
 
 // A value of a row.
@@ -308,7 +308,13 @@ fn texts_of_booleans(rt: &impl Abort) {
 
 fn texts_of_bigints(rt: &impl Abort) {
     for (text, want) in bigints() {
-        same(rt, &read_bigint(text.as_bytes()), want, "texts_of_bigints", text);
+        same(
+            rt,
+            &read_bigint(text.as_bytes()),
+            want,
+            "texts_of_bigints",
+            text,
+        );
     }
 }
 

@@ -2,11 +2,11 @@
 #![tactic(auto)]
 
 mod code;
-mod columns;
 mod draft;
 mod laws;
 mod line;
 mod lines;
+mod named_columns;
 mod names;
 mod numbers;
 mod parts;

@@ -6,7 +6,7 @@ ghost use Rattle.plan_texts.specs.Reading as spec;
 ghost use Rattle.plan_texts.specs.View.{line_of, plan_entry_of, texts_of};
 
 use crate::code::{read_hash, read_merge, read_scan};
-use crate::columns::columns_found;
+use crate::named_columns::columns_found;
 use crate::names::{column_number, entry_number};
 use crate::numbers::{read_cost, read_number};
 use crate::parts::{cut, dotted, parts_of};

@@ -10,7 +10,7 @@ use Rattle.memory.proofs.Lighter.{lighter, left_lighter, right_lighter, middle_l
 use Rattle.plan_texts.specs.Reading.{is_found}
 use Rattle.plan_texts.specs.View.{plan_entry_of}
 use Rattle.plan_texts.proofs.ColumnWalks.{both_are, columns_as, members_step, members_over, arm_step, arms_over_all}
-use Rattle.plan_texts.proofs.columns.+found.Goals as goal
+use Rattle.plan_texts.proofs.named_columns.+found.Goals as goal
 
 -- ---- each call is on less
 

@@ -4,7 +4,7 @@ use Rattle.row_ast.specs.Weights.{weight, all_weight, arms_weight}
 use Rattle.plan_texts.specs.Columns.{members_columns, arms_columns}
 use Rattle.plan_texts.specs.Reading.{is_found}
 use Rattle.plan_texts.specs.View.{plan_entry_of}
-use Rattle.plan_texts.proofs.columns.+found.Given as goal
+use Rattle.plan_texts.proofs.named_columns.+found.Given as goal
 
 abbrev pub decreases-columns_found : goal.decreases-columns_found
 decreases-columns_found g l = weight (expr_of l.expression.now)
