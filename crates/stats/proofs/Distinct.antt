@@ -76,7 +76,7 @@ module _ {X : Type 0} (cmp : X → X → Ordering) (total : IsTotalOrder cmp) wh
           omega (arith, apart, front, same, rest, behind)
 
   -- order does not change how many are left
-  count_sorted : (xs : List X) → length (without_repeats cmp (sorted_by cmp xs)) ≡ length (without_repeats cmp xs)
+  pub count_sorted : (xs : List X) → length (without_repeats cmp (sorted_by cmp xs)) ≡ length (without_repeats cmp xs)
   count_sorted [] = refl
   count_sorted (x ∷ xs) =
       let same : added cmp x (sorted_by cmp xs) ≡ added cmp x xs = ap (λ b. cond b 0 1) (list_any-IsPermutation (λ z. is_eq (cmp x z)) _ _ (IsPermutation-sorted_by cmp total xs)) in

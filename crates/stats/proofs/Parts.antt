@@ -107,7 +107,7 @@ module _ (rows : List Row) (column : ℕ) where
 -- ---- in a set
 
 module _ {K X : Type 0} (eq : K → K → Bool) (cmp : X → X → Ordering) (f : K → X) (same : (a b : K) → eq a b ≡ is_eq (cmp (f a) (f b))) where
-  repeated_member : (k : K) (ks : List K) → is_member eq ks k ≡ is_repeated cmp (f k) (map f ks)
+  pub repeated_member : (k : K) (ks : List K) → is_member eq ks k ≡ is_repeated cmp (f k) (map f ks)
   repeated_member k [] = refl
   repeated_member k (j ∷ ks) = ap₂ ◌||◌ (same k j) (repeated_member k ks)
 

@@ -1,6 +1,6 @@
 //! The statistics of a column, counted.
 
-ghost use Rattle.std.specs.Prelude.{◌≡◌, ◌<◌, ◌≤◌, IfOk, Some, length, map, option_map};
+ghost use Rattle.std.specs.Prelude.{◌≡◌, ◌<◌, ◌≤◌, ◌+ℤ◌, ◌<ℤ◌, ◌≤ℤ◌, All, IfOk, IfSome, Some, length, option_map, pos};
 ghost use Rattle.std.specs.Ordering.{bool_cmp, int_cmp, nat_cmp};
 ghost use Rattle.std.specs.Cmp.Lexicographic.{slice_cmp};
 ghost use Rattle.bags.specs.Least.{lesser};
@@ -18,40 +18,38 @@ use std::hash::{BuildHasherDefault, FoldHasher};
 use tables::Table;
 use value::Lent;
 
-// Values by their type.
+// The numbers and the truth values among some values, and the count of the distinct texts.
 #[derive(Drop)]
-struct Values<'t, A: Heap> {
+struct Values<A: Heap> {
     numbers: Vec<i64, A>,
-    texts: Vec<&'t str, A>,
+    distinct_texts: u64,
     truths: Vec<bool, A>,
 }
 
 // The values of a column, apart from null.
-fn values_in<'t, A: Heap>(
-    alloc: A,
-    table: &'t Table<A>,
-    column: u64,
-) -> Result<Values<'t, A>, AllocError>
+fn values_in<A: Heap>(alloc: A, table: &Table<A>, column: u64) -> Result<Values<A>, AllocError>
     requires { column < length table.now.columns }
     ensures numbers { IfOk result (λ values. values.numbers.items ≡ spec.numbers (spec.values_in table.now.rows column)) }
-    ensures texts { IfOk result (λ values. map (λ t. t.now) values.texts.items ≡ texts (spec.values_in table.now.rows column)) }
+    ensures texts { IfOk result (λ values. values.distinct_texts ≡ length (without_repeats (slice_cmp nat_cmp) (texts (spec.values_in table.now.rows column)))) }
     ensures truths { IfOk result (λ values. values.truths.items ≡ truths (spec.values_in table.now.rows column)) }
     ensures few { length table.now.rows ≤ MAX_ROWS }
 {
     let mut numbers = Vec::new(alloc);
-    let mut texts = Vec::new(alloc);
+    let mut texts: HashSet<&str, BuildHasherDefault<FoldHasher>, A> = HashSet::new(alloc);
     let mut truths = Vec::new(alloc);
     for row in 0..table.rows() {
         match table.value(row, column) {
             None => {}
             Some(Lent::Int(number)) => numbers.push(number)?,
-            Some(Lent::Text(text)) => texts.push(text)?,
+            Some(Lent::Text(text)) => {
+                texts.insert(text)?;
+            }
             Some(Lent::Bool(truth)) => truths.push(truth)?,
         }
     }
     Ok(Values {
         numbers,
-        texts,
+        distinct_texts: texts.len() as u64,
         truths,
     })
 }
@@ -107,23 +105,64 @@ fn count_runs(numbers: &[i64]) -> u64
     count
 }
 
-// How many numbers are distinct. They are sorted, so that equal ones stand side by side.
-fn distinct_numbers<A: Heap>(numbers: &mut Vec<i64, A>) -> u64
+// The count of the distinct numbers. They are sorted, so that equal ones stand side by side.
+fn distinct_by_sorting<A: Heap>(numbers: &mut Vec<i64, A>) -> u64
     ensures { result ≡ length (without_repeats int_cmp numbers.old.items) }
 {
     numbers.sort_unstable();
     count_runs(numbers)
 }
 
-// How many texts are distinct.
-fn distinct_texts<A: Heap>(alloc: A, texts: &[&str]) -> Result<u64, AllocError>
-    ensures { IfOk result (λ count. count ≡ length (without_repeats (slice_cmp nat_cmp) (map (λ t. t.now) texts.now))) }
+// The count of the distinct numbers. Each number from the least on has a place, which is marked when the number comes.
+fn distinct_by_marks<A: Heap>(
+    alloc: A,
+    numbers: &[i64],
+    least: i64,
+    places: usize,
+) -> Result<u64, AllocError>
+    requires { All (λ n. (least ≤ℤ n) × (n <ℤ (least +ℤ pos places))) numbers.now }
+    ensures { IfOk result (λ count. count ≡ length (without_repeats int_cmp numbers.now)) }
 {
-    let set: HashSet<&str, BuildHasherDefault<FoldHasher>, A> = texts
-        .iter()
-        .copied()
-        .collect(alloc)?;
-    Ok(set.len() as u64)
+    let mut marks = Vec::from_elem(alloc, false, places)?;
+    let mut count = 0;
+    for number in numbers {
+        let place = number.abs_diff(least) as usize;
+        if !marks[place] {
+            marks[place] = true;
+            count += 1;
+        }
+    }
+    Ok(count)
+}
+
+// The count of the places from the least number to the greatest, where marks in them take no more memory than so many numbers.
+fn few_places(bounds: Bounds, numbers: usize) -> Option<usize>
+    ensures { IfSome result (λ places. bounds.greatest <ℤ (bounds.least +ℤ pos places)) }
+{
+    let places = bounds.greatest.abs_diff(bounds.least).checked_add(1)?;
+    if places.div_ceil(8) <= numbers as u64 {
+        Some(places as usize)
+    } else {
+        None
+    }
+}
+
+// The count of the distinct numbers, which have these bounds.
+fn distinct_numbers<A: Heap>(
+    alloc: A,
+    numbers: &mut Vec<i64, A>,
+    bounds: Option<Bounds>,
+) -> Result<u64, AllocError>
+    requires { bounds ≡ spec.bounds_of numbers.old.items }
+    ensures { IfOk result (λ count. count ≡ length (without_repeats int_cmp numbers.old.items)) }
+{
+    let Some(bounds) = bounds else {
+        return Ok(0);
+    };
+    match few_places(bounds, numbers.len()) {
+        Some(places) => distinct_by_marks(alloc, numbers, bounds.least, places),
+        None => Ok(distinct_by_sorting(numbers)),
+    }
 }
 
 // How many truth values are distinct.
@@ -144,11 +183,10 @@ pub(crate) fn column_stats<A: Heap>(
 {
     let mut values = values_in(alloc, table, column)?;
     let bounds = bounds_of(&values.numbers);
-    let texts = distinct_texts(alloc, &values.texts)?;
     let truths = distinct_truths(&values.truths);
-    let numbers = distinct_numbers(&mut values.numbers);
+    let numbers = distinct_numbers(alloc, &mut values.numbers, bounds)?;
     Ok(ColumnStats {
-        distinct: numbers + texts + truths,
+        distinct: numbers + values.distinct_texts + truths,
         bounds,
     })
 }

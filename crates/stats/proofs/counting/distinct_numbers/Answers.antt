@@ -1,14 +1,17 @@
-use Rattle.std.proofs.Common.{ap, ◌∙◌}
-use Rattle.std.specs.Ordering.{int_cmp}
-use Rattle.std.proofs.lemmas.Cmp.{int_cmp_total}
-use Rattle.std.proofs.lemmas.Map.Lookups.{exact_signed}
-use Rattle.bags.proofs.Order.{sorted_is-sorted_by}
-use Rattle.stats.specs.Runs.{runs}
-use Rattle.stats.proofs.Distinct.{runs_sorted}
+use Rattle.std.proofs.Common.{FitsSigned, w64, to_z, of_z, ap, sym, ◌∙◌, rules}
+use Rattle.std.proofs.lemmas.Int.{to_z-of_z}
+use Rattle.stats.specs.Statistics.{bounds_of}
+use Rattle.stats.proofs.Bounded.{none_bounded, places_reach}
 use Rattle.stats.proofs.counting.distinct_numbers.Goals as goal
 
-pub returns : goal.returns
-returns g c =
-    c.count_runs.ensures
-    ∙ ap (runs int_cmp) (c.deref.ensures.value ∙ sorted_is-sorted_by int_cmp int_cmp_total exact_signed c.args.numbers.now.items c.sort_unstable.new.self.items c.sort_unstable.ensures.permutation c.sort_unstable.ensures.sorted)
-    ∙ runs_sorted int_cmp int_cmp_total c.args.numbers.now.items
+pub returns-in_default : goal.returns-in_default
+returns-in_default g c = sym (none_bounded c.args.numbers.now.items (sym c.in_default.is ∙ c.requires))
+
+pub distinct_by_marks-requires : goal.distinct_by_marks-requires
+distinct_by_marks-requires g c =
+    let bounds = c.in-Some.bounds in
+    let fit : FitsSigned w64 bounds.least = search rules in
+    places_reach c.deref.result.now bounds (to_z w64 (of_z w64 bounds.least)) c.in-Some-few_places.places
+    (sym c.in-Some.is ∙ c.requires ∙ ap bounds_of (sym c.deref.ensures.value))
+    (to_z-of_z w64 bounds.least fit)
+    c.in-Some-few_places.ensures
