@@ -9,6 +9,8 @@ mod elsewhere;
 #[cfg(test)]
 mod fault_stages;
 #[cfg(test)]
+mod first_rows;
+#[cfg(test)]
 mod group_by;
 #[cfg(test)]
 mod order;

@@ -4,3 +4,4 @@ pub mod NamedColumns
 pub mod OutputOrder
 pub mod Restricting
 pub mod SameCombinations
+pub mod Taking

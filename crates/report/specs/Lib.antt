@@ -1,4 +1,6 @@
 pub mod Answer
+pub mod Answering
+pub mod Held
 pub mod Ordered
 pub mod QueryStages
 pub mod Restricted

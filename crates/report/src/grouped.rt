@@ -1,25 +1,25 @@
 //! The stages of a query with groups.
 
-ghost use Rattle.std.specs.Prelude.{◌≡◌, ◌++◌, OnOk, IfOk, map, option_map, option_to_list};
+ghost use Rattle.std.specs.Prelude.{◌≡◌, ◌++◌, [], ◌∷◌, List, OnOk, IfOk, map, option_map, option_to_list};
 ghost use Rattle.std.specs.List.{flat_map};
 ghost use Rattle.memory.specs.Gives.{Gives};
-ghost use Rattle.memory.specs.Results.{and_then};
 ghost use Rattle.value.specs.Datum.{row_of};
 ghost use Rattle.expr.specs.Aggregates.{aggregates};
 ghost use Rattle.expr.specs.View.{aggregate_calls_of, bound_expr_of, bound_items_of, bound_query_of};
-ghost use Rattle.groups.specs.Members.{member_on};
-ghost use Rattle.groups.specs.Taking.{Takes};
 ghost use Rattle.groups.specs.View.{group_row_of};
-ghost use Rattle.tuples.specs.Combinations.{joined_cells};
+ghost use Rattle.tuples.specs.Combinations.{Combination};
 ghost use Rattle.tuples.specs.View.{world_of};
 ghost use Rattle.tuples.specs.World.{combination_at};
+ghost use Rattle.report.specs.Answering.{HoldsGroups};
+ghost use Rattle.report.specs.Ordered.{in_order_of};
 ghost use Rattle.report.specs.QueryStages as spec;
 
+use crate::answer_rows::AnswerRows;
 use crate::outcomes::{keeps, values};
 use expr::{AggregateCall, BoundCondition, BoundExpr, BoundItem, BoundQuery, push_aggregates};
 use groups::{GroupCells, GroupRow, Groups, member_on};
 use memory::{Failure, Heap, Items};
-use stages::{Stage, gives, gives_if};
+use stages::{Stage, gives_if};
 use std::alloc::AllocError;
 use tuples::{Combo, JoinedRow, World};
 use value::{Fault, Value};
@@ -50,8 +50,8 @@ fn push_having_aggregates<'q, A: Heap>(
     }
 }
 
-// The aggregates of a query, in written order: of its items and then of HAVING.
-fn query_aggregates<'q, A: Heap>(
+/// The aggregates of a query, in written order: of its items and then of HAVING.
+pub fn query_aggregates<'q, A: Heap>(
     alloc: A,
     query: &'q BoundQuery<A>,
 ) -> Result<Items<AggregateCall<'q, A>, A>, AllocError>
@@ -81,41 +81,22 @@ fn having_conditions<'q, A: Heap>(
     Ok(conditions)
 }
 
-// Adds the group key and aggregate arguments of a combination to the groups, or the first fault of the arguments.
-fn add_combination<'w, A: Heap>(
+/// Adds the group key and aggregate arguments of one more combination to the groups, or the first fault of the arguments.
+pub fn add_combination<'w, A: Heap>(
     alloc: A,
     world: &'w World<'w, A>,
     calls: &'w [AggregateCall<'w, A>],
     groups: &mut Groups<A>,
     combination: &'w Combo<A>,
 ) -> Result<(), AllocError>
-    requires calls { aggregate_calls_of calls.now ≡ spec.query_aggregates (world_of world.now).query }
-    ensures { OnOk result (Takes (spec.query_aggregates (world_of world.now).query) (member_on (joined_cells (combination_at (world_of world.now).tables combination.now)) world.now.role.now (world_of world.now).query.group_by (spec.query_aggregates (world_of world.now).query)) groups.old groups.new) }
+    ensures { let w = world_of world.now in (these : List Combination) → aggregate_calls_of calls.now ≡ spec.query_aggregates w.query → HoldsGroups w.query.group_by (spec.query_aggregates w.query) groups.old (map (spec.arguments_fate w.role w.query) these) →
+        OnOk result (HoldsGroups w.query.group_by (spec.query_aggregates w.query) groups.new (map (spec.arguments_fate w.role w.query) (these ++ combination_at w.tables combination.now ∷ []))) }
 {
     let row = JoinedRow::new(world.tables, combination);
     let columns = world.query.group_by.as_slice();
     let member = member_on(alloc, columns, calls, &row, world.role);
     groups.add(alloc, calls, member)?;
     Ok(())
-}
-
-// The row of each group, with the totals of the combinations so far while they come, or the least fault: that of an
-// argument, and else of an aggregate.
-fn sums_stage<A: Heap>(
-    alloc: A,
-    world: &World<'_, A>,
-    calls: &[AggregateCall<'_, A>],
-    combos: &[&Combo<A>],
-) -> Result<Items<GroupRow<A>, A>, Failure<Fault>>
-    requires calls { aggregate_calls_of calls.now ≡ spec.query_aggregates (world_of world.now).query }
-    ensures { Gives (λ rows. map (λ g. group_row_of g) rows) result
-        (and_then (spec.arguments_stage world.now.role.now (world_of world.now).query (map (λ c. combination_at (world_of world.now).tables c.now) combos.now)) (spec.sums_stage world.now.role.now (world_of world.now).query)) }
-{
-    let mut groups = Groups::new(alloc, world.query.group_by.as_slice(), calls)?;
-    for combination in combos {
-        add_combination(alloc, &*world, &*calls, &mut groups, combination)?;
-    }
-    groups.rows(alloc, calls)
 }
 
 // The group, where HAVING is true or absent.
@@ -157,42 +138,42 @@ fn having_stage<'g, A: Heap>(
     stage.end()
 }
 
-// The values of the items on a group.
-fn group_items_fate<A: Heap>(
+// The values of the items on a group, or the first fault.
+fn values_on_group<A: Heap>(
     alloc: A,
     world: &World<'_, A>,
     calls: &[AggregateCall<'_, A>],
     group: &GroupRow<A>,
-) -> Result<Option<Items<Value<A>, A>>, Failure<Fault>>
+) -> Result<Items<Value<A>, A>, Failure<Fault>>
     requires calls { aggregate_calls_of calls.now ≡ spec.query_aggregates (world_of world.now).query }
-    ensures { Gives (option_map (λ r. row_of r)) result (spec.group_items_fate world.now.role.now (world_of world.now).query (group_row_of group.now)) }
+    ensures { let w = world_of world.now in Gives (λ r. row_of r) result (spec.values_of (spec.cells_of_group w.query (group_row_of group.now)) w.role w.query.items) }
 {
     let cells = GroupCells {
         columns: world.query.group_by.as_slice(),
         calls,
         row: group,
     };
-    gives(values(alloc, world.query.items.as_slice(), &cells, world.role))
+    values(alloc, world.query.items.as_slice(), &cells, world.role)
 }
 
-// The items of each group, or the least fault.
-fn group_items_stage<A: Heap>(
+// The items of each group, in order and cut by the limit, or the least fault.
+fn rows_in_order<A: Heap>(
     alloc: A,
     world: &World<'_, A>,
     calls: &[AggregateCall<'_, A>],
     groups: &[&GroupRow<A>],
 ) -> Result<Items<Items<Value<A>, A>, A>, Failure<Fault>>
     requires calls { aggregate_calls_of calls.now ≡ spec.query_aggregates (world_of world.now).query }
-    ensures { Gives (λ rows. map (λ r. row_of r) rows) result (spec.group_items_stage world.now.role.now (world_of world.now).query (map (λ g. group_row_of g.now) groups.now)) }
+    ensures { let w = world_of world.now in Gives (λ rows. map (λ r. row_of r) rows) result (in_order_of w.query.order_by w.query.limit (spec.group_items_stage w.role w.query (map (λ g. group_row_of g.now) groups.now))) }
 {
-    let mut stage = Stage::new(alloc);
+    let mut rows = AnswerRows::new(alloc);
     for group in groups {
-        stage.add(group_items_fate(alloc, world, calls, group))?;
+        rows.add(world.query, values_on_group(alloc, world, calls, group))?;
     }
-    stage.end()
+    rows.end(world.query)
 }
 
-// The items of the groups that HAVING keeps, or the least fault of the first stage that has one.
+// The items of the groups that HAVING keeps, in order and cut by the limit, or the least fault of the first stage that has one.
 fn rows_of_group_rows<A: Heap>(
     alloc: A,
     world: &World<'_, A>,
@@ -200,23 +181,23 @@ fn rows_of_group_rows<A: Heap>(
     groups: &[GroupRow<A>],
 ) -> Result<Items<Items<Value<A>, A>, A>, Failure<Fault>>
     requires calls { aggregate_calls_of calls.now ≡ spec.query_aggregates (world_of world.now).query }
-    ensures { Gives (λ rows. map (λ r. row_of r) rows) result (spec.rows_of_group_rows world.now.role.now (world_of world.now).query (map (λ g. group_row_of g) groups.now)) }
+    ensures { let w = world_of world.now in Gives (λ rows. map (λ r. row_of r) rows) result (in_order_of w.query.order_by w.query.limit (spec.rows_of_group_rows w.role w.query (map (λ g. group_row_of g) groups.now))) }
 {
     let having = having_conditions(alloc, world.query)?;
     let kept = having_stage(alloc, world, calls, having.as_slice(), groups)?;
-    group_items_stage(alloc, world, calls, kept.as_slice())
+    rows_in_order(alloc, world, calls, kept.as_slice())
 }
 
-/// The rows of the groups of combinations, or the least fault of the first stage that has one.
+/// The rows of the groups of combinations, in order and cut by the limit, or the least fault of the first stage that has one.
 pub fn rows_of_groups<A: Heap>(
     alloc: A,
     world: &World<'_, A>,
-    combos: &[&Combo<A>],
+    groups: Groups<A>,
 ) -> Result<Items<Items<Value<A>, A>, A>, Failure<Fault>>
-    ensures { Gives (λ rows. map (λ r. row_of r) rows) result
-        (spec.rows_of_groups world.now.role.now (world_of world.now).query (map (λ c. combination_at (world_of world.now).tables c.now) combos.now)) }
+    ensures { let w = world_of world.now in (these : List Combination) → HoldsGroups w.query.group_by (spec.query_aggregates w.query) groups (map (spec.arguments_fate w.role w.query) these) →
+        Gives (λ rows. map (λ r. row_of r) rows) result (in_order_of w.query.order_by w.query.limit (spec.rows_of_groups w.role w.query these)) }
 {
     let calls = query_aggregates(alloc, world.query)?;
-    let groups = sums_stage(alloc, world, calls.as_slice(), combos)?;
-    rows_of_group_rows(alloc, world, calls.as_slice(), groups.as_slice())
+    let rows = groups.rows(alloc, calls.as_slice())?;
+    rows_of_group_rows(alloc, world, calls.as_slice(), rows.as_slice())
 }

@@ -1,7 +1,10 @@
-//! The answer over combinations: the stages of a query, their rows in order and cut by the limit, and the laws of it.
+//! The answer over combinations that come one after the other: the stages of a query, their rows in order and cut by the limit,
+//! and the laws of it.
 #![tactic(auto)]
 
-mod finishing;
+mod answer_rows;
+mod answering;
+mod gathered;
 mod grouped;
 mod laws;
 mod order_laws;
@@ -9,6 +12,6 @@ mod ordering;
 mod outcomes;
 mod ungrouped;
 
-pub use finishing::finish;
+pub use answering::Answering;
 pub use laws::{law_hidden_rows, law_order_of_combinations};
 pub use order_laws::law_ordered_rows;

@@ -1,46 +1,37 @@
-use Rattle.std.proofs.Common.{◌≡◌, Result, Ok, Err, ap, map, refl, subst, sym, ◌∙◌}
+use Rattle.std.proofs.Common.{ap, map, subst, sym, ◌∙◌}
 use Rattle.std.proofs.lemmas.Result.{err_from_is_err_and}
 use Rattle.memory.specs.Gives.{Gives, IsFailure}
 use Rattle.memory.specs.Results.{and_then}
-use Rattle.memory.specs.declared.failure.Failure.{Failure}
-use Rattle.memory.specs.declared.failure.Failure.TheVariants as failures
 use Rattle.value.specs.Datum.{row_of}
-use Rattle.value.specs.declared.faults.Fault.{Fault}
 use Rattle.expr.specs.View.{aggregate_calls_of}
 use Rattle.eval.specs.Meaning.{◌>>=◌}
+use Rattle.groups.specs.Taking.{rows_of}
 use Rattle.tuples.specs.View.{world_of}
-use Rattle.tuples.specs.World.{combination_at}
-use Rattle.report.specs.QueryStages.{arguments_stage, sums_stage, rows_of_group_rows}
+use Rattle.report.specs.Answer.{in_order}
+use Rattle.report.specs.Ordered.{in_order_of}
+use Rattle.report.specs.QueryStages.{arguments_fate, arguments_stage, query_aggregates, rows_of_group_rows, rows_of_groups, sums_stage}
+use Rattle.report.proofs.Taking.{fails_first, in_turn, rows_are}
 use Rattle.report.proofs.grouped.rows_of_groups.Goals as goal
 
--- one stage after two others
-in_turn : {X Y Z : Type 0} (r : Result X Fault) (f : X → Result Y Fault) (g : Y → Result Z Fault) → (and_then r f >>= g) ≡ (r >>= (λ x. f x >>= g))
-in_turn (Ok x) f g = refl
-in_turn (Err e) f g = refl
-
-fails_first : {X Y Z : Type 0} (failure : Failure Fault) (r : Result X Fault) (f : X → Result Y Fault) (g : Y → Result Z Fault) → IsFailure failure (and_then r f) → IsFailure failure (r >>= (λ x. f x >>= g))
-fails_first (failures.Error e) r f g h = sym (in_turn r f g) ∙ ap (λ o. o >>= g) h
-fails_first failures.OutOfMemory r f g h = tt
-
-pub returns-in_err-calls : goal.returns-in_err-calls
-returns-in_err-calls g c =
-    let p = err_from_is_err_and c.from_residual.result c.from_residual.ensures.1 in
-    rw (p.1, p.2) tt
-
-pub returns-in_err-groups : goal.returns-in_err-groups
-returns-in_err-groups g c =
+pub returns-in_err-rows : goal.returns-in_err-rows
+returns-in_err-rows g c = λ these h.
     let q = (world_of c.args.world.now).query in
     let role = c.args.world.now.role.now in
-    let p = err_from_is_err_and c.from_residual-in_err-groups.result c.from_residual-in_err-groups.ensures.1 in
-    rw (p.1, p.2) (fails_first c.in_err-groups.field-0.0 (arguments_stage role q (map (λ d. combination_at (world_of c.args.world.now).tables d.now) c.args.combos.now)) (sums_stage role q) (rows_of_group_rows role q) c.in_err-groups.ensures)
-
-pub sums_stage-requires : goal.sums_stage-requires
-sums_stage-requires g c = record { calls = ap (λ l. aggregate_calls_of l) c.as_slice.ensures ∙ c.in_ok-calls.ensures }
+    let args = arguments_stage role q these in
+    let failure = c.in_err-rows.field-0.0 in
+    let are = ap (λ l. aggregate_calls_of l) c.as_slice.ensures ∙ c.in_ok-calls.ensures in
+    let due = subst (IsFailure failure) (ap (λ calls. rows_of calls c.args.groups) are ∙ rows_are q.group_by (query_aggregates q) c.args.groups (map (arguments_fate role q) these) h) c.in_err-rows.ensures in
+    let rows = subst (IsFailure failure) (in_turn args (sums_stage role q) (rows_of_group_rows role q)) (fails_first failure (and_then args (sums_stage role q)) (rows_of_group_rows role q) due) in
+    let p = err_from_is_err_and c.from_residual-in_err-rows.result c.from_residual-in_err-rows.ensures.1 in
+    rw (p.1, p.2) (fails_first failure (rows_of_groups role q these) (in_order role q) rows)
 
 pub returns : goal.returns
-returns g c =
+returns g c = λ these h.
     let q = (world_of c.args.world.now).query in
     let role = c.args.world.now.role.now in
-    let these = map (λ d. combination_at (world_of c.args.world.now).tables d.now) c.args.combos.now in
-    let whole = in_turn (arguments_stage role q these) (sums_stage role q) (rows_of_group_rows role q) in
-    subst (Gives (λ rows. map (λ r. row_of r) rows) c.rows_of_group_rows.result) (sym (ap (λ r. r >>= rows_of_group_rows role q) c.in_ok-groups.ensures) ∙ whole) (rw c.as_slice-3.ensures at c.rows_of_group_rows.ensures)
+    let args = arguments_stage role q these in
+    let are = ap (λ l. aggregate_calls_of l) c.as_slice.ensures ∙ c.in_ok-calls.ensures in
+    let made = ap (λ calls. rows_of calls c.args.groups) are ∙ rows_are q.group_by (query_aggregates q) c.args.groups (map (arguments_fate role q) these) h in
+    subst (Gives (λ rows. map (λ r. row_of r) rows) c.rows_of_group_rows.result)
+    (ap (in_order_of q.order_by q.limit) (sym (ap (λ r. r >>= rows_of_group_rows role q) (sym made ∙ c.in_ok-rows.ensures)) ∙ in_turn args (sums_stage role q) (rows_of_group_rows role q)))
+    (rw c.as_slice-3.ensures at c.rows_of_group_rows.ensures)

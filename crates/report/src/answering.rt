@@ -1,0 +1,89 @@
+//! The answer of a query over combinations that come one after the other.
+
+ghost use Rattle.std.specs.Prelude.{[], List, IfOk, IsPermutation, map};
+ghost use Rattle.memory.specs.Gives.{Gives};
+ghost use Rattle.value.specs.Datum.{row_of};
+ghost use Rattle.tuples.specs.Combinations.{Combination};
+ghost use Rattle.tuples.specs.View.{world_of};
+ghost use Rattle.tuples.specs.World as spec;
+ghost use Rattle.report.specs.Answer.{answer};
+ghost use Rattle.report.specs.Answering.{Took};
+
+use crate::gathered::Gathered;
+use crate::grouped::query_aggregates;
+use crate::ungrouped::keeps_combination;
+use expr::{AggregateCall, BoundExpr, fragile_conjuncts};
+use memory::{Failure, Heap, Items};
+use stages::Stage;
+use std::alloc::AllocError;
+use tuples::{Combo, Sink, World};
+use value::{Fault, Value};
+
+/// The answer of a query over combinations that come one after the other. It holds no combination: of those that stage WHERE
+/// keeps it holds the groups, or the rows of the items, of which, where the limit is small, the first in order alone.
+#[derive(Drop)]
+pub struct Answering<'w, A: Heap> {
+    alloc: A,
+    world: &'w World<'w, A>,
+    // The fragile conjuncts of the query.
+    conditions: Vec<&'w BoundExpr<A>, A>,
+    // Its aggregates.
+    calls: Items<AggregateCall<'w, A>, A>,
+    // The least fault of stage WHERE; no value is given on.
+    filter: Stage<(), A>,
+    gathered: Gathered<A>,
+}
+
+impl<'w, A: Heap> Answering<'w, A> {
+    /// Before the first combination. It fails where memory runs out.
+    pub fn new(alloc: A, world: &'w World<'w, A>) -> Result<Answering<'w, A>, AllocError>
+        ensures { IfOk result (λ s. Took (world_of world.now) s []) }
+    {
+        let conditions = fragile_conjuncts(alloc, world.query)?;
+        let calls = query_aggregates(alloc, world.query)?;
+        let gathered = Gathered::new(alloc, &*world, calls.as_slice())?;
+        Ok(Answering {
+            alloc,
+            world,
+            conditions,
+            calls,
+            filter: Stage::new(alloc),
+            gathered,
+        })
+    }
+
+    /// The answer over the combinations that were taken, in any order, on which every movable conjunct is true: its rows in order,
+    /// or the least fault of the first stage in which one faults.
+    pub fn end(self) -> Result<Items<Items<Value<A>, A>, A>, Failure<Fault>>
+        ensures { (w : spec.World) (these same : List Combination) → Took w self.entry these → IsPermutation these same →
+            Gives (λ rows. map (λ r. row_of r) rows) result (answer w.role w.query same) }
+    {
+        match self.filter.least {
+            None => self.gathered.end(self.alloc, self.world),
+            Some(fault) => Err(Failure::Error(fault)),
+        }
+    }
+}
+
+impl<'w, A: Heap> Sink<Combo<A>> for Answering<'w, A> {
+    ghost use Rattle.std.specs.Prelude.{map};
+    ghost use Rattle.tuples.specs.World.{combination_at};
+    ghost use Rattle.report.specs.Answering.{Took};
+
+    ghost took = { λ s w these. Took w s (map (combination_at w.tables) these) };
+
+    fn take(&mut self, combination: Combo<A>) -> Result<(), AllocError> {
+        match keeps_combination(
+            self.alloc,
+            self.world,
+            self.conditions.as_slice(),
+            &combination,
+        ) {
+            Ok(true) => {
+                self.gathered.add(self.alloc, self.world, self.calls.as_slice(), &combination)
+            }
+            Ok(false) => Ok(()),
+            Err(failure) => self.filter.add(Err(failure)),
+        }
+    }
+}

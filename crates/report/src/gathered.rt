@@ -1,0 +1,88 @@
+//! What is held of the combinations that stage WHERE keeps.
+
+ghost use Rattle.std.specs.Prelude.{◌≡◌, ◌++◌, [], ◌∷◌, List, IfOk, OnOk, map};
+ghost use Rattle.memory.specs.Gives.{Gives};
+ghost use Rattle.value.specs.Datum.{row_of};
+ghost use Rattle.expr.specs.View.{aggregate_calls_of};
+ghost use Rattle.tuples.specs.Combinations.{Combination};
+ghost use Rattle.tuples.specs.View.{world_of};
+ghost use Rattle.tuples.specs.World.{combination_at};
+ghost use Rattle.report.specs.Answer.{rows_of_kept};
+ghost use Rattle.report.specs.Answering.{Gathers};
+ghost use Rattle.report.specs.QueryStages.{query_aggregates};
+
+use crate::answer_rows::AnswerRows;
+use crate::grouped::{add_combination, rows_of_groups};
+use crate::ungrouped::add_items;
+use expr::AggregateCall;
+use groups::Groups;
+use memory::{Failure, Heap, Items};
+use std::alloc::AllocError;
+use tuples::{Combo, World};
+use value::{Fault, Value};
+
+/// What is held of the combinations that stage WHERE keeps.
+#[derive(Drop)]
+pub enum Gathered<A: Heap> {
+    /// Their groups.
+    Groups(Groups<A>),
+    /// The rows of the items.
+    Rows(AnswerRows<A>),
+}
+
+impl<A: Heap> Gathered<A> {
+    /// Of no combinations.
+    pub fn new(
+        alloc: A,
+        world: &World<'_, A>,
+        calls: &[AggregateCall<'_, A>],
+    ) -> Result<Gathered<A>, AllocError>
+        requires calls { aggregate_calls_of calls.now ≡ query_aggregates (world_of world.now).query }
+        ensures { IfOk result (λ g. Gathers (world_of world.now) g []) }
+    {
+        if world.query.is_grouped {
+            let columns = world.query.group_by.as_slice();
+            Ok(Gathered::Groups(Groups::new(alloc, columns, calls)?))
+        } else {
+            Ok(Gathered::Rows(AnswerRows::new(alloc)))
+        }
+    }
+
+    /// Takes one more that stage WHERE keeps.
+    pub fn add(
+        &mut self,
+        alloc: A,
+        world: &World<'_, A>,
+        calls: &[AggregateCall<'_, A>],
+        combination: &Combo<A>,
+    ) -> Result<(), AllocError>
+        ensures { let w = world_of world.now in (kept : List Combination) → aggregate_calls_of calls.now ≡ query_aggregates w.query → Gathers w self.old kept →
+            OnOk result (Gathers w self.new (kept ++ combination_at w.tables combination.now ∷ [])) }
+    {
+        match self {
+            Gathered::Groups(groups) => add_combination(
+                alloc,
+                &*world,
+                &*calls,
+                groups,
+                combination,
+            ),
+            Gathered::Rows(rows) => add_items(alloc, world, rows, combination),
+        }
+    }
+
+    /// Their rows in order and cut by the limit, or the least fault of the first stage that has one.
+    pub fn end(
+        self,
+        alloc: A,
+        world: &World<'_, A>,
+    ) -> Result<Items<Items<Value<A>, A>, A>, Failure<Fault>>
+        ensures { let w = world_of world.now in (kept : List Combination) → Gathers w self kept →
+            Gives (λ rows. map (λ r. row_of r) rows) result (rows_of_kept w.role w.query kept) }
+    {
+        match self {
+            Gathered::Groups(groups) => rows_of_groups(alloc, world, groups),
+            Gathered::Rows(rows) => rows.end(world.query),
+        }
+    }
+}
