@@ -31,7 +31,7 @@ SQL
 build
 seen='SELECT id, amount FROM deal'
 groups='SELECT region, count(*), sum(amount) FROM deal GROUP BY region ORDER BY region'
-first='SELECT id, amount FROM deal ORDER BY id DESC LIMIT 10'
+first='SELECT id, amount FROM deal ORDER BY amount LIMIT 10'
 declare -A beside=([few]="$seen WHERE id <= 2000" [one_owner]="$seen WHERE owner = 'owner-7'" [groups]=$groups [first]=$first)
 for name in few one_owner groups first; do
     cat > "$work/$name.sql" <<SQL
