@@ -9,14 +9,7 @@ rows=${1:-1000000}
 runs=${2:-5}
 . "$(dirname "$0")/measure.sh"
 
-# A number, one of 500 owners, one of 50 regions, an amount that is null in one row of eight, and a small number.
-awk -v n="$rows" 'BEGIN {
-    print "id,owner,region,amount,parts"
-    for (i = 1; i <= n; i++) {
-        amount = (i % 8 == 0) ? "\\N" : (i * 7919) % 1000003 - 500000
-        printf "%d,owner-%d,%d,%s,%d\n", i, i % 500, i % 50, amount, i % 13
-    }
-}' > "$work/deal.csv"
+deal_rows "$rows" 500 > "$work/deal.csv"
 
 # `few` sees 2,000 rows of 1,000,000 by a comparison of numbers, `one_owner` by one of texts, `root` all of them; `lone` may not read.
 cat > "$work/schema.sql" <<SQL

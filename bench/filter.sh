@@ -11,13 +11,7 @@ runs=${2:-5}
 . "$(dirname "$0")/measure.sh"
 wanted='amount >= 0 AND amount < 2000 AND parts <> 3'
 
-awk -v n="$rows" 'BEGIN {
-    print "id,owner,region,amount,parts"
-    for (i = 1; i <= n; i++) {
-        amount = (i % 8 == 0) ? "\\N" : (i * 7919) % 1000003 - 500000
-        printf "%d,owner-%d,%d,%s,%d\n", i, i % 97, i % 50, amount, i % 13
-    }
-}' > "$work/deal.csv"
+deal_rows "$rows" 97 > "$work/deal.csv"
 cat > "$work/schema.sql" <<SQL
 CREATE ROLE reader; CREATE ROLE teller; CREATE ROLE lone;
 CREATE TABLE deal (id bigint, owner text, region bigint, amount bigint, parts bigint);

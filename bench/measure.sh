@@ -41,3 +41,15 @@ processor() {
     { time "$@" > "$work/out" 2> "$work/errors"; } 2> "$work/time" || [ $? = 4 ]
     tail -n 1 "$work/time" | awk '{ printf "%.3f\n", $1 + $2 }'
 }
+
+# So many rows of a table `deal`, with a header: a number, one of so many owners, one of 50 regions, an amount that is null in one
+# row of eight, and a small number.
+deal_rows() {
+    awk -v n="$1" -v owners="$2" 'BEGIN {
+        print "id,owner,region,amount,parts"
+        for (i = 1; i <= n; i++) {
+            amount = (i % 8 == 0) ? "\\N" : (i * 7919) % 1000003 - 500000
+            printf "%d,owner-%d,%d,%s,%d\n", i, i % owners, i % 50, amount, i % 13
+        }
+    }'
+}
