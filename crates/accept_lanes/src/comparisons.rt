@@ -3,7 +3,7 @@
 ghost use Rattle.std.specs.Prelude.{◌<◌, ◌≤◌};
 
 use crate::bits::{LENGTHS, MOST, bit, set_bit, words_for};
-use lanes::{cmp_cols, cmp_lit};
+use columns::{cmp_cols, cmp_lit};
 use std::process::Abort;
 use value::Comparison;
 

@@ -4,7 +4,7 @@ ghost use Rattle.std.specs.Prelude.{◌≤◌};
 
 use crate::bits::{LENGTHS, MOST, bit, set_bit, words_for};
 use Truth::{False, True, Unknown};
-use lanes::{and_masks, not_masks, or_masks};
+use columns::{and_masks, not_masks, or_masks};
 use std::process::Abort;
 use value::Truth;
 

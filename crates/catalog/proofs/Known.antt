@@ -4,9 +4,9 @@ use Rattle.std.proofs.lemmas.Bool.{and_parts, and_from}
 use Rattle.std.proofs.lemmas.List.Folds.{list_all-append}
 use Rattle.std.specs.List.{list_all, list_any, position_from}
 use Rattle.value.specs.Names.{Name}
-use Rattle.named.specs.Named.{index_named}
-use Rattle.memberships.specs.Memberships.{Membership, is_membership, with_membership}
-use Rattle.memberships.specs.Reached.{is_of_roles}
+use Rattle.row_objects.specs.Named.{index_named}
+use Rattle.row_objects.specs.Memberships.{Membership, is_membership, with_membership}
+use Rattle.row_objects.specs.Reached.{is_of_roles}
 use Rattle.row_objects.specs.View.{role_of}
 use Rattle.row_objects.specs.declared.objects.Role.{Role}
 use Rattle.catalog.proofs.Named.{index-map}

@@ -4,9 +4,9 @@ use Rattle.std.proofs.lemmas.List.{length-append}
 use Rattle.std.proofs.lemmas.Bool.{and_parts, and_from}
 use Rattle.std.specs.List.{list_all, position_from}
 use Rattle.value.specs.Names.{Name}
-use Rattle.named.specs.Named.{index_named}
-use Rattle.memberships.specs.Memberships.{Membership, most_roles}
-use Rattle.memberships.specs.Reached.{is_of_roles}
+use Rattle.row_objects.specs.Named.{index_named}
+use Rattle.row_objects.specs.Memberships.{Membership, most_roles}
+use Rattle.row_objects.specs.Reached.{is_of_roles}
 use Rattle.row_objects.specs.declared.objects.Role.{Role}
 
 -- a member that is found among some is found among more

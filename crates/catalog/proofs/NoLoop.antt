@@ -6,8 +6,8 @@ use Rattle.value.specs.declared.refusal.Refusal.{Refusal}
 use Rattle.value.specs.declared.refusal.Refusal.TheVariants as r
 use Rattle.value.specs.Names.{Name}
 use Rattle.row_ast.specs.Statements.{Statement, CreateRole, GrantRole, RevokeRole, CreateTable, SetOwner, SetRowSecurity, CreateIndex, GrantSelect, RevokeSelect, CreatePolicy, DropPolicy}
-use Rattle.memberships.specs.Memberships.{HasNoLoop, is_membership}
-use Rattle.memberships.proofs.Loops.{none_after, none_among, none_at_first}
+use Rattle.row_objects.specs.Memberships.{HasNoLoop, is_membership}
+use Rattle.row_objects.proofs.Loops.{none_after, none_among, none_at_first}
 use Rattle.catalog.specs.Catalog.{Catalog, at_first, belongs, is_role, is_superuser}
 use Rattle.catalog.specs.Checks.{Check, first_refusal, unless}
 use Rattle.catalog.specs.GrantRole.{checks_grant_role}

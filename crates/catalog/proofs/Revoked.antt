@@ -5,7 +5,7 @@ use Rattle.row_ast.specs.Ast as ast
 use Rattle.value.specs.Names.{Name}
 use Rattle.row_objects.specs.Grants.{Grant, takes, without_grants}
 use Rattle.row_objects.specs.Objects.{Table}
-use Rattle.memberships.proofs.Paths.{text_same}
+use Rattle.row_objects.proofs.Paths.{text_same}
 use Rattle.row_objects.specs.TableChanges.{without_grants_to}
 use Rattle.catalog.specs.Catalog.{table_named}
 use Rattle.catalog.specs.Checks.{first_changed, if_found}

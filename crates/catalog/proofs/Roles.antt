@@ -1,7 +1,7 @@
 -- Roles as they are found by name.
 use Rattle.std.proofs.Common.{◌≡◌, Bool, false, List, map, find, Option, Some, None, is_some, option_map, bytes_eq, refl, sym, ap, ◌∙◌}
 use Rattle.value.specs.Names.{Name}
-use Rattle.named.specs.Named.{entry_named}
+use Rattle.row_objects.specs.Named.{entry_named}
 use Rattle.row_objects.specs.View.{role_of}
 use Rattle.row_objects.specs.declared.objects.Role.{Role}
 use Rattle.row_objects.specs.Objects as spec

@@ -3,7 +3,7 @@ use Rattle.std.specs.Prelude.{ℕ, Bool, true, false, ◌||◌, codes, List, [],
 use Rattle.std.specs.Str.{bytes_eq}
 use Rattle.std.specs.List.{find, position_from}
 use Rattle.value.specs.Names.{Name, everyone}
-use Rattle.memberships.specs.Memberships.{Membership, belongs_by}
+use Rattle.row_objects.specs.Memberships.{Membership, belongs_by}
 use Rattle.row_objects.specs.Objects.{Role, Table}
 use Rattle.row_objects.specs.Indexes.{any_index}
 pub use Rattle.row_objects.specs.ColumnNames.{column_named, column_index, is_qualified}

@@ -2,7 +2,7 @@
 use Rattle.std.specs.Prelude.{Bool, not, List, [], ◌∷◌, ◌++◌}
 use Rattle.value.specs.declared.refusal.Refusal.TheVariants as r
 use Rattle.value.specs.Names.{Name}
-use Rattle.memberships.specs.Memberships.{most_roles}
+use Rattle.row_objects.specs.Memberships.{most_roles}
 use Rattle.catalog.specs.Catalog.{Catalog, is_known, is_superuser}
 use Rattle.catalog.specs.Checks.{Check, is_full}
 

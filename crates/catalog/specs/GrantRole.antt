@@ -2,7 +2,7 @@
 use Rattle.std.specs.Prelude.{not, ◌&&◌, List, [], ◌∷◌}
 use Rattle.value.specs.declared.refusal.Refusal.TheVariants as r
 use Rattle.value.specs.Names.{Name}
-use Rattle.memberships.specs.Memberships.{closes_loop, with_membership}
+use Rattle.row_objects.specs.Memberships.{closes_loop, with_membership}
 use Rattle.catalog.specs.Catalog.{Catalog, is_role, is_superuser}
 use Rattle.catalog.specs.Checks.{Check}
 

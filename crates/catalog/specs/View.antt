@@ -1,6 +1,6 @@
 -- The views of the Rust type of the catalogue as spec data.
 use Rattle.std.specs.Prelude.{map}
-use Rattle.memberships.specs.View.{membership_of}
+use Rattle.row_objects.specs.MembershipView.{membership_of}
 use Rattle.row_objects.specs.View.{role_of, table_entry}
 use Rattle.catalog.specs.Catalog.{Catalog}
 use Rattle.catalog.specs.declared.catalog.Catalog.TheInside.{Inside}

@@ -6,10 +6,10 @@ ghost use Rattle.row_objects.specs.Policies as policies;
 ghost use Rattle.row_objects.specs.View.{table_of};
 ghost use Rattle.catalog.specs.Catalog.{at_first, belongs, bypasses_rls, is_index, is_known, is_role, is_superuser, is_table, owns, table_named, table_index};
 
-use memberships::{Membership, belongs_by};
 use memory::{Heap, Text};
-use named::ByName;
-use row_objects::{Role, Table, TableDef, any_index, has_policy_room};
+use row_objects::{
+    ByName, Membership, Role, Table, TableDef, any_index, belongs_by, has_policy_room,
+};
 use std::alloc::AllocError;
 use std::marker::Model;
 
@@ -26,9 +26,9 @@ pub struct Catalog<A: Heap> {
 impl<A: Heap> Model for Catalog<A> {
     ghost use Rattle.std.specs.Prelude.{◌≡◌, ◌≤◌, ℕ, length, true};
     ghost use Rattle.std.specs.List.{list_all};
-    ghost use Rattle.memberships.specs.Memberships.{most_roles};
-    ghost use Rattle.memberships.specs.Reached.{is_of_roles};
-    ghost use Rattle.memberships.specs.View.{memberships_of};
+    ghost use Rattle.row_objects.specs.Memberships.{most_roles};
+    ghost use Rattle.row_objects.specs.Reached.{is_of_roles};
+    ghost use Rattle.row_objects.specs.MembershipView.{memberships_of};
     ghost use Rattle.catalog.specs.Catalog as spec;
 
     ghost Value = { spec.Catalog };

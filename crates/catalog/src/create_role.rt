@@ -1,16 +1,15 @@
 //! `CREATE ROLE name [SUPERUSER] [BYPASSRLS]` (PostgreSQL: CREATE ROLE).
 
 ghost use Rattle.std.specs.Prelude.{◌≡◌, ◌<◌, false, length, OnErr, OnOk};
-ghost use Rattle.memberships.specs.Memberships.{most_roles};
+ghost use Rattle.row_objects.specs.Memberships.{most_roles};
 ghost use Rattle.catalog.specs.Catalog.{is_role};
 ghost use Rattle.catalog.specs.Checks.{first_refusal, unless};
 ghost use Rattle.catalog.specs.CreateRole.{after_create_role, checks_create_role};
 ghost use Rattle.catalog.specs.Changes.{IsChange};
 
 use crate::catalog::Catalog;
-use memberships::MOST_ROLES;
 use memory::Heap;
-use row_objects::Role;
+use row_objects::{MOST_ROLES, Role};
 use std::alloc::AllocError;
 use value::Refusal;
 

@@ -7,8 +7,8 @@ ghost use Rattle.catalog.specs.GrantRole.{after_grant_role, checks_grant_role};
 ghost use Rattle.catalog.specs.Changes.{IsChange};
 
 use crate::catalog::Catalog;
-use memberships::{add_membership, closes_loop};
 use memory::Heap;
+use row_objects::{add_membership, closes_loop};
 use std::alloc::AllocError;
 use value::Refusal;
 

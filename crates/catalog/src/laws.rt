@@ -3,7 +3,7 @@
 ghost use Rattle.std.specs.Prelude.{List};
 ghost use Rattle.value.specs.Names.{Name};
 ghost use Rattle.row_ast.specs.Statements.{Statement};
-ghost use Rattle.memberships.specs.Memberships.{HasNoLoop};
+ghost use Rattle.row_objects.specs.Memberships.{HasNoLoop};
 ghost use Rattle.catalog.specs.Catalog.{at_first};
 ghost use Rattle.catalog.specs.Granted.{GrantedAgain, IsGranted, RevokedColumns, RevokedTable};
 ghost use Rattle.catalog.specs.Run.{run};

@@ -6,8 +6,8 @@ ghost use Rattle.catalog.specs.RevokeRole.{after_revoke_role, checks_revoke_role
 ghost use Rattle.catalog.specs.Changes.{IsExactChange};
 
 use crate::catalog::Catalog;
-use memberships::remove_membership;
 use memory::Heap;
+use row_objects::remove_membership;
 use value::Refusal;
 
 fn check_revoke_role<A: Heap>(

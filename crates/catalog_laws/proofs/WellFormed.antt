@@ -18,8 +18,8 @@ use Rattle.row_ast.specs.Ast as ast
 use Rattle.row_ast.specs.Statements.{Statement, CreateRole, GrantRole, RevokeRole, CreateTable, SetOwner, SetRowSecurity, CreateIndex, GrantSelect, RevokeSelect, CreatePolicy, DropPolicy}
 use Rattle.row_ast.specs.declared.statement.RowSecurity.{RowSecurity}
 use Rattle.row_ast.specs.declared.statement.RowSecurity.TheVariants.{Enable, Disable, Force, NoForce}
-use Rattle.memberships.specs.Memberships.{HasNoLoop, Membership, is_membership, most_roles}
-use Rattle.memberships.proofs.Loops.{none_after, none_among, none_at_first}
+use Rattle.row_objects.specs.Memberships.{HasNoLoop, Membership, is_membership, most_roles}
+use Rattle.row_objects.proofs.Loops.{none_after, none_among, none_at_first}
 use Rattle.expr.specs.Bound.{BoundExpr}
 use Rattle.expr.specs.Movable.{movable}
 use Rattle.scope.specs.declared.error.BindError.{BindError}

@@ -9,7 +9,7 @@ use Rattle.row_ast.specs.Statements.{Statement}
 use Rattle.expr.specs.Columns.{columns}
 use Rattle.expr.specs.Movable.{movable}
 use Rattle.expr.specs.declared.bound.ColumnId.{ColumnId}
-use Rattle.memberships.specs.Memberships.{HasNoLoop, Membership, is_membership, most_roles}
+use Rattle.row_objects.specs.Memberships.{HasNoLoop, Membership, is_membership, most_roles}
 use Rattle.row_objects.specs.ColumnNames.{column_named}
 use Rattle.row_objects.specs.Grants.{Grant, same_grant}
 use Rattle.row_objects.specs.Objects.{Policy, Table, most_policies}

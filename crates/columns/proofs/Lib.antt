@@ -1,6 +1,16 @@
+pub mod Bits
 pub mod Both
 pub mod Growth
+pub mod Machine
+pub mod MaskTests
 pub mod Nulls
+pub mod Rest
 pub mod Runs
+pub mod SideBySide
+pub mod Signed
 pub mod TextColumns
+pub mod Truths
 pub mod Unchanged
+pub mod Words
+pub mod Written
+pub mod Zips

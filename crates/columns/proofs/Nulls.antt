@@ -2,7 +2,7 @@
 use Rattle.std.proofs.Common.{◌≡◌, Bool, true, false, List, [], ◌∷◌, length, map, refl, ap, arith}
 use Rattle.std.specs.Simd.Lanes.{zip2}
 use Rattle.value.specs.Datum.{Datum}
-use Rattle.masks.specs.Columns.{int_unless, bool_unless, text_unless}
+use Rattle.columns.specs.Columns.{int_unless, bool_unless, text_unless}
 use Rattle.columns.specs.Optional.{is_null}
 
 module _ {X : Type 0} (f : X → Bool → Datum) (is_bit : (x : X) (b : Bool) → is_null (f x b) ≡ b) where

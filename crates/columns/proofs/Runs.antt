@@ -3,7 +3,7 @@ use Rattle.std.proofs.Common.{◌≡◌, ℕ, zero, suc, ◌+◌, ◌-◌, ◌<�
 use Rattle.std.proofs.lemmas.List.{drop-append-le, take-append-le, take_all, length-drop, length-take-le, take-append-drop}
 use Rattle.std.proofs.Math.Seq.{drop-append_seam}
 use Rattle.std.specs.List.{slice_range}
-use Rattle.masks.specs.Columns.{texts_from}
+use Rattle.columns.specs.Columns.{texts_from}
 use Rattle.columns.specs.Ends.{end_before}
 use Rattle.columns.specs.View.{EndsAscend}
 

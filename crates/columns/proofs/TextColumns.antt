@@ -6,10 +6,10 @@ use Rattle.std.proofs.lemmas.List.{length-take-le}
 use Rattle.std.proofs.lemmas.List.Elements.{All-push, All-take, All-nil}
 use Rattle.std.proofs.lemmas.Simd.{length-zip2}
 use Rattle.value.specs.Datum.{null, text}
-use Rattle.masks.specs.Columns.{text_unless, texts_from, texts_of}
+use Rattle.columns.specs.Columns.{text_unless, texts_from, texts_of}
 use Rattle.columns.specs.Ends.{end_before}
 use Rattle.columns.specs.View.{EndsAscend, TextsHold}
-use Rattle.masks.proofs.Zips.{zip2_push, zip2_take, zip2_at}
+use Rattle.columns.proofs.Zips.{zip2_push, zip2_take, zip2_at}
 use Rattle.columns.proofs.Runs.{ascend_more, ascend_at, ascend_cut, cut_within, length-texts, text_at, texts_more, texts_cut}
 
 module _ (bytes ends : List ℕ) (nulls : List Bool) (good : TextsHold bytes ends nulls) where

@@ -1,6 +1,10 @@
+pub mod Bits
+pub mod Columns
+pub mod Comparing
 pub mod Data
 pub mod Ends
 pub mod Held
+pub mod MaskView
 pub mod Optional
 pub mod Rows
 pub mod View

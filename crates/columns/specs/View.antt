@@ -1,7 +1,7 @@
 -- The values that the fields of a column hold.
 use Rattle.std.specs.Prelude.{◌≡◌, ◌≤◌, ℕ, Bool, List, [], ◌∷◌, length, All, IsUtf8}
 use Rattle.value.specs.Datum.{Datum}
-use Rattle.masks.specs.Columns.{bools_of, ints_of, texts_from, texts_of}
+use Rattle.columns.specs.Columns.{bools_of, ints_of, texts_from, texts_of}
 use Rattle.columns.specs.declared.bools.Bools.TheInside as bools
 use Rattle.columns.specs.declared.ints.Ints.TheInside as ints
 use Rattle.columns.specs.declared.texts.Texts.TheInside as texts

@@ -1,11 +1,11 @@
 //! Columns of truth values (PostgreSQL: Boolean Type).
 
 ghost use Rattle.std.specs.Prelude.{◌≡◌, ◌+◌, ◌<◌, ◌≤◌, ◌^◌, ◌++◌, [], ◌∷◌, length, map, take, get_or, OnErr, OnOk};
-ghost use Rattle.masks.specs.Bits.{IsMaskOf};
+ghost use Rattle.columns.specs.Bits.{IsMaskOf};
 ghost use Rattle.value.specs.Datum.{null};
 ghost use Rattle.columns.specs.Optional.{is_null, truth_or_null};
 
-use masks::Mask;
+use crate::masks::Mask;
 use memory::Heap;
 use std::alloc::AllocError;
 use std::marker::Model;

@@ -3,7 +3,7 @@
 ghost use Rattle.std.specs.Prelude.{◌≡◌, ◌+◌, ◌<◌, ◌≤◌, ◌^◌, ◌++◌, [], ◌∷◌, true, length, map, take, get_or, OnErr, OnOk};
 ghost use Rattle.value.specs.Columns.{fits_type};
 ghost use Rattle.value.specs.Datum.{datum_of, null, null_or};
-ghost use Rattle.masks.specs.Bits.{IsMaskOf};
+ghost use Rattle.columns.specs.Bits.{IsMaskOf};
 ghost use Rattle.columns.specs.Data.{cells_of, type_of};
 ghost use Rattle.columns.specs.Optional.{is_null};
 

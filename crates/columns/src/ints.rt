@@ -1,12 +1,12 @@
 //! Columns of numbers (PostgreSQL: Numeric Types, `bigint`).
 
 ghost use Rattle.std.specs.Prelude.{◌≡◌, ◌+◌, ◌<◌, ◌≤◌, ◌^◌, ◌++◌, [], ◌∷◌, length, map, take, get_or, Bool, List, OnErr, OnOk};
-ghost use Rattle.masks.specs.Bits.{IsMaskOf};
-ghost use Rattle.masks.specs.Columns.{ints_of};
+ghost use Rattle.columns.specs.Bits.{IsMaskOf};
+ghost use Rattle.columns.specs.Columns.{ints_of};
 ghost use Rattle.value.specs.Datum.{null};
 ghost use Rattle.columns.specs.Optional.{is_null, number_or_null};
 
-use masks::Mask;
+use crate::masks::Mask;
 use memory::Heap;
 use std::alloc::AllocError;
 use std::marker::Model;

@@ -1,12 +1,12 @@
 //! Columns of texts (PostgreSQL: Character Types, `text`).
 
 ghost use Rattle.std.specs.Prelude.{◌≡◌, ◌+◌, ◌<◌, ◌≤◌, ◌^◌, ◌++◌, [], ◌∷◌, length, map, take, get_or, OnErr, OnOk, IsUtf8, slice_range};
-ghost use Rattle.masks.specs.Bits.{IsMaskOf};
+ghost use Rattle.columns.specs.Bits.{IsMaskOf};
 ghost use Rattle.value.specs.Datum.{null, text};
 ghost use Rattle.columns.specs.Ends.{end_before};
 ghost use Rattle.columns.specs.Optional.{is_null, text_or_null};
 
-use masks::Mask;
+use crate::masks::Mask;
 use memory::Heap;
 use std::alloc::AllocError;
 use std::marker::Model;

@@ -23,7 +23,7 @@ use Rattle.query_laws.specs.Values.{IsCombination}
 use Rattle.query_laws.proofs.FittingValues.{values_are_of_types}
 use Rattle.query_laws.proofs.Placed.{aggregates_are_placed}
 use Rattle.query_laws.proofs.Typed.{admitted_are_typed}
-use Rattle.offset_laws.specs.Groups.{AggregatesHaveValues, HasItsValue}
+use Rattle.group_laws.specs.Groups.{AggregatesHaveValues, HasItsValue}
 use Rattle.group_laws.specs.GroupValues.{AreGroups, GivesOnGroups, HasAggregatesOf}
 use Rattle.group_laws.proofs.Aggregates.{call_fits}
 use Rattle.group_laws.proofs.Calls.{IsWritten, are_written, arguments_plain}

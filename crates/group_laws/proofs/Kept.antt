@@ -6,7 +6,7 @@ use Rattle.std.proofs.lemmas.List.Elements.{All-append, All-cons, All-head, All-
 use Rattle.memory.proofs.Cases.{ok_is}
 use Rattle.bags.specs.Least.{least}
 use Rattle.value.specs.declared.faults.Fault.{Fault}
-use Rattle.stages.specs.Stages.{fault_cmp, fault_in, given_in, gives, stage, unless_fault}
+use Rattle.groups.specs.Stages.{fault_cmp, fault_in, given_in, gives, stage, unless_fault}
 
 module _ {Y : Type 0} (P : Y → Type 0) where
   with_option : (o : Option Y) (ys : List Y) → IfSome o P → All P ys → All P (cons_option o ys)

@@ -1,5 +1,12 @@
+pub mod Admitted
 pub mod Aggregates
 pub mod Calls
+pub mod Derived
 pub mod GroupValues
-pub mod Keys
 pub mod Kept
+pub mod KeptOffsets
+pub mod Keys
+pub mod Passed
+pub mod Rules
+pub mod Texts
+pub mod Values

@@ -1,1 +1,4 @@
+pub mod Calls
 pub mod GroupValues
+pub mod Groups
+pub mod Offsets

@@ -2,7 +2,7 @@
 
 ghost use Rattle.group_laws.specs.GroupValues.{GroupItemsAreOfTypes, GroupValuesAreOfTypes, HavingIsCondition};
 
-use offset_laws::law_aggregates_have_offsets;
+use crate::offsets::law_aggregates_have_offsets;
 
 /// Over a database that is well formed, as each is that statements and loads make, an expression with a type among the
 /// entries of an admitted query, whose aggregates are the query's, gives on the row of every group a value of its type, or

@@ -18,7 +18,7 @@ use Rattle.value.specs.Orders.{row_cmp}
 use Rattle.value.proofs.DatumOrder.{row_cmp_total}
 use Rattle.expr.specs.declared.bound.ColumnId.{ColumnId}
 use Rattle.expr.specs.Aggregates.{AggregateCall}
-use Rattle.stages.specs.Stages.{gives, stage}
+use Rattle.groups.specs.Stages.{gives, stage}
 use Rattle.groups.specs.declared.keys.Key.{Key}
 use Rattle.groups.specs.declared.totals.Total as code
 use Rattle.groups.specs.Members.{Member}

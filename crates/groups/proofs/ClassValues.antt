@@ -14,7 +14,7 @@ use Rattle.value.specs.Names.{Name}
 use Rattle.expr.specs.declared.bound.ColumnId.{ColumnId}
 use Rattle.expr.specs.Aggregates.{AggregateCall}
 use Rattle.eval.specs.Meaning.{Cells}
-use Rattle.stages.specs.Stages.{fault_cmp, fault_in, given_in, gives, stage, unless_fault}
+use Rattle.groups.specs.Stages.{fault_cmp, fault_in, given_in, gives, stage, unless_fault}
 use Rattle.groups.specs.Aggregates.{aggregate_of, not_null, totals, values_at}
 use Rattle.groups.specs.ClassValues.{AggregatesOfClasses, AreMembers, CountsEachRow, HaveOffsets, argument_values, class_of, value_in}
 use Rattle.groups.specs.Groups.{Group, all_in_one, group_with, groups_of, has_key, same_key}

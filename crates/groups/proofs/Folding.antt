@@ -14,8 +14,8 @@ use Rattle.value.specs.declared.faults.Fault.{Fault}
 use Rattle.expr.specs.declared.bound.ColumnId.{ColumnId}
 use Rattle.expr.specs.Aggregates.{AggregateCall}
 use Rattle.eval.specs.Meaning.{Cells}
-use Rattle.stages.specs.Stages.{Fate, fault_cmp, fault_in, given_in, gives, stage, unless_fault}
-use Rattle.stages.proofs.FaultOrder.{fault_total}
+use Rattle.groups.specs.Stages.{Fate, fault_cmp, fault_in, given_in, gives, stage, unless_fault}
+use Rattle.groups.proofs.FaultOrder.{fault_total}
 use Rattle.groups.specs.declared.members.Member as code
 use Rattle.groups.specs.declared.groups.Groups.{Groups}
 use Rattle.groups.specs.Members.{Member, arguments, key_on, member_on, with_key}

@@ -1,9 +1,13 @@
 pub mod Cells
 pub mod ClassLaws
 pub mod ClassValues
+pub mod FaultOrder
 pub mod Folding
+pub mod Going
 pub mod KeyLaws
 pub mod Parts
 pub mod Putting
 pub mod RunningTotals
 pub mod SameGroups
+pub mod SameStage
+pub mod Walks

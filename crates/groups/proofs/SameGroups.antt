@@ -16,7 +16,7 @@ use Rattle.value.specs.declared.operators.Aggregate.TheVariants.{Count, Sum, Min
 use Rattle.value.proofs.DatumOrder.{datum_cmp_exact, row_cmp_total, row_cmp_exact}
 use Rattle.expr.specs.declared.bound.ColumnId.{ColumnId}
 use Rattle.expr.specs.Aggregates.{AggregateCall}
-use Rattle.stages.specs.Stages.{gives, stage}
+use Rattle.groups.specs.Stages.{gives, stage}
 use Rattle.memory.specs.Results.{first_then}
 use Rattle.groups.specs.Members.{Member}
 use Rattle.groups.specs.Groups.{Group, has_key, group_with, keys, classes, without_repeats}

@@ -6,7 +6,7 @@ use Rattle.expr.specs.declared.bound.ColumnId.{ColumnId}
 use Rattle.expr.specs.Bound.{is_column}
 use Rattle.expr.specs.Aggregates.{AggregateCall}
 use Rattle.eval.specs.Meaning.{Cells}
-use Rattle.stages.specs.Stages.{gives, stage}
+use Rattle.groups.specs.Stages.{gives, stage}
 use Rattle.groups.specs.Members.{Member}
 use Rattle.groups.specs.Groups.{Group, groups_of}
 use Rattle.groups.specs.Aggregates.{totals}

@@ -4,6 +4,8 @@ pub mod Classes
 pub mod GroupRow
 pub mod Groups
 pub mod Members
+pub mod Progress
 pub mod Running
+pub mod Stages
 pub mod Taking
 pub mod View

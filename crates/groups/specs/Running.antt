@@ -10,7 +10,7 @@ use Rattle.value.specs.declared.faults.Fault.{Fault}
 use Rattle.value.specs.declared.operators.Aggregate.{Aggregate}
 use Rattle.value.specs.declared.operators.Aggregate.TheVariants as aggregate
 use Rattle.expr.specs.Aggregates.{AggregateCall}
-use Rattle.stages.specs.Stages.{gives, stage}
+use Rattle.groups.specs.Stages.{gives, stage}
 use Rattle.memory.specs.Results.{first_then}
 use Rattle.groups.specs.Members.{Member}
 use Rattle.groups.specs.Groups.{Group, same_key}

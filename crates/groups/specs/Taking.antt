@@ -6,7 +6,7 @@ use Rattle.memory.specs.declared.failure.Failure.TheVariants as failures
 use Rattle.bags.specs.Least.{lesser}
 use Rattle.value.specs.declared.faults.Fault.{Fault}
 use Rattle.expr.specs.Aggregates.{AggregateCall}
-use Rattle.stages.specs.Stages.{fault_cmp, unless_fault}
+use Rattle.groups.specs.Stages.{fault_cmp, unless_fault}
 use Rattle.groups.specs.declared.members.Member as code
 use Rattle.groups.specs.declared.groups.Groups.{Groups}
 use Rattle.groups.specs.Members.{Member}

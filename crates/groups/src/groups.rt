@@ -3,7 +3,7 @@
 ghost use Rattle.std.specs.Prelude.{◌≡◌, [], ◌∷◌, map, IfOk, IsOk, None, OnOk};
 ghost use Rattle.memory.specs.Gives.{Gives};
 ghost use Rattle.expr.specs.View.{aggregate_calls_of};
-ghost use Rattle.stages.specs.Stages.{gives, stage};
+ghost use Rattle.groups.specs.Stages.{gives, stage};
 ghost use Rattle.groups.specs.Groups.{all_in_one, groups_of};
 ghost use Rattle.groups.specs.Running.{IsMemberInPlace, finished_row, put_running, running_groups};
 ghost use Rattle.groups.specs.Taking.{IsTakenInPlace, TakesOutcome, rows_of, totals_in};
@@ -12,10 +12,10 @@ ghost use Rattle.groups.specs.View.{group_row_of, key_of, lent_row, member_of, r
 use crate::group_row::{GroupRow, row_of_group};
 use crate::keys::Key;
 use crate::members::Member;
+use crate::stage::{Stage, gives};
 use crate::totals::{Total, add_arguments, push_fresh};
 use expr::{AggregateCall, ColumnId};
 use memory::{Failure, Heap, Items};
-use stages::{Stage, gives};
 use std::alloc::AllocError;
 use std::collections::BTreeMap;
 use value::{Fault, Val};

@@ -1,11 +1,13 @@
-//! Groups of rows and their aggregates.
+//! Stages of a query, each all values or the least of their faults; groups of rows and their aggregates.
 #![tactic(auto)]
 
+mod faults;
 mod group_row;
 mod groups;
 mod keys;
 mod laws;
 mod members;
+mod stage;
 mod totals;
 
 pub use group_row::{GroupCells, GroupRow};
@@ -15,3 +17,4 @@ pub use laws::{
     law_running_totals,
 };
 pub use members::{Member, member_on};
+pub use stage::{Stage, gives, gives_if};

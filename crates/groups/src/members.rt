@@ -53,7 +53,7 @@ fn argument_on<'r, A: Heap, R: Row<A>>(
 }
 
 // The values of the arguments of all aggregates on the row, or the first fault.
-#[tactic(auto, using(stages::proofs::Walks::walks))]
+#[tactic(auto, using(crate::proofs::Walks::walks))]
 fn arguments_on<'r, A: Heap, R: Row<A>>(
     alloc: A,
     calls: &[AggregateCall<'r, A>],

@@ -252,7 +252,7 @@ pub fn add_arguments<A: Heap>(
 }
 
 /// The values of all aggregates of a group, or the first fault.
-#[tactic(auto, using(stages::proofs::Walks::walks))]
+#[tactic(auto, using(crate::proofs::Walks::walks))]
 pub fn finish_all<A: Heap>(
     alloc: A,
     calls: &[AggregateCall<'_, A>],

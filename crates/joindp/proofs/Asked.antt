@@ -10,7 +10,7 @@ use Rattle.expr.specs.declared.code.CodeStep.{CodeStep}
 use Rattle.expr.specs.Bound.{BoundExpr, is_column}
 use Rattle.predicates.proofs.Keeping.{both}
 use Rattle.predicates.specs.Equalities.{column_sides}
-use Rattle.sorting.specs.Steps.{sort_steps}
+use Rattle.joins.specs.Steps.{sort_steps}
 use Rattle.stats.specs.Card.{Entries}
 use Rattle.trailcheck.specs.Admissible.{is_some_and}
 use Rattle.trailcheck.specs.Shapes.{entry_index}

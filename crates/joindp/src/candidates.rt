@@ -19,7 +19,7 @@ use crate::orders::order_index;
 use crate::reaching::bit_of;
 use expr::{CodeStep, ColumnId, Method};
 use memory::{Heap, Items};
-use sorting::sort_steps;
+use joins::sort_steps;
 use stats::EntrySet;
 use std::alloc::AllocError;
 use trailcheck::entry_index;

@@ -13,8 +13,8 @@ use Rattle.value.specs.declared.order.Truth.{Truth}
 use Rattle.value.specs.declared.operators.Comparison.{Comparison}
 use Rattle.value.specs.declared.operators.Comparison.TheVariants.{Equal, NotEqual, Less, LessOrEqual, Greater, GreaterOrEqual}
 use Rattle.eval.specs.Operators.{comparison_of}
-use Rattle.lanes.specs.Comparing.{holds}
-use Rattle.lanes.proofs.Truths.{int_order}
+use Rattle.columns.specs.Comparing.{holds}
+use Rattle.columns.proofs.Truths.{int_order}
 use Rattle.lane_filters.specs.Exchanged.{exchanged}
 
 reversed : (op : Comparison) (x : Ordering) → test_of (exchanged op) x ≡ test_of op (ordering_reverse x)

@@ -9,13 +9,13 @@ use Rattle.value.specs.Datum.{Datum, null, int, text, bool}
 use Rattle.std.proofs.lemmas.Simd.{length-zip2}
 use Rattle.value.specs.Orders.{is_true, is_unknown}
 use Rattle.value.specs.Truths.{negated}
-use Rattle.masks.specs.Columns.{int_unless, ints_of}
+use Rattle.columns.specs.Columns.{int_unless, ints_of}
 use Rattle.value.specs.declared.order.Truth.{Truth}
 use Rattle.value.specs.declared.order.Truth.TheVariants.{False, Unknown, True}
 use Rattle.columns.specs.Optional.{is_null}
 use Rattle.eval.specs.Operators.{null_test}
-use Rattle.masks.specs.Bits.{bit_of, words_for, IsMaskOf}
-use Rattle.lanes.specs.Comparing.{Show}
+use Rattle.columns.specs.Bits.{bit_of, words_for, IsMaskOf}
+use Rattle.columns.specs.Comparing.{Show}
 use Rattle.lane_filters.specs.View.{truth_by, truths_from}
 
 by_case : (x : Truth) → truth_by (cond (is_true x) 1 0) (cond (is_unknown x) 1 0) ≡ x

@@ -3,8 +3,8 @@ use Rattle.std.specs.Prelude.{ℕ, zero, suc, ◌+◌, ◌==◌, if◌then◌els
 use Rattle.value.specs.Datum.{Datum, int}
 use Rattle.value.specs.declared.order.Truth.{Truth}
 use Rattle.value.specs.declared.order.Truth.TheVariants.{False, Unknown, True}
-use Rattle.masks.specs.Bits.{bit_of}
-use Rattle.lanes.specs.Comparing.{Show}
+use Rattle.columns.specs.Bits.{bit_of}
+use Rattle.columns.specs.Comparing.{Show}
 use Rattle.lane_filters.specs.declared.truths.Truths.TheInside.{Inside}
 use Rattle.lane_filters.specs.declared.operand.Operand.{Operand}
 use Rattle.lane_filters.specs.declared.operand.Operand.TheVariants.{Column, Number}

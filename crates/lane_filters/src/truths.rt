@@ -8,10 +8,9 @@ ghost use Rattle.value.specs.Truths.{greatest, least, negated};
 ghost use Rattle.value.specs.declared.order.Truth.TheVariants.{False};
 ghost use Rattle.eval.specs.Operators.{comparison_of, null_test};
 ghost use Rattle.columns.specs.Data.{cells_of};
-ghost use Rattle.masks.specs.Bits as masks;
+ghost use Rattle.columns.specs.Bits as masks;
 
-use columns::{ColumnData, Ints};
-use lanes::{and_masks, cmp_cols, cmp_lit, not_masks, or_masks};
+use columns::{ColumnData, Ints, and_masks, cmp_cols, cmp_lit, not_masks, or_masks};
 use memory::Heap;
 use std::alloc::AllocError;
 use std::marker::Model;

@@ -9,7 +9,7 @@ use Rattle.value.specs.Names.{Name}
 use Rattle.expr.specs.Movable.{movable}
 use Rattle.eval.specs.Laws.{AgreeOn}
 use Rattle.eval.specs.Meaning.{◌>>=◌}
-use Rattle.stages.specs.Stages.{fault_cmp, fault_in, given_in, gives, gives_if, stage, unless_fault}
+use Rattle.groups.specs.Stages.{fault_cmp, fault_in, given_in, gives, gives_if, stage, unless_fault}
 use Rattle.groups.proofs.SameGroups.{map-map}
 use Rattle.expr.specs.BoundQuery.{BoundQuery}
 use Rattle.expr.specs.Conjuncts.{conjuncts, fragile, fragile_conjuncts, movable_conjuncts}

@@ -5,7 +5,7 @@ use Rattle.bags.proofs.Bags.{SameSums-map, SameSums-flat_map}
 use Rattle.value.specs.Datum.{Row}
 use Rattle.value.specs.Names.{Name}
 use Rattle.eval.specs.Meaning.{◌>>=◌}
-use Rattle.stages.proofs.SameStage.{alike_stage, alike_next}
+use Rattle.groups.proofs.SameStage.{alike_stage, alike_next}
 use Rattle.groups.specs.Members.{Member}
 use Rattle.groups.proofs.SameGroups.{same_group_rows}
 use Rattle.expr.specs.BoundQuery.{BoundQuery}

@@ -18,10 +18,10 @@ use Rattle.expr.specs.View.{aggregate_calls_of, bound_expr_of}
 use Rattle.expr.specs.declared.bound.ColumnId.{ColumnId}
 use Rattle.expr.specs.declared.query.OutputKey.{OutputKey}
 use Rattle.eval.specs.Meaning.{Cells, ◌>>=◌}
-use Rattle.stages.specs.Stages.{Fate, fault_cmp, fault_in, given_in, gives, gives_if, stage, unless_fault}
-use Rattle.stages.specs.Progress.{Adds}
-use Rattle.stages.specs.declared.stage.Stage.{Stage}
-use Rattle.stages.proofs.FaultOrder.{fault_total}
+use Rattle.groups.specs.Stages.{Fate, fault_cmp, fault_in, given_in, gives, gives_if, stage, unless_fault}
+use Rattle.groups.specs.Progress.{Adds}
+use Rattle.groups.specs.declared.stage.Stage.{Stage}
+use Rattle.groups.proofs.FaultOrder.{fault_total}
 use Rattle.groups.specs.declared.groups.Groups.{Groups}
 use Rattle.groups.specs.Groups.{groups_of}
 use Rattle.groups.specs.GroupRow.{group_rows}

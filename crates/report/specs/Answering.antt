@@ -9,7 +9,7 @@ use Rattle.expr.specs.declared.query.OutputKey.{OutputKey}
 use Rattle.expr.specs.Aggregates.{AggregateCall}
 use Rattle.expr.specs.Conjuncts.{fragile_conjuncts}
 use Rattle.expr.specs.View.{aggregate_calls_of, bound_expr_of}
-use Rattle.stages.specs.Stages.{Fate, fault_cmp, fault_in, given_in}
+use Rattle.groups.specs.Stages.{Fate, fault_cmp, fault_in, given_in}
 use Rattle.groups.specs.declared.groups.Groups.{Groups}
 use Rattle.groups.specs.Groups.{groups_of}
 use Rattle.groups.specs.Members.{Member}

@@ -9,7 +9,7 @@ use Rattle.value.specs.Names.{Name}
 use Rattle.expr.specs.Bound.{BoundExpr}
 use Rattle.expr.specs.Aggregates.{AggregateCall, aggregates}
 use Rattle.eval.specs.Meaning.{Cells, Outcome, meaning, ◌>>=◌}
-use Rattle.stages.specs.Stages.{Fate, gives, gives_if, stage}
+use Rattle.groups.specs.Stages.{Fate, gives, gives_if, stage}
 use Rattle.memory.specs.Results.{first_then}
 use Rattle.groups.specs.Members.{Member, member_on}
 use Rattle.groups.specs.GroupRow.{GroupRow, group_cells, group_rows}

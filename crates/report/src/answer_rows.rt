@@ -6,14 +6,14 @@ ghost use Rattle.value.specs.Datum.{Row, row_of};
 ghost use Rattle.value.specs.declared.faults.Fault as fault;
 ghost use Rattle.expr.specs.declared.query.OutputKey as key;
 ghost use Rattle.expr.specs.View.{bound_query_of};
-ghost use Rattle.stages.specs.Stages.{Fate, gives, stage};
+ghost use Rattle.groups.specs.Stages.{Fate, gives, stage};
 ghost use Rattle.report.specs.Answering.{HoldsRows};
 ghost use Rattle.report.specs.Ordered.{in_order_of};
 
 use crate::ordering::{in_order, keep_row};
 use expr::BoundQuery;
+use groups::Stage;
 use memory::{Failure, Heap, Items};
-use stages::Stage;
 use std::alloc::AllocError;
 use value::{Fault, Value};
 

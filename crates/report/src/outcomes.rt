@@ -60,7 +60,7 @@ fn item_on<A: Heap, R: Row<A>>(
 }
 
 // The values of items on the row, or the first fault from left to right.
-#[tactic(auto, using(stages::proofs::Walks::walks))]
+#[tactic(auto, using(groups::proofs::Walks::walks))]
 pub(crate) fn values<A: Heap, R: Row<A>>(
     alloc: A,
     items: &[BoundItem<A>],

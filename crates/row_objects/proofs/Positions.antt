@@ -2,7 +2,7 @@
 use Rattle.std.proofs.Common.{◌≡◌, ℕ, zero, suc, List, [], ◌∷◌, ◌++◌, map, slice_get, Option, Some, refl, sym, ap, ◌∙◌}
 use Rattle.std.proofs.lemmas.List.{map-append}
 use Rattle.value.specs.Names.{Name}
-use Rattle.named.specs.Named.{set_value_at}
+use Rattle.row_objects.specs.Named.{set_value_at}
 use Rattle.row_objects.specs.TableChanges.{changed_at, with_last}
 
 module _ {V E : Type 0} (v : Name × V → E) where

@@ -1,8 +1,13 @@
 pub mod ColumnNames
 pub mod Grants
 pub mod Indexes
+pub mod Lends
+pub mod MembershipView
+pub mod Memberships
+pub mod Named
 pub mod Objects
 pub mod Policies
+pub mod Reached
 pub mod TableChanges
 pub mod TableDefs
 pub mod View

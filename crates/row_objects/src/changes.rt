@@ -5,12 +5,12 @@ ghost use Rattle.row_ast.specs.View.{grant_of};
 ghost use Rattle.row_objects.specs.View.{policy_of, table_entry};
 ghost use Rattle.row_objects.specs.TableChanges.{changed_at, with_grants_to, with_index, with_new_policy, with_owner, with_row_security, without_grants_to, without_policy_named};
 
+use crate::by_name::ByName;
 use crate::grants::{add_grants, remove_grants};
 use crate::indexes::new_index;
 use crate::objects::{Policy, TableDef};
 use crate::policies::remove_policy;
 use memory::{Heap, Text};
-use named::ByName;
 use row_ast::{Grant, RowSecurity};
 use std::alloc::AllocError;
 

@@ -6,10 +6,10 @@ ghost use Rattle.row_objects.specs.Indexes as spec;
 ghost use Rattle.row_objects.specs.Indexes.{any_index, has_index, is_indexed};
 ghost use Rattle.row_objects.specs.View.{index_of, table_entry};
 
+use crate::by_name::ByName;
 use crate::names::column_index;
 use crate::objects::{Index, TableDef};
 use memory::{Heap, Text};
-use named::ByName;
 use std::alloc::AllocError;
 use value::Column;
 

@@ -6,11 +6,11 @@ ghost use Rattle.row_objects.specs.Policies as spec;
 ghost use Rattle.row_objects.specs.Policies.{has_policy, has_policy_room, without_policy};
 ghost use Rattle.row_objects.specs.View.{policy_of, policies_of, table_entry};
 
+use crate::by_name::ByName;
 use crate::copies::copy_names;
 use crate::objects::{Policy, TableDef};
 use expr::MovableExpr;
 use memory::{Heap, Items, Text};
-use named::ByName;
 use row_ast::CreatePolicy;
 use std::alloc::AllocError;
 use std::mem::replace;

@@ -7,7 +7,7 @@ use Rattle.csv_records.specs.Left.{records_of}
 use Rattle.tables.specs.Loading.{TableRows}
 use Rattle.tables.specs.declared.LoadError.{LoadError}
 use Rattle.tables.specs.declared.LoadError.TheVariants as error
-use Rattle.load_errors.specs.LoadErrors.{column_name}
+use Rattle.tables.specs.LoadErrors.{column_name}
 use Rattle.store.specs.Database.{Database, columns_in, is_named}
 use Rattle.store.specs.Loads.{IsLoadFrom, due_rows}
 use Rattle.store.specs.declared.store.StoreError.TheVariants as store

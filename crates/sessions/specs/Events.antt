@@ -10,7 +10,7 @@ use Rattle.value.specs.declared.refusal.Refusal.TheVariants as r
 use Rattle.csv_records.specs.Left.{records_of}
 use Rattle.tables.specs.Loading.{TableRows}
 use Rattle.tables.specs.declared.LoadError.{LoadError}
-use Rattle.load_errors.specs.LoadErrors.{column_name}
+use Rattle.tables.specs.LoadErrors.{column_name}
 use Rattle.syntax.specs.Parsing.{parsed_query, parsed_statement}
 use Rattle.syntax.specs.declared.error.ParseError.{ParseError}
 use Rattle.replies.specs.Reply as engine

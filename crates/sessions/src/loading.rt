@@ -2,17 +2,16 @@
 
 ghost use Rattle.std.specs.Prelude.{◌≡◌, IfOk, true};
 ghost use Rattle.catalog.specs.Catalog.{is_table};
-ghost use Rattle.load_errors.specs.LoadErrors.{column_name};
+ghost use Rattle.tables.specs.LoadErrors.{column_name};
 ghost use Rattle.store.specs.Database.{columns_in};
 ghost use Rattle.sessions.specs.Reply.{Data as data_reply};
 ghost use Rattle.sessions.specs.View.{reply_of};
 
 use crate::reply::Reply;
-use load_errors::column_name;
 use memory::{Heap, Text};
 use std::alloc::AllocError;
 use store::Store;
-use tables::LoadError;
+use tables::{LoadError, column_name};
 
 // An error of the rows of a table that is there, with the names of the table and the column.
 pub(crate) fn data_refusal<A: Heap>(

@@ -4,7 +4,7 @@ use Rattle.memory.specs.declared.failure.Failure as memory
 use Rattle.memory.specs.declared.failure.Failure.TheVariants as failure
 use Rattle.tables.specs.Loading.{TableRows}
 use Rattle.value.specs.Names.{Name}
-use Rattle.load_errors.specs.LoadErrors.{column_name}
+use Rattle.tables.specs.LoadErrors.{column_name}
 use Rattle.store.specs.declared.store.StoreError.TheVariants.{Data}
 use Rattle.store.specs.Database.{columns_in}
 use Rattle.store.specs.Loads.{IsLoadFrom}

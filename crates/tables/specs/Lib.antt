@@ -1,3 +1,4 @@
 pub mod Holding
+pub mod LoadErrors
 pub mod Loading
 pub mod Reading

@@ -41,6 +41,8 @@ pub enum LoadError {
 }
 
 mod load;
+mod load_errors;
 mod table;
 
+pub use load_errors::column_name;
 pub use table::{Table, law_no_null_text};

@@ -2,8 +2,8 @@ use Rattle.std.proofs.Common.{◌≡◌, ◌&&◌, ◌∙◌, true, false, List,
 use Rattle.std.proofs.lemmas.Bool.{and_from, and_left, and_right}
 use Rattle.value.specs.declared.refusal.Refusal.TheVariants as r
 use Rattle.value.specs.Names.{Name}
-use Rattle.memberships.specs.Memberships.{Membership, closes_loop}
-use Rattle.memberships.specs.View.{membership_of}
+use Rattle.row_objects.specs.Memberships.{Membership, closes_loop}
+use Rattle.row_objects.specs.MembershipView.{membership_of}
 use Rattle.catalog.specs.Catalog.{Catalog, is_role, is_superuser}
 use Rattle.catalog.specs.Checks.{first_refusal}
 use Rattle.catalog.specs.GrantRole.{checks_grant_role}

@@ -1,7 +1,7 @@
 use Rattle.std.proofs.Common.{◌≡◌, ◌∷◌, ap, map, ◌∙◌}
 use Rattle.expr.specs.View.{aggregate_calls_of}
-use Rattle.stages.specs.Stages.{gives}
-use Rattle.stages.proofs.Going.{going_on, gives_some, stage_start, stage_next}
+use Rattle.groups.specs.Stages.{gives}
+use Rattle.groups.proofs.Going.{going_on, gives_some, stage_start, stage_next}
 use Rattle.groups.specs.Running.{finished_row}
 use Rattle.groups.specs.View.{group_row_of, running_in}
 use Rattle.groups.proofs.groups.rows_by_key.Goals as goal

@@ -1,7 +1,7 @@
 use Rattle.std.proofs.Common.{◌≡◌, map}
 use Rattle.expr.specs.View.{aggregate_calls_of}
-use Rattle.stages.specs.Stages.{gives, stage}
-use Rattle.stages.proofs.Going.{going_on}
+use Rattle.groups.specs.Stages.{gives, stage}
+use Rattle.groups.proofs.Going.{going_on}
 use Rattle.groups.specs.Running.{finished_row}
 use Rattle.groups.specs.View.{group_row_of, running_in}
 use Rattle.groups.proofs.groups.rows_by_key.Given as goal

@@ -4,7 +4,7 @@ use Rattle.std.proofs.lemmas.Result.{err_from_is_err_and}
 use Rattle.value.specs.Datum.{datum_of}
 use Rattle.expr.specs.View.{aggregate_calls_of}
 use Rattle.memory.proofs.Each.{after, after_nothing}
-use Rattle.stages.proofs.Walks.{next, fails_here}
+use Rattle.groups.proofs.Walks.{next, fails_here}
 use Rattle.groups.specs.Members.{arguments}
 use Rattle.groups.specs.View.{lent_row}
 use Rattle.groups.proofs.Putting.{put_step}

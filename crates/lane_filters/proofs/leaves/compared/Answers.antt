@@ -6,7 +6,7 @@ use Rattle.value.specs.Datum.{Datum, int}
 use Rattle.value.specs.Orders.{of_bool}
 use Rattle.value.specs.declared.operators.Comparison.{Comparison}
 use Rattle.eval.specs.Operators.{comparison_of}
-use Rattle.lanes.specs.Comparing.{holds}
+use Rattle.columns.specs.Comparing.{holds}
 use Rattle.lane_filters.specs.View.{values_of}
 use Rattle.lane_filters.proofs.Operators.{literal_left, literal_right, two_literals}
 use Rattle.lane_filters.proofs.leaves.compared.Goals as goal

@@ -1,10 +1,10 @@
 use Rattle.std.proofs.Common.{ap, map}
 use Rattle.std.proofs.lemmas.Result.{err_from_is_err_and}
 use Rattle.groups.specs.View.{group_row_of}
-use Rattle.stages.proofs.Going.{stage_start, stage_next}
+use Rattle.groups.proofs.Going.{stage_start, stage_next}
 use Rattle.tuples.specs.View.{world_of}
 use Rattle.report.specs.QueryStages.{having_fate}
-use Rattle.stages.proofs.Walks.{next}
+use Rattle.groups.proofs.Walks.{next}
 use Rattle.report.proofs.grouped.having_stage.Goals as goal
 
 pub loop-group-init : goal.loop-group-init

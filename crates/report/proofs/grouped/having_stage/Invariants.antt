@@ -1,6 +1,6 @@
 use Rattle.std.proofs.Common.{◌≡◌, drop, map}
 use Rattle.groups.specs.View.{group_row_of}
-use Rattle.stages.proofs.Going.{going_on}
+use Rattle.groups.proofs.Going.{going_on}
 use Rattle.tuples.specs.View.{world_of}
 use Rattle.report.specs.QueryStages.{having_fate, having_stage}
 use Rattle.report.proofs.grouped.having_stage.Given as goal

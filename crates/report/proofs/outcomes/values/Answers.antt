@@ -7,7 +7,7 @@ use Rattle.value.specs.declared.faults.Fault.{Fault}
 use Rattle.expr.specs.View.{bound_item_of}
 use Rattle.memory.specs.Results.{first_then}
 use Rattle.memory.proofs.Each.{after, after_nothing}
-use Rattle.stages.proofs.Walks.{next, put_next, fails_here}
+use Rattle.groups.proofs.Walks.{next, put_next, fails_here}
 use Rattle.report.specs.QueryStages.{values_of}
 use Rattle.report.proofs.outcomes.values.Goals as goal
 

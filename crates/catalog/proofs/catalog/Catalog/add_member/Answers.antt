@@ -1,6 +1,6 @@
 use Rattle.std.proofs.Common.{◌≡◌, ◌&&◌, true, map, sym, ap, subst}
 use Rattle.std.proofs.lemmas.Result.{on_err_weaker}
-use Rattle.memberships.specs.View.{membership_of}
+use Rattle.row_objects.specs.MembershipView.{membership_of}
 use Rattle.catalog.specs.Catalog.{Catalog, is_role}
 use Rattle.catalog.proofs.Known.{known_after}
 use Rattle.catalog.proofs.catalog.Catalog.add_member.Goals as goal

@@ -2,8 +2,8 @@ use Rattle.std.proofs.Common.{◌≡◌, ◌<◌, ℕ, false, List, [], ◌∷�
 use Rattle.std.proofs.lemmas.List.{length-map}
 use Rattle.std.specs.Str.{bytes_eq}
 use Rattle.value.specs.Names.{Name}
-use Rattle.memberships.specs.Memberships.{Membership, most_roles}
-use Rattle.memberships.specs.View.{membership_of}
+use Rattle.row_objects.specs.Memberships.{Membership, most_roles}
+use Rattle.row_objects.specs.MembershipView.{membership_of}
 use Rattle.row_objects.specs.Objects.{Table}
 use Rattle.row_objects.specs.View.{role_of, table_entry}
 use Rattle.row_objects.specs.declared.objects.Role.{Role}

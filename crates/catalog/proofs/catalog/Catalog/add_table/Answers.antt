@@ -1,9 +1,9 @@
 use Rattle.std.proofs.Common.{◌≡◌, ℕ, List, false, map, sym, ap, subst}
 use Rattle.std.proofs.lemmas.Result.{on_ok_weaker, on_err_weaker}
 use Rattle.std.specs.Str.{bytes_eq}
-use Rattle.memberships.specs.Memberships.{Membership}
+use Rattle.row_objects.specs.Memberships.{Membership}
 use Rattle.row_objects.specs.Objects.{Role, Table}
-use Rattle.memberships.specs.View.{membership_of}
+use Rattle.row_objects.specs.MembershipView.{membership_of}
 use Rattle.row_objects.specs.View.{role_of, table_entry}
 use Rattle.catalog.specs.Catalog.{Catalog, is_table}
 use Rattle.row_objects.proofs.Positions.{one_more}

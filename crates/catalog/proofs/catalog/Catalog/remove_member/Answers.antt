@@ -1,8 +1,8 @@
 use Rattle.std.proofs.Common.{◌∙◌, not, map, ap}
 use Rattle.std.specs.List.{list_all}
-use Rattle.memberships.specs.Memberships.{is_membership}
-use Rattle.memberships.specs.Reached.{is_of_roles}
-use Rattle.memberships.specs.View.{membership_of}
+use Rattle.row_objects.specs.Memberships.{is_membership}
+use Rattle.row_objects.specs.Reached.{is_of_roles}
+use Rattle.row_objects.specs.MembershipView.{membership_of}
 use Rattle.catalog.proofs.Known.{left_are}
 use Rattle.catalog.proofs.catalog.Catalog.remove_member.Goals as goal
 

@@ -1,6 +1,6 @@
 use Rattle.std.proofs.Common.{Bool, List, map, sym, ap, subst, ◌∙◌}
-use Rattle.masks.specs.Bits.{IsMaskOf}
-use Rattle.masks.specs.Columns.{bool_unless}
+use Rattle.columns.specs.Bits.{IsMaskOf}
+use Rattle.columns.specs.Columns.{bool_unless}
 use Rattle.columns.specs.Optional.{is_null}
 use Rattle.columns.proofs.Nulls.{nulls_are, bool_null}
 use Rattle.columns.proofs.bools.Bools.nulls.Goals as goal

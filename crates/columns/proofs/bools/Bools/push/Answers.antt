@@ -1,8 +1,8 @@
 use Rattle.std.proofs.Common.{◌++◌, ◌∷◌, [], true, false, length, sym, ap, ◌∙◌, arith}
 use Rattle.std.proofs.lemmas.Simd.{length-zip2}
-use Rattle.masks.specs.Columns.{bool_unless, bools_of}
+use Rattle.columns.specs.Columns.{bool_unless, bools_of}
 use Rattle.columns.specs.Optional.{truth_or_null}
-use Rattle.masks.proofs.Zips.{zip2_push}
+use Rattle.columns.proofs.Zips.{zip2_push}
 use Rattle.columns.proofs.Both.{on_both}
 use Rattle.columns.proofs.bools.Bools.push.Goals as goal
 

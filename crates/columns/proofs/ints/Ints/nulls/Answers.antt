@@ -1,6 +1,6 @@
 use Rattle.std.proofs.Common.{Bool, List, map, sym, ap, subst, ◌∙◌}
-use Rattle.masks.specs.Bits.{IsMaskOf}
-use Rattle.masks.specs.Columns.{int_unless}
+use Rattle.columns.specs.Bits.{IsMaskOf}
+use Rattle.columns.specs.Columns.{int_unless}
 use Rattle.columns.specs.Optional.{is_null}
 use Rattle.columns.proofs.Nulls.{nulls_are, int_null}
 use Rattle.columns.proofs.ints.Ints.nulls.Goals as goal

@@ -1,9 +1,9 @@
 use Rattle.std.proofs.Common.{◌++◌, ◌∷◌, [], ℤ, true, false, sym, ap, ◌∙◌, rules, pos, FitsSigned, to_z, of_z, w64}
 use Rattle.std.proofs.lemmas.Int.{to_z-of_z}
-use Rattle.masks.specs.Columns.{int_unless, ints_of}
+use Rattle.columns.specs.Columns.{int_unless, ints_of}
 use Rattle.value.specs.Datum.{int}
 use Rattle.columns.specs.Optional.{number_or_null}
-use Rattle.masks.proofs.Zips.{zip2_push}
+use Rattle.columns.proofs.Zips.{zip2_push}
 use Rattle.columns.proofs.Both.{on_both}
 use Rattle.columns.proofs.ints.Ints.push.Goals as goal
 

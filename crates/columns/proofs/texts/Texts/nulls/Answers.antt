@@ -1,6 +1,6 @@
 use Rattle.std.proofs.Common.{Bool, List, map, sym, ap, subst, ◌∙◌}
-use Rattle.masks.specs.Bits.{IsMaskOf}
-use Rattle.masks.specs.Columns.{text_unless, texts_from}
+use Rattle.columns.specs.Bits.{IsMaskOf}
+use Rattle.columns.specs.Columns.{text_unless, texts_from}
 use Rattle.columns.specs.Optional.{is_null}
 use Rattle.columns.proofs.Nulls.{nulls_are, text_null}
 use Rattle.columns.proofs.Runs.{length-texts}

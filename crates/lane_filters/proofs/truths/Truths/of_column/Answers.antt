@@ -4,7 +4,7 @@ use Rattle.std.proofs.lemmas.Simd.{length-zip2}
 use Rattle.std.proofs.lemmas.List.{length-map}
 use Rattle.value.specs.Datum.{Datum, int}
 use Rattle.eval.specs.Operators.{comparison_of}
-use Rattle.masks.specs.Columns.{int_unless, ints_of}
+use Rattle.columns.specs.Columns.{int_unless, ints_of}
 use Rattle.lane_filters.proofs.Shown.{held, read, written_back}
 use Rattle.lane_filters.proofs.truths.Truths.of_column.Goals as goal
 

@@ -2,8 +2,8 @@ use Rattle.std.proofs.Common.{◌≡◌, length, sym, ap, ◌∙◌}
 use Rattle.std.specs.Simd.Lanes.{zip2}
 use Rattle.std.proofs.lemmas.Simd.{length-zip2}
 use Rattle.eval.specs.Operators.{comparison_of}
-use Rattle.masks.specs.Bits.{words_for}
-use Rattle.masks.specs.Columns.{int_unless, ints_of}
+use Rattle.columns.specs.Bits.{words_for}
+use Rattle.columns.specs.Columns.{int_unless, ints_of}
 use Rattle.lane_filters.proofs.Shown.{held, read, same_of_columns, written_back}
 use Rattle.lane_filters.proofs.truths.Truths.of_columns.Goals as goal
 

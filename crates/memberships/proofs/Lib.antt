@@ -1,3 +1,0 @@
-pub mod Loops
-pub mod Marks
-pub mod Paths

@@ -1,3 +1,0 @@
-pub mod Memberships
-pub mod Reached
-pub mod View

@@ -1,6 +1,0 @@
-use Rattle.std.proofs.Common.{◌∙◌}
-use Rattle.named.proofs.Entries.{index-by_bytes}
-use Rattle.named.proofs.by_name.ByName.index.Goals as goal
-
-pub returns-clause-index : goal.returns-clause-index
-returns-clause-index g c = rw (← c.self.view_is) (c.get_index_of.ensures.index ∙ index-by_bytes c.args.name.now c.self.inside.entries.entries)

@@ -1,6 +1,0 @@
-//! Things by name, in order of creation.
-#![tactic(auto)]
-
-mod by_name;
-
-pub use by_name::ByName;

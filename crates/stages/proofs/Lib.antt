@@ -1,4 +1,0 @@
-pub mod FaultOrder
-pub mod Going
-pub mod SameStage
-pub mod Walks
