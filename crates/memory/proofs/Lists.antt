@@ -32,9 +32,6 @@ module _ {Y W Z : Type 0} (f : W → List Z) (g : Y → W) (ys : List Y) (k : �
       let e : drop k ys ≡ [] = drop_of_length-le ys l in
       sym (append-nil known) ∙ ap (λ zs. known ++ flat_map f (map g zs)) (sym e) ∙ so_far
 
--- ---- some items of each that is read and its index, made by f
-
-module _ {Y W Z : Type 0} (f : ℕ → W → List Z) (all : ℕ → List W → List Z) (g : Y → W) (ys : List Y) (k : ℕ) (known whole : List Z) (so_far : known ++ all k (map g (drop k ys)) ≡ whole) where
 -- one item more, as it is viewed
 pub pushed : {X Z : Type 0} (v : X → Z) (old new : List X) (x : X) (z : Z) → new ≡ old ++ x ∷ [] → v x ≡ z → map v new ≡ map v old ++ z ∷ []
 pushed v old new x z n e = rw (n, map-append, e) refl
