@@ -133,8 +133,6 @@ module _ (bs : List Bool) (ws : List ℕ) (mask : IsMaskOf bs ws) where
 
   -- ---- fewer items
 
-  }
-
   low_bits : (x r i : ℕ) → r < 64 → bit_at (bit_and x (1 * 2 ^ r % 2 ^ 64 - 1)) i ≡ min (bit_at x i) (bit_at (2 ^ r - 1) i)
   low_bits x r i lt =
       let small : 1 * 2 ^ r % 2 ^ 64 ≡ 2 ^ r = omega (arith, pow-lt {i = r} {j = 64} lt) in
