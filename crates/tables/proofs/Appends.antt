@@ -8,6 +8,7 @@ use Rattle.csv_records.specs.Left.{Left}
 use Rattle.memory.specs.declared.failure.Failure.{Failure}
 use Rattle.memory.specs.declared.failure.Failure.TheVariants.{OutOfMemory}
 use Rattle.memory.specs.Gives.{Gives, IsFailure}
+use Rattle.memory.proofs.Cases.{at_err}
 use Rattle.value.specs.declared.column.Column as declared
 use Rattle.value.specs.Columns.{Column, column_of}
 use Rattle.value.specs.Datum.{Row}
@@ -27,10 +28,6 @@ pub count_is : (cols : List Column) (n : ℕ) (rows : List Row) (t : TableRows) 
 count_is cols n rows t count is = count ∙ ap (λ (v : TableRows). length v.rows) is
 
 -- ---- no rows came
-
-pub at_err : {T E : Type 0} {P : Type 0} (r : Result T E) → P → OnErr r P
-at_err (Ok x) p = tt
-at_err (Err e) p = p
 
 no_value : {T E : Type 0} (P : Type 0) (r : Result T E) (e : E) → IsErrAnd r (λ y. y ≡ e) → OnOk r P
 no_value P (Ok x) e is = absurd is
