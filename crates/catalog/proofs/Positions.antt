@@ -1,7 +1,7 @@
 -- A table changed at its index.
 use Rattle.std.proofs.Common.{◌≡◌, ℕ, zero, suc, ◌+◌, ◌≤◌, Bool, true, false, cond, List, [], ◌∷◌, Option, Some, None, Result, Ok, bytes_eq, refl, sym, ap, ◌∙◌, arith}
 use Rattle.std.specs.List.{position_from}
-use Rattle.memory.proofs.Cases.{some_is, none_is_not}
+use Rattle.memory.proofs.Cases.{some_is}
 use Rattle.row_objects.proofs.Marks.{at_least}
 use Rattle.value.specs.declared.refusal.Refusal.{Refusal}
 use Rattle.value.specs.Names.{Name}

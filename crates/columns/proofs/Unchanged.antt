@@ -1,4 +1,3 @@
 -- A fact at an error.
 use Rattle.std.proofs.Common.{Result, Ok, Err}
 use Rattle.std.specs.Result.{OnErr}
-use Rattle.memory.proofs.Cases.{at_err}

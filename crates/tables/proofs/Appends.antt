@@ -8,7 +8,6 @@ use Rattle.csv_records.specs.Left.{Left}
 use Rattle.memory.specs.declared.failure.Failure.{Failure}
 use Rattle.memory.specs.declared.failure.Failure.TheVariants.{OutOfMemory}
 use Rattle.memory.specs.Gives.{Gives, IsFailure}
-use Rattle.memory.proofs.Cases.{at_err}
 use Rattle.value.specs.declared.column.Column as declared
 use Rattle.value.specs.Columns.{Column, column_of}
 use Rattle.value.specs.Datum.{Row}
