@@ -34,20 +34,6 @@ pub record KeepsOrder (at : Estimates) (s : CodeStep) : Type 0 where
   pub order : (order : Order) → order_after at.conditions (entry_index s) order s.method ≡ order
   pub cost : (x y : ℕ) (order other : Order) → step_cost_of at x y order s ≡ step_cost_of at x y other s
 
-pub no_merge : (at : Estimates) (s : CodeStep) → ((k : ℕ) → s.method ≡ Merge k → ⊥) → KeepsOrder at s
-no_merge at s never = go s.method refl
-  where
-    go : (m : Method) → s.method ≡ m → KeepsOrder at s
-    go Nested e = record {
-      order = λ order. ap (order_after at.conditions (entry_index s) order) e;
-      cost = λ x y order other. ap (λ m. join_cost at x y order s m + access_cost at (entry_index s) s.access) e ∙ sym (ap (λ m. join_cost at x y other s m + access_cost at (entry_index s) s.access) e);
-    }
-    go (Hash k) e = record {
-      order = λ order. ap (order_after at.conditions (entry_index s) order) e;
-      cost = λ x y order other. ap (λ m. join_cost at x y order s m + access_cost at (entry_index s) s.access) e ∙ sym (ap (λ m. join_cost at x y other s m + access_cost at (entry_index s) s.access) e);
-    }
-    go (Merge k) e = absurd (never k e)
-
 -- ---- a merge
 
 -- what a merge asks for is there
@@ -62,51 +48,7 @@ has_sides p placed entry k h = of (numbered p.setting.conditions k) (sym (ap (is
     of None joins e = true≢false (sym joins)
     of (Some c) joins e = go (column_sides c) joins e
 
-is_own_column : (id : ColumnId) → is_column id id ≡ true
-is_own_column id = both _ _ (eq-eqb id.entry id.entry refl) (eq-eqb id.column id.column refl)
-
-module _ (at : Estimates) (s : CodeStep) (k : ℕ) (column own : ColumnId) (is : s.method ≡ Merge k) (there : sides at.conditions (entry_index s) k ≡ Some (column, own)) where
-  merge_order_after : (order : Order) → order_after at.conditions (entry_index s) order s.method ≡ Some column
-  merge_order_after order = ap (order_after at.conditions (entry_index s) order) is ∙ ap merged_order there
-
-  -- its cost is that in the order it asks for, and that of sorting
-  merge_cost : (x y : ℕ) (order : Order) (sort : ℕ) → sort ≡ sort_steps x → step_cost_of at x y (Some column) s + (if is_ordered_by order column then 0 else sort) ≡ step_cost_of at x y order s
-  merge_cost x y order sort e =
-      let right = sorting_unless (is_ordered_by (order_of (entry_index s) s.access) own) y in
-      let read = access_cost at (entry_index s) s.access in
-      let whole : (o : Order) → step_cost_of at x y o s ≡ x + y + (right + sorting_unless (is_ordered_by o column) x) + read =
-      λ o. ap (λ m. join_cost at x y o s m + read) is ∙ ap (λ q. x + y + merge_sorting o (order_of (entry_index s) s.access) x y q + read) there in
-      let none : sorting_unless (is_ordered_by (Some column) column) x ≡ 0 = ap (λ b. sorting_unless b x) (is_own_column column) in
-      let more : (if is_ordered_by order column then 0 else sort) ≡ sorting_unless (is_ordered_by order column) x = ap (λ n. if is_ordered_by order column then 0 else n) e in
-      let a = whole (Some column) in
-      let b = whole order in
-      omega (arith, a, b, none, more)
-
-sorting_few : (order : Order) (m : MergeOrder) → m.sorting ≤ 2 ^ 46 → sorting_for order (Some m) ≤ 2 ^ 46
-sorting_few order m h = go (is_ordered_by order m.column)
-  where
-    go : (b : Bool) → (if b then 0 else m.sorting) ≤ 2 ^ 46
-    go true = omega arith
-    go false = h
-
 -- ---- both
-
-pub asks_none : (at : Estimates) (orders : List Order) (x : ℕ) (s : CodeStep) → ((k : ℕ) → s.method ≡ Merge k → ⊥) → Asks at orders x s None
-asks_none at orders x s never =
-    let keeps = no_merge at s never in
-    record {
-      order = λ i order e. e ∙ ap Some (sym (keeps.order order));
-      cost = λ y order. let e = keeps.cost x y None order in omega (arith, e);
-      small = λ order. omega arith;
-    }
-
-pub asks_merge : (at : Estimates) (orders : List Order) (x : ℕ) (s : CodeStep) (k : ℕ) (m : MergeOrder) (own : ColumnId) → s.method ≡ Merge k → sides at.conditions (entry_index s) k ≡ Some (m.column, own) → slice_get orders m.index ≡ Some (Some m.column) → m.sorting ≡ sort_steps x → m.sorting ≤ 2 ^ 46
-    → Asks at orders x s (Some m)
-asks_merge at orders x s k m own is there listed sort few = record {
-  order = λ i order e. listed ∙ ap Some (sym (merge_order_after at s k m.column own is there order));
-  cost = λ y order. merge_cost at s k m.column own is there x y order m.sorting sort;
-  small = λ order. sorting_few order m few;
-}
 
 module _ (p : Problem) (few : entry_count p ≤ 12) (orders : List Order) (sizes : List ℕ) (sized : AreSizes p sizes) (set : ℕ) (within : set < 2 ^ entry_count p) where
   pub is_candidate : (c : Candidate) → may_follow p.setting (set_of set) c.step ≡ true → c.bit ≡ 2 ^ entry_index c.step → Asks (estimates p) orders (slice_index_or sizes set 0) c.step c.merge
