@@ -10,7 +10,7 @@ use Rattle.value.specs.declared.operators.Comparison.TheVariants.{Equal}
 use Rattle.expr.specs.declared.bound.ColumnId.{ColumnId}
 use Rattle.expr.specs.Bound.{BoundExpr, Column, Literal, Comparison, is_column}
 use Rattle.expr.specs.Movable.{movable}
-use Rattle.eval.specs.Meaning.{Cells, Outcome, meaning, condition, holds, is_true_outcome}
+use Rattle.predicates.specs.Meaning.{Cells, Outcome, meaning, condition, holds, is_true_outcome}
 use Rattle.bags.proofs.Members.{Each}
 use Rattle.tuples.specs.declared.slot.Slot.{Slot}
 use Rattle.tuples.specs.Combinations.{joined_cells}

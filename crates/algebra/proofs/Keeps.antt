@@ -4,7 +4,7 @@ use Rattle.bags.proofs.Order.{SameSums}
 use Rattle.bags.proofs.Bags.{SameSums-filter}
 use Rattle.bags.proofs.Products.{SameSums-product}
 use Rattle.std.proofs.lemmas.Bool.{and_from}
-use Rattle.eval.proofs.Movables.{and_left, and_right}
+use Rattle.predicates.proofs.Movables.{and_left, and_right}
 use Rattle.expr.specs.Movable.{movable}
 use Rattle.tuples.specs.World.{World}
 use Rattle.row_terms.specs.declared.path.Branch.{Branch}

@@ -6,12 +6,12 @@ use Rattle.bags.proofs.Products.{filter-swap, product-swap, product-exchange}
 use Rattle.bags.proofs.Bags.{SameSums-filter}
 use Rattle.bags.proofs.Members.{Each, each-always, filter-all, filter-none, filter-same, product-filter_members}
 use Rattle.std.proofs.lemmas.Bool.{and_from}
-use Rattle.eval.proofs.Movables.{and_left, and_right}
+use Rattle.predicates.proofs.Movables.{and_left, and_right}
 use Rattle.expr.specs.Bound.{BoundExpr}
 use Rattle.expr.specs.Movable.{movable}
 use Rattle.tuples.specs.declared.slot.Slot.{Slot}
 use Rattle.tuples.specs.Guards.{Guard}
-use Rattle.eval.specs.Meaning.{Cells}
+use Rattle.predicates.specs.Meaning.{Cells}
 use Rattle.tuples.specs.Combinations.{joined_cells}
 use Rattle.tuples.specs.World.{World, combination_at}
 use Rattle.row_terms.specs.Terms.{Term, Raw, Guarded, Filtered, Joined, Empty}

@@ -7,7 +7,7 @@ use Rattle.row_ast.specs.Ast.{Query}
 use Rattle.syntax.specs.Parsing.{parsed_query}
 use Rattle.syntax.specs.declared.error.ParseError.{ParseError}
 use Rattle.syntax.specs.declared.error.ParseError.TheVariants as parsing
-use Rattle.scope.specs.declared.error.BindError.{BindError}
+use Rattle.resolve.specs.BindError.{BindError}
 use Rattle.memory.specs.Results.{and_then}
 use Rattle.catalog.specs.Catalog.{Catalog, is_role}
 use Rattle.access.specs.Access.{RequiredPrivilege, denial}

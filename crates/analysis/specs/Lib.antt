@@ -1,2 +1,10 @@
 pub mod Analysis
 pub mod View
+pub use Rattle.resolve.specs.BoundQueries
+pub use Rattle.resolve.specs.Entries
+pub use Rattle.resolve.specs.EntryTables
+pub use Rattle.resolve.specs.OrderBy
+pub use Rattle.resolve.specs.Resolved
+pub use Rattle.access.specs.Access
+pub use Rattle.access.specs.NamedLaws
+pub use Rattle.access.specs.Needed

@@ -18,3 +18,4 @@ pub mod Run
 pub mod SetOwner
 pub mod TableColumns
 pub mod View
+pub use Rattle.scope.specs.declared.error.BindError

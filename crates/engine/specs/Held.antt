@@ -1,6 +1,6 @@
 -- The tables of a query have their contents.
 use Rattle.std.specs.Prelude.{◌≡◌, ℕ, List, [], ◌∷◌, Ok, ⊤}
-use Rattle.tables.specs.Loading.{TableRows}
+use Rattle.store.specs.Loading.{TableRows}
 use Rattle.value.specs.Names.{Name}
 use Rattle.scope.specs.Entry.{Entry}
 use Rattle.resolve.specs.Resolved.{Bound}

@@ -9,3 +9,4 @@ pub mod Readable
 pub mod Serving
 pub mod Settings
 pub mod View
+pub use Rattle.analysis.specs.Analysis

@@ -9,3 +9,5 @@ pub mod Folds
 pub mod Connected
 pub mod Sides
 pub mod Parts
+pub use Rattle.eval.proofs.Agreement
+pub use Rattle.eval.proofs.Movables

@@ -9,3 +9,5 @@ pub mod Same
 pub mod Closed
 pub mod Connectives
 pub mod Equalities
+pub use Rattle.eval.specs.Meaning
+pub use Rattle.value.specs.Datum

@@ -11,9 +11,9 @@ use Rattle.typing.specs.Typing.{column_type}
 use Rattle.type_laws.specs.Rules.{HasType}
 use Rattle.type_laws.proofs.Values.{gives}
 use Rattle.tuples.specs.Combinations.{Combination, joined_cells}
-use Rattle.resolve.specs.EntryTables.{AreTables}
-use Rattle.resolve.proofs.EntryTables.{binds_tables}
-use Rattle.store.specs.Database.{Database, rows_of}
+use Rattle.analysis.specs.EntryTables.{AreTables}
+use Rattle.analysis.proofs.EntryTables.{binds_tables}
+use Rattle.catalog_laws.specs.Database.{Database, rows_of}
 use Rattle.catalog_laws.specs.FittingRows.{FitsColumn, FitsColumns}
 use Rattle.catalog_laws.specs.WellFormedDatabase.{IsWellFormedDatabase}
 use Rattle.catalog_laws.proofs.WellFormedDatabase.{rows_fit}

@@ -21,9 +21,9 @@ use Rattle.scope.specs.declared.lookup.Scope.{Scope}
 use Rattle.scope.specs.Entry.{Entry}
 use Rattle.scope.specs.Lookup.{find_column, is_meant, match_in, matches, means_some, on_scope, one_column}
 use Rattle.scope.specs.BoundExprs.{bound_arms, bound_expr, bound_members, bound_otherwise, pair}
-use Rattle.resolve.specs.BoundQueries.{bound_condition, bound_item, bound_ons, bound_select, column_items, every_item, heading_or}
+use Rattle.analysis.specs.BoundQueries.{bound_condition, bound_item, bound_ons, bound_select, column_items, every_item, heading_or}
 use Rattle.scope.proofs.Found.{first_given, pair_given}
-use Rattle.resolve.proofs.EntryTables.{given}
+use Rattle.analysis.proofs.EntryTables.{given}
 
 -- ---- elements
 

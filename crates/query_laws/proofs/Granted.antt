@@ -14,14 +14,14 @@ use Rattle.expr.specs.BoundQuery.{BoundQuery}
 use Rattle.expr.specs.NamedColumns.{condition_columns, item_columns, named_columns}
 use Rattle.scope.specs.Entry.{Entry}
 use Rattle.scope.specs.Lookup.{everywhere, on_scope}
-use Rattle.catalog.specs.Catalog.{Catalog, owns}
-use Rattle.access.specs.Access.{RequiredPrivilege, covers, denial, granted, includes_role, select_on}
-use Rattle.access.specs.Needed.{needed, select_any}
-use Rattle.access.specs.NamedLaws.{is_on_column, on_named}
-use Rattle.access.proofs.NamedEntries.{entries_are_needed}
-use Rattle.access.proofs.NamedMentions.{named_are_needed}
-use Rattle.resolve.specs.BoundQueries.{bound_condition, bound_ons}
-use Rattle.resolve.specs.Resolved.{Bound}
+use Rattle.catalog_laws.specs.Catalog.{Catalog, owns}
+use Rattle.analysis.specs.Access.{RequiredPrivilege, covers, denial, granted, includes_role, select_on}
+use Rattle.analysis.specs.Needed.{needed, select_any}
+use Rattle.analysis.specs.NamedLaws.{is_on_column, on_named}
+use Rattle.analysis.proofs.NamedEntries.{entries_are_needed}
+use Rattle.analysis.proofs.NamedMentions.{named_are_needed}
+use Rattle.analysis.specs.BoundQueries.{bound_condition, bound_ons}
+use Rattle.analysis.specs.Resolved.{Bound}
 use Rattle.scope.proofs.Found.{first_given}
 use Rattle.memory.proofs.Cases.{ok_is, some_is}
 use Rattle.query_laws.specs.Admitted.{IsGranted, NamedAreGranted, TablesAreGranted}

@@ -4,15 +4,15 @@ use Rattle.std.specs.List.{slice_get}
 use Rattle.row_ast.specs.Ast as ast
 use Rattle.memory.specs.Results.{first_then, on_each}
 use Rattle.memory.proofs.Cases.{ok_is, some_is}
-use Rattle.catalog.specs.Catalog.{Catalog}
+use Rattle.catalog_laws.specs.Catalog.{Catalog}
 use Rattle.scope.specs.declared.lookup.Scope.{Scope}
 use Rattle.scope.specs.Entry.{Entry}
 use Rattle.scope.specs.Lookup.{on_scope}
 use Rattle.scope.specs.BoundExprs.{bound_arms, bound_expr, bound_members, bound_otherwise, choice, conjunction, disjunction, pair}
 use Rattle.scope.proofs.Found.{first_given}
-use Rattle.resolve.specs.BoundQueries.{bound_condition, bound_ons}
-use Rattle.resolve.specs.Entries.{JoinedTable, entries_in, entry_in}
-use Rattle.resolve.proofs.EntryTables.{given}
+use Rattle.analysis.specs.BoundQueries.{bound_condition, bound_ons}
+use Rattle.analysis.specs.Entries.{JoinedTable, entries_in, entry_in}
+use Rattle.analysis.proofs.EntryTables.{given}
 use Rattle.query_laws.specs.InOrder.{ArmsInOrder, EntriesInOrder, MembersInOrder, OnsInOrder, numbered}
 
 module _ (entries : List Entry) (scope : Scope) where

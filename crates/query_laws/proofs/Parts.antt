@@ -12,14 +12,14 @@ use Rattle.scope.specs.declared.error.BindError.{BindError}
 use Rattle.scope.specs.Entry.{Entry}
 use Rattle.scope.specs.Lookup.{everywhere, find_column}
 use Rattle.typing.specs.Clauses.{clause_error, is_grouped}
-use Rattle.catalog.specs.Catalog.{Catalog}
-use Rattle.resolve.specs.BoundQueries.{bound_condition, bound_ons, bound_parts, bound_query, bound_select}
-use Rattle.resolve.specs.Entries.{entries}
-use Rattle.resolve.specs.OrderBy.{output_key}
-use Rattle.resolve.specs.Resolved.{Bound, bound, bound_with, checked, ordered, unless_fault, with_order}
-use Rattle.resolve.proofs.EntryTables.{given}
-use Rattle.access.specs.Access.{RequiredPrivilege, denial}
-use Rattle.access.specs.Needed.{needed}
+use Rattle.catalog_laws.specs.Catalog.{Catalog}
+use Rattle.analysis.specs.BoundQueries.{bound_condition, bound_ons, bound_parts, bound_query, bound_select}
+use Rattle.analysis.specs.Entries.{entries}
+use Rattle.analysis.specs.OrderBy.{output_key}
+use Rattle.analysis.specs.Resolved.{Bound, bound, bound_with, checked, ordered, unless_fault, with_order}
+use Rattle.analysis.proofs.EntryTables.{given}
+use Rattle.analysis.specs.Access.{RequiredPrivilege, denial}
+use Rattle.analysis.specs.Needed.{needed}
 use Rattle.analysis.specs.Analysis.{admitted, admitted_query, permitted, query_read, unless_denied}
 
 -- ---- the parts

@@ -23,10 +23,10 @@ use Rattle.scope.specs.BoundExprs.{bound_arms, bound_expr, bound_members, bound_
 use Rattle.typing.specs.Offsets.{least_of, least_of_all}
 use Rattle.typing.specs.Grouping.{misplaced, misplaced_arms, misplaced_call, misplaced_column, misplaced_members, misplaced_otherwise}
 use Rattle.typing.specs.Clauses.{are_grouped, every_grouped, first_fault, is_grouped, misplaced_by, misplaced_condition, misplaced_in, misplaced_ons, misplaced_select, misplaced_star, mistyped_in}
-use Rattle.resolve.specs.BoundQueries.{bound_condition, bound_item, bound_ons, bound_select, column_items, every_item, heading_or}
-use Rattle.resolve.specs.Resolved.{Bound}
+use Rattle.analysis.specs.BoundQueries.{bound_condition, bound_item, bound_ons, bound_select, column_items, every_item, heading_or}
+use Rattle.analysis.specs.Resolved.{Bound}
 use Rattle.scope.proofs.Found.{first_given, pair_given}
-use Rattle.resolve.proofs.EntryTables.{given}
+use Rattle.analysis.proofs.EntryTables.{given}
 use Rattle.query_laws.specs.Admitted.{AggregatesArePlaced, HasPlainArgument, IsOfGroups, IsPlaced, IsPlain}
 use Rattle.query_laws.specs.Outside.{all_outside, arms_outside, otherwise_outside, outside_aggregates}
 use Rattle.query_laws.proofs.Found.{the_one}

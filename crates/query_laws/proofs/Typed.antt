@@ -21,10 +21,10 @@ use Rattle.typing.specs.Clauses.{first_fault, misplaced_in, mistyped, mistyped_c
 use Rattle.typing.specs.Typing.{TypeOf, Typed, column_type, fits, type_if, typed, typed_condition}
 use Rattle.type_laws.proofs.Admitted.{types_by_rules}
 use Rattle.type_laws.proofs.Fitting.{fits_by_test}
-use Rattle.resolve.specs.BoundQueries.{bound_condition, bound_item, bound_ons, bound_select, column_items, every_item, heading_or}
-use Rattle.resolve.specs.Resolved.{Bound}
+use Rattle.analysis.specs.BoundQueries.{bound_condition, bound_item, bound_ons, bound_select, column_items, every_item, heading_or}
+use Rattle.analysis.specs.Resolved.{Bound}
 use Rattle.scope.proofs.Found.{first_given}
-use Rattle.resolve.proofs.EntryTables.{given}
+use Rattle.analysis.proofs.EntryTables.{given}
 use Rattle.query_laws.specs.Typed.{AdmittedAreTyped, HasSomeType, IsCondition, IsTyped}
 use Rattle.query_laws.proofs.Found.{the_one}
 use Rattle.query_laws.proofs.Parts.{IsMade, admitted_bound, is_made}

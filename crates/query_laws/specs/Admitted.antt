@@ -9,10 +9,10 @@ use Rattle.expr.specs.Bound.{BoundExpr, is_column}
 use Rattle.expr.specs.BoundQuery.{BoundQuery}
 use Rattle.expr.specs.NamedColumns.{named_columns}
 use Rattle.scope.specs.Entry.{Entry}
-use Rattle.catalog.specs.Catalog.{Catalog}
-use Rattle.access.specs.Access.{granted, select_on}
-use Rattle.access.specs.Needed.{select_any}
-use Rattle.resolve.specs.Resolved.{Bound}
+use Rattle.catalog_laws.specs.Catalog.{Catalog}
+use Rattle.analysis.specs.Access.{granted, select_on}
+use Rattle.analysis.specs.Needed.{select_any}
+use Rattle.analysis.specs.Resolved.{Bound}
 use Rattle.analysis.specs.Analysis.{admitted}
 use Rattle.query_laws.specs.Outside.{outside_aggregates}
 

@@ -3,13 +3,13 @@ use Rattle.std.specs.Prelude.{◌≡◌, ℕ, ◌+◌, List, [], ◌∷◌, leng
 use Rattle.std.specs.List.{slice_get}
 use Rattle.row_ast.specs.Ast as ast
 use Rattle.memory.specs.Results.{on_each}
-use Rattle.catalog.specs.Catalog.{Catalog}
+use Rattle.catalog_laws.specs.Catalog.{Catalog}
 use Rattle.scope.specs.declared.lookup.Scope.{Scope}
 use Rattle.scope.specs.Entry.{Entry}
 use Rattle.scope.specs.Lookup.{on_scope}
 use Rattle.scope.specs.BoundExprs.{bound_expr, bound_otherwise, choice, conjunction, disjunction, pair}
-use Rattle.resolve.specs.BoundQueries.{bound_condition, bound_ons}
-use Rattle.resolve.specs.Entries.{JoinedTable, entries_in, entry_in}
+use Rattle.analysis.specs.BoundQueries.{bound_condition, bound_ons}
+use Rattle.analysis.specs.Entries.{JoinedTable, entries_in, entry_in}
 
 -- the entries with their numbers, from one on
 abbrev pub numbered : ℕ → List Entry → List (ℕ × Entry)

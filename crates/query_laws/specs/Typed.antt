@@ -8,8 +8,8 @@ use Rattle.expr.specs.BoundQuery.{BoundQuery}
 use Rattle.scope.specs.Entry.{Entry}
 use Rattle.typing.specs.Typing.{TypeOf}
 use Rattle.type_laws.specs.Rules.{IsOfFitting, IsOfType}
-use Rattle.catalog.specs.Catalog.{Catalog}
-use Rattle.resolve.specs.Resolved.{Bound}
+use Rattle.catalog_laws.specs.Catalog.{Catalog}
+use Rattle.analysis.specs.Resolved.{Bound}
 use Rattle.analysis.specs.Analysis.{admitted}
 
 module _ (entries : List Entry) where

@@ -9,9 +9,9 @@ use Rattle.typing.specs.Typing.{TypeOf}
 use Rattle.type_laws.specs.Laws.{GivesType}
 use Rattle.type_laws.specs.Rules.{IsOfType}
 use Rattle.tuples.specs.Combinations.{Combination, joined_cells}
-use Rattle.resolve.specs.Resolved.{Bound}
+use Rattle.analysis.specs.Resolved.{Bound}
 use Rattle.analysis.specs.Analysis.{admitted}
-use Rattle.store.specs.Database.{Database, rows_of}
+use Rattle.catalog_laws.specs.Database.{Database, rows_of}
 use Rattle.catalog_laws.specs.WellFormedDatabase.{IsWellFormedDatabase}
 use Rattle.query_laws.specs.Admitted.{IsPlain}
 

@@ -4,3 +4,4 @@ pub mod EntryTables
 pub mod OrderBy
 pub mod Resolved
 pub mod View
+pub use Rattle.scope.specs.declared.error.BindError

@@ -2,3 +2,5 @@ pub mod Event
 pub mod Machine
 pub mod Taking
 pub mod View
+pub use Rattle.sessions.specs.Reply
+pub use Rattle.sessions.specs.View as ReplyView

@@ -33,7 +33,7 @@ impl<A: Heap> Model for Core<A> {
 
     ghost use Rattle.std.specs.Prelude.{ℕ};
     ghost use Rattle.std.specs.Coded.{codes, coded_ℕ};
-    ghost use Rattle.expr.specs.declared.movable_expr.MovableExpr as movable_expr;
+    ghost use Rattle.sessions.specs.MovableExpr as movable_expr;
 
     ghost coded = { Prim.hlevel (codes, movable_expr.the_code ℕ coded_ℕ) };
 

@@ -2,7 +2,7 @@
 use Rattle.std.specs.Prelude.{ℕ, List, [], ◌∷◌, ◌++◌, codes}
 use Rattle.std.specs.Fmt.{decimal}
 use Rattle.replies.specs.ReplyText.{reply_text}
-use Rattle.sessions.specs.Reply.{Reply, Engine, Done, Session, Data}
+use Rattle.session.specs.Reply.{Reply, Engine, Done, Session, Data}
 use Rattle.tables.specs.LoadErrors.{load_error_line}
 
 -- the text of the number of a session

@@ -1,7 +1,7 @@
 //! The texts of replies to events.
 
 ghost use Rattle.std.specs.Prelude.{◌≡◌, ◌++◌, ◌∷◌, [], IfOk, codes};
-ghost use Rattle.sessions.specs.View.{reply_of};
+ghost use Rattle.session.specs.ReplyView.{reply_of};
 ghost use Rattle.tables.specs.LoadErrors.{load_error_line};
 ghost use Rattle.session_scripts.specs.ReplyTexts.{event_text, session_text};
 

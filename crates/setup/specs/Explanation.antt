@@ -10,7 +10,7 @@ use Rattle.diagnostics.specs.Diagnosis.{hint}
 use Rattle.diagnostics.specs.Statements.{statement_hint}
 use Rattle.setup.specs.declared.error.SchemaError.{SchemaError}
 use Rattle.setup.specs.declared.error.SchemaError.TheVariants as errors
-use Rattle.analysis.specs.Analysis.{refusal_to}
+use Rattle.engine.specs.Analysis.{refusal_to}
 use Rattle.setup.specs.Lines.{memory_line}
 
 abbrev pub hint_for : List ℕ → Option Reply → List ℕ

@@ -5,8 +5,8 @@ ghost use Rattle.output.specs.Taken.{one_more};
 ghost use Rattle.setup.specs.Explanation.{IsBegun, IsExplained, explanation};
 
 use crate::arguments::Arguments;
-use analysis::refusal;
 use diagnostics::hint;
+use engine::refusal;
 use memory::Heap;
 use output::{Out, write_whole};
 use std::alloc::AllocError;

@@ -4,3 +4,5 @@ pub mod Derived
 pub mod Loads
 pub mod Statements
 pub mod View
+pub use Rattle.expr.specs.declared.movable_expr.MovableExpr
+pub use Rattle.tables.specs.Loading

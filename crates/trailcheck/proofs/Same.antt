@@ -1,7 +1,7 @@
 -- The test of two terms holds exactly where they are equal.
 use Rattle.std.proofs.Common.{◌≡◌, ◌∙◌, sym, ap, ap₂, refl, ℕ, true, ◌==◌, List, [], ◌∷◌}
 use Rattle.std.proofs.lemmas.Bool.{eqb-true, eq-eqb}
-use Rattle.eval.proofs.Movables.{and_left, and_right}
+use Rattle.predicates.proofs.Movables.{and_left, and_right}
 use Rattle.predicates.specs.Same.{same}
 use Rattle.predicates.proofs.Keeping.{both}
 use Rattle.predicates.proofs.Equal as conditions

@@ -1,0 +1,3 @@
+pub use Rattle.resolve.proofs.EntryTables
+pub use Rattle.access.proofs.NamedEntries
+pub use Rattle.access.proofs.NamedMentions
