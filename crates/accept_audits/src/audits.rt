@@ -1,6 +1,6 @@
 //! Audits of plans.
 
-use fixture_stores::{FixtureError, apply, audited, sales};
+use fixtures::{FixtureError, apply, audited, sales};
 use memory::Failure;
 use std::alloc::{AllocError, AllocGlobal, Global};
 use std::process::Abort;

@@ -4,7 +4,7 @@ use access::frame;
 use algebra::planning_list;
 use bound_plans::{named, plan_entries};
 use expr::MovableExpr;
-use fixture_stores::{audited, sales};
+use fixtures::{audited, sales};
 use memory::Items;
 use plan_texts::{Plan, write_plan};
 use resolve::{Bound, bind};

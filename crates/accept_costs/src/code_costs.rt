@@ -4,7 +4,7 @@ use crate::planned::{Asked, Planned, column_of, lent, make_planned};
 use crate::rows::fields;
 use crate::stores::made;
 use expr::Code;
-use fixture_stores::code_of;
+use fixtures::code_of;
 use joindp::{MAX_ENTRIES, Problem, cost};
 use std::alloc::{AllocError, AllocGlobal, Global};
 use std::process::Abort;

@@ -1,6 +1,6 @@
 //! Statistics of tables.
 
-use fixture_stores::{load, store_of};
+use fixtures::{load, store_of};
 use stats::{ColumnStats, Stats};
 use std::alloc::{AllocError, AllocGlobal, Global};
 use std::process::Abort;

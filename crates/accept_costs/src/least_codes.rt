@@ -3,7 +3,7 @@
 use crate::planned::{Asked, Planned, column_of, lent, make_planned};
 use crate::rows::fields;
 use crate::stores::made;
-use fixture_stores::show_code;
+use fixtures::show_code;
 use joindp::{MAX_ENTRIES, Problem, cost, search};
 use std::alloc::{AllocError, AllocGlobal, Global};
 use std::process::Abort;

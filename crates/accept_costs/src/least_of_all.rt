@@ -7,7 +7,7 @@ ghost use Rattle.joindp.specs.View.{problem_of};
 use crate::planned::lent;
 use expr::{Code, cmp_codes};
 use fixture_plans::{Drawn, Random, all_codes, draw};
-use fixture_stores::show_code;
+use fixtures::show_code;
 use joindp::{MAX_ENTRIES, Problem, cost, search};
 use memory::Items;
 use std::alloc::{AllocError, AllocGlobal, Global};

@@ -1,6 +1,6 @@
 //! The store of the worked rows of sales, with some tables more.
 
-use fixture_stores::{FixtureError, apply, load, sales};
+use fixtures::{FixtureError, apply, load, sales};
 use memory::Failure;
 use std::alloc::Global;
 use store::Store;

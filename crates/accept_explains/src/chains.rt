@@ -1,6 +1,6 @@
 //! Queries that only a plan answers in time: the cross product of their entries has 10,000,000,000,000,000 combinations.
 
-use fixture_stores::{load, served, store_of};
+use fixtures::{load, served, store_of};
 use std::alloc::{AllocError, Global};
 use std::test::Fail;
 

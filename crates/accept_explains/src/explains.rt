@@ -1,6 +1,6 @@
 //! The texts of plans.
 
-use fixture_stores::{FixtureError, SALES, apply, audited, explained, load, sales, store_of};
+use fixtures::{FixtureError, SALES, apply, audited, explained, load, sales, store_of};
 use memory::Failure;
 use std::alloc::{AllocError, AllocGlobal, Global};
 use std::process::Abort;

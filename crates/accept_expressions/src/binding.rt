@@ -1,9 +1,8 @@
-//! Queries over the tables of `fixture_stores`, with their columns found, or their first error.
+//! Queries over the tables of `fixtures`, with their columns found, or their first error.
 
 use crate::queries::made;
 use catalog::Catalog;
-use fixture_stores::{catalog, error_text, query, show_bound_query};
-use fixtures::Printer;
+use fixtures::{Printer, catalog, error_text, query, show_bound_query};
 use resolve::{bind_query, entries};
 use row_ast::Query;
 use std::alloc::{AllocError, Global};

@@ -1,8 +1,8 @@
-//! Queries over the tables of `fixture_stores` whose aggregates and types are in order, or the first error.
+//! Queries over the tables of `fixtures` whose aggregates and types are in order, or the first error.
 
 use crate::queries::made;
 use catalog::Catalog;
-use fixture_stores::{catalog, error_text, query};
+use fixtures::{catalog, error_text, query};
 use resolve::bind;
 use row_ast::Query;
 use std::alloc::{AllocError, Global};

@@ -1,4 +1,4 @@
-//! Values of expressions, asked as items of queries over the tables of `fixture_stores`: on a row whose first column is 7 and whose
+//! Values of expressions, asked as items of queries over the tables of `fixtures`: on a row whose first column is 7 and whose
 //! other columns are null, for a role `bob`.
 
 ghost use Rattle.std.specs.Prelude.{nat_eq, pos, if◌then◌else◌};
@@ -9,7 +9,7 @@ use crate::queries::made;
 use catalog::Catalog;
 use eval::{Row, eval, eval_movable};
 use expr::{BoundExpr, BoundQuery, ColumnId, is_movable};
-use fixture_stores::{catalog, error_text, query};
+use fixtures::{catalog, error_text, query};
 use memory::Failure;
 use resolve::bind;
 use row_ast::Query;

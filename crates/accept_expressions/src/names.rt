@@ -3,7 +3,7 @@
 use crate::queries::made;
 use access::{RequiredPrivilege, needed};
 use catalog::Catalog;
-use fixture_stores::{catalog, error_text, query};
+use fixtures::{catalog, error_text, query};
 use memory::Failure;
 use resolve::{bind, bind_query, entries};
 use row_ast::Query;

@@ -1,6 +1,6 @@
 //! Catalogues and queries, which have to be made.
 
-use fixture_stores::QueryError;
+use fixtures::QueryError;
 use memory::Failure;
 use std::process::Abort;
 

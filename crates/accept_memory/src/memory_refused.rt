@@ -1,9 +1,7 @@
 //! Each request for memory refused in turn.
 
 use crate::stores::made;
-use fixture_stores::{
-    DEALS, FixtureError, SCHEMA, audited, deals, explained, load, served, store_of,
-};
+use fixtures::{DEALS, FixtureError, SCHEMA, audited, deals, explained, load, served, store_of};
 use memory::{Failure, Heap};
 use metered::Metered;
 use output::Output;

@@ -5,7 +5,7 @@ use access::{RequiredPrivilege, denied, guard, is_granted};
 use engine::ask;
 use eval::{eval, eval_movable, is_true_on};
 use expr::is_movable;
-use fixture_stores::deals;
+use fixtures::deals;
 use memory::Heap;
 use metered::Metered;
 use replies::reply_status;

@@ -6,7 +6,7 @@ use crate::verdicts::{made_code, made_setting, verdict_as};
 use algebra::Step;
 use expr::Code;
 use fixture_runs::{run_over, tables_of};
-use fixture_stores::{contents, sales};
+use fixtures::{contents, sales};
 use memory::Items;
 use resolve::{Bound, bind};
 use rewrite::{place, plain_code, simplify};

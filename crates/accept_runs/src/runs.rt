@@ -9,7 +9,7 @@ use access::frame;
 use algebra::planning_list;
 use expr::{Code, ColumnId};
 use fixture_runs::{run_over, tables_of};
-use fixture_stores::{FixtureError, code_of, contents, load, store_of};
+use fixtures::{FixtureError, code_of, contents, load, store_of};
 use memory::{Failure, Items};
 use resolve::{Bound, bind};
 use row_ast::Query;
