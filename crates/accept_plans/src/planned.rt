@@ -5,7 +5,7 @@ use crate::rows::fields;
 use crate::verdicts::{made_code, made_setting, verdict_as};
 use algebra::Step;
 use expr::Code;
-use fixture_runs::{run_over, tables_of};
+use fixture_plans::{run_over, tables_of};
 use fixtures::{contents, sales};
 use memory::Items;
 use resolve::{Bound, bind};

@@ -8,7 +8,7 @@ use crate::texts::shown;
 use access::frame;
 use algebra::planning_list;
 use expr::{Code, ColumnId};
-use fixture_runs::{run_over, tables_of};
+use fixture_plans::{run_over, tables_of};
 use fixtures::{FixtureError, code_of, contents, load, store_of};
 use memory::{Failure, Items};
 use resolve::{Bound, bind};

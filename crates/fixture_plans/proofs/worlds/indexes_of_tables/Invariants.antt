@@ -1,8 +1,8 @@
 use Rattle.std.proofs.Common.{◌≡◌, ◌<◌, ℕ, List, Some, length, slice_index_or}
 use Rattle.std.specs.List.{slice_get}
 use Rattle.indexes.specs.declared.index.IndexRows.{IndexRows}
-use Rattle.fixture_runs.specs.Worlds.{AreOf}
-use Rattle.fixture_runs.proofs.worlds.indexes_of_tables.Given as goal
+use Rattle.fixture_plans.specs.Worlds.{AreOf}
+use Rattle.fixture_plans.proofs.worlds.indexes_of_tables.Given as goal
 
 abbrev pub invariant-loop-entry : goal.invariant-loop-entry
 invariant-loop-entry l = record {

@@ -13,7 +13,7 @@ use Rattle.trailcheck.specs.Admissible.{is_indexed, is_listed}
 use Rattle.trailcheck.specs.Settings.{Setting}
 use Rattle.joindp.proofs.Passing.{any_map}
 use Rattle.executor.specs.Indexed.{AreIndexes, of_entry}
-use Rattle.fixture_runs.specs.Worlds.{AreOf}
+use Rattle.fixture_plans.specs.Worlds.{AreOf}
 
 module _ {A : Type 0} (tables : List (declared.GuardedTable A)) (w : World) (at : Setting) (all : List (List (IndexRows A))) (same : w.tables ≡ map (λ t. guarded_table_of t) tables) (long : length all ≡ length at.indexed)
     (each : (entry : ℕ) (columns : List ℕ) → slice_get at.indexed entry ≡ Some columns → AreOf tables entry columns (slice_index_or all entry [])) where

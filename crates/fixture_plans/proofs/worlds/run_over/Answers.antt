@@ -4,8 +4,8 @@ use Rattle.std.proofs.lemmas.Simd.{map-map}
 use Rattle.tuples.specs.View.{guarded_table_of, world_of}
 use Rattle.trailcheck.specs.View.{setting_of}
 use Rattle.executor.specs.Indexed.{AreIndexes}
-use Rattle.fixture_runs.proofs.AreThere.{are_there}
-use Rattle.fixture_runs.proofs.worlds.run_over.Goals as goal
+use Rattle.fixture_plans.proofs.AreThere.{are_there}
+use Rattle.fixture_plans.proofs.worlds.run_over.Goals as goal
 
 pub run-requires-clause-indexes : goal.run-requires-clause-indexes
 run-requires-clause-indexes c =

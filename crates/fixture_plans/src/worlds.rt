@@ -1,7 +1,7 @@
 //! The tables of a world, their indexes, and the run of codes over them.
 
 ghost use Rattle.std.specs.Prelude.{◌≡◌, [], ℕ, IfOk, List, Some, length, map, slice_get, slice_index_or};
-ghost use Rattle.fixture_runs.specs.Worlds.{AreOf};
+ghost use Rattle.fixture_plans.specs.Worlds.{AreOf};
 ghost use Rattle.tuples.specs.View.{guard_of};
 
 use executor::run;
