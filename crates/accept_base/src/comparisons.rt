@@ -3,22 +3,11 @@
 ghost use Rattle.std.specs.Prelude.{◌<◌, ◌≤◌};
 
 use crate::bits::{LENGTHS, MOST, bit, set_bit, words_for};
+use crate::cases::holds;
+use crate::numbers::VALUES;
 use columns::{cmp_cols, cmp_lit};
 use std::process::Abort;
 use value::Comparison;
-
-// The values of a column, over and over; null where there is none.
-static VALUES: [Option<i64>; 9] = [
-    Some(-3),
-    None,
-    Some(i64::MIN),
-    Some(7),
-    Some(i64::MAX),
-    Some(0),
-    None,
-    Some(7),
-    Some(-1),
-];
 
 // The value of a column at an index.
 fn left(i: usize) -> Option<i64> {
@@ -43,17 +32,6 @@ static COMPARISONS: [(&str, Comparison); 6] = [
 
 // The literals.
 static LITERALS: [i64; 4] = [7, 0, i64::MIN, i64::MAX];
-
-fn holds(op: Comparison, a: i64, b: i64) -> bool {
-    match op {
-        Comparison::Equal => a == b,
-        Comparison::NotEqual => a != b,
-        Comparison::Less => a < b,
-        Comparison::LessOrEqual => a <= b,
-        Comparison::Greater => a > b,
-        Comparison::GreaterOrEqual => a >= b,
-    }
-}
 
 // The bits of a comparison: whether it is true, and whether it is null.
 fn outcome(op: Comparison, a: Option<i64>, b: Option<i64>) -> (bool, bool) {

@@ -53,7 +53,8 @@ pub static CASES: [Case; 24] = [
     Case::NoMember,
 ];
 
-fn holds(op: Comparison, a: i64, b: i64) -> bool {
+/// True where the comparison of two numbers is true.
+pub fn holds(op: Comparison, a: i64, b: i64) -> bool {
     match op {
         Comparison::Equal => a == b,
         Comparison::NotEqual => a != b,

@@ -7,8 +7,8 @@ use value::{ColType, Column};
 /// The lengths of the tables: none, a few, about a word, about two words.
 pub static LENGTHS: [usize; 7] = [0, 1, 7, 63, 64, 65, 130];
 
-// The values of a column, over and over; null where there is none.
-static VALUES: [Option<i64>; 9] = [
+/// The values of a column, over and over; null where there is none.
+pub static VALUES: [Option<i64>; 9] = [
     Some(-3),
     None,
     Some(i64::MIN),
