@@ -1,6 +1,8 @@
 //! The texts of plans.
 
-use fixtures::{FixtureError, SALES, apply, audited, explained, load, sales, store_of};
+use crate::rows::fields;
+use crate::stores::{ids, indexed_sales};
+use fixtures::{FixtureError, SALES, audited, explained, load, sales, store_of};
 use memory::Failure;
 use std::alloc::{AllocError, AllocGlobal, Global};
 use std::process::Abort;
@@ -103,8 +105,7 @@ fn explain(
     row: &str,
 ) -> Result<(), AllocError> {
     let alloc = rt.alloc();
-    let (role, rest) = row.split_once(" | ").unwrap_or((row, ""));
-    let (text, want) = rest.split_once(" | ").unwrap_or((rest, ""));
+    let ([role, text, want, _], _) = fields(row);
     let (status, out) = explained(alloc, store, role, text);
     let written = std::str::from_utf8(out.inner.as_slice()).unwrap_or("no UTF-8");
     let head = head_of(alloc, status, written)?;
@@ -130,19 +131,9 @@ fn explain_all(
     Ok(())
 }
 
-// The numbers 1 to 1000 as the rows of a table.
-fn thousand(alloc: Global) -> Result<String, AllocError> {
-    let mut rows = String::from_str(alloc, "id\n")?;
-    for id in 1..1001 {
-        let line = format!(in alloc; "{id}\n")?;
-        rows.push_str(line.as_str())?;
-    }
-    Ok(rows)
-}
-
 fn thousands(alloc: Global) -> Result<Box<Store<Global>, Global>, Failure<FixtureError>> {
     let mut store = store_of(alloc, THOUSANDS_SCHEMA)?;
-    let rows = thousand(alloc)?;
+    let rows = ids(alloc, 1000)?;
     load(&mut store, "a", rows.as_str())?;
     load(&mut store, "b", rows.as_str())?;
     Ok(store)
@@ -168,13 +159,7 @@ fn wanted_orders_have_a_last_sort_where_nothing_gives_them(rt: HostRuntime) -> R
 
 #[test]
 fn indexes_are_used_where_they_cost_less(rt: HostRuntime) -> Result<(), Fail> {
-    let mut store = sales(rt.alloc())?;
-    apply(
-        rt.alloc(),
-        &mut store,
-        "root",
-        "CREATE INDEX di ON deal (id);",
-    )?;
+    let store = indexed_sales(rt.alloc())?;
     Ok(explain_all(&rt, &store, INDEXED)?)
 }
 

@@ -1,7 +1,6 @@
 //! Plans of the planner, written as texts, are accepted.
 
-use access::frame;
-use algebra::planning_list;
+use crate::verdicts::made_setting;
 use bound_plans::{named, plan_entries};
 use expr::MovableExpr;
 use fixtures::{audited, sales};
@@ -16,7 +15,6 @@ use std::process::Abort;
 use std::test::Fail;
 use store::Store;
 use syntax::parse_query;
-use trailcheck::Setting;
 
 // A role and a query, with ` | ` between them.
 const QUERIES: &str = "\
@@ -55,11 +53,7 @@ fn plan_text(
     bound: &Bound<'_, Global>,
 ) -> Result<Vec<u8>, AllocError> {
     let entries = bound.entries.as_slice();
-    let setting = Setting {
-        frame: frame(alloc, store.catalog(), role, entries)?,
-        indexed: Items::new(alloc),
-        conditions: planning_list(alloc, &bound.query)?,
-    };
+    let setting = made_setting(alloc, store.catalog(), role, bound, "")?;
     let code = plain_code(alloc, &setting)?;
     let trail = place(alloc, &setting, simplify(alloc, &bound.query)?.trail, &code)?;
     let plan = Plan {

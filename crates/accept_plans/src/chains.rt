@@ -1,7 +1,7 @@
 //! Queries that only a plan answers in time: the cross product of their entries has 10,000,000,000,000,000 combinations.
 
+use crate::stores::ids;
 use fixtures::{load, served, store_of};
-use std::alloc::{AllocError, Global};
 use std::test::Fail;
 
 const SCHEMA: &str = "CREATE TABLE t (id bigint);";
@@ -11,19 +11,9 @@ const CHAIN: &str = "SELECT a.id FROM t a, t c, t e, t g, t b, t d, t f, t h
 WHERE a.id = b.id AND b.id = c.id AND c.id = d.id AND d.id = e.id AND e.id = f.id AND f.id = g.id AND g.id = h.id
 ORDER BY id";
 
-// The numbers 1 to 100 as the lines of a table.
-fn hundred(alloc: Global) -> Result<String, AllocError> {
-    let mut rows = String::from_str(alloc, "id\n")?;
-    for id in 1..101 {
-        let line = format!(in alloc; "{id}\n")?;
-        rows.push_str(line.as_str())?;
-    }
-    Ok(rows)
-}
-
 #[test]
 fn plan_is_run_and_no_cross_product_made(rt: HostRuntime) -> Result<(), Fail> {
-    let rows = hundred(rt.alloc())?;
+    let rows = ids(rt.alloc(), 100)?;
     let mut store = store_of(rt.alloc(), SCHEMA)?;
     load(&mut store, "t", rows.as_str())?;
     let (status, out) = served(rt.alloc(), &store, "root", CHAIN);

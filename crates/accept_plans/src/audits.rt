@@ -1,15 +1,15 @@
 //! Audits of plans.
 
-use fixtures::{FixtureError, apply, audited, sales};
-use memory::Failure;
+use crate::queries::query_text;
+use crate::rows::{bytes_of, fields};
+use crate::stores::indexed_sales;
+use fixtures::{audited, sales};
 use std::alloc::{AllocError, AllocGlobal, Global};
 use std::process::Abort;
 use std::test::Fail;
 use store::Store;
 
-const ONE: &str = "SELECT id FROM deal WHERE id = 3";
-
-// A role, its query, the text of a plan, and the status with the line that is written, with ` | ` between them. In query and
+// A role, its query or its name, the text of a plan, and the status with the line that is written, with ` | ` between them. In query and
 // plan `;` stands for an LF and `~` for a byte that is no UTF-8.
 const VERDICTS: &str = "\
 audit | ONE | cost 5;filter 1 (deal.id = 3);first deal full;trail;9 0; | 0 accepted
@@ -110,23 +110,10 @@ audit | SELECT deal.id FROM region, deal WHERE deal.id = 3 | cost 5;filter 1 (de
 audit | SELECT deal.id FROM region, deal WHERE deal.id = 3 | cost 5;filter 1 (deal.id = 3);first region index id;nested deal full;trail;5 .;9 0;9 10; | 3 refused line 0 reason 5
 ";
 
-// The bytes of a text of the tables.
-fn bytes_of(alloc: Global, text: &str) -> Result<Vec<u8>, AllocError> {
-    let mut bytes = Vec::new(alloc);
-    for byte in text.as_bytes() {
-        bytes.push(match *byte {
-            b';' => b'\n',
-            b'~' => 255,
-            byte => byte,
-        })?;
-    }
-    Ok(bytes)
-}
-
 // The query of a row.
 fn query_of(alloc: Global, text: &str) -> Result<String, AllocError> {
     let mut query = String::new(alloc);
-    for part in (if text == "ONE" { ONE } else { text }).split(';') {
+    for part in query_text(text).split(';') {
         if !query.is_empty() {
             query.push_str("\n")?;
         }
@@ -153,9 +140,7 @@ fn audit(
     store: &Store<Global>,
     row: &str,
 ) -> Result<(), AllocError> {
-    let (role, rest) = row.split_once(" | ").unwrap_or((row, ""));
-    let (text, rest) = rest.split_once(" | ").unwrap_or((rest, ""));
-    let (plan, want) = rest.split_once(" | ").unwrap_or((rest, ""));
+    let ([role, text, plan, want], _) = fields(row);
     let query = query_of(rt.alloc(), text)?;
     let plan = bytes_of(rt.alloc(), plan)?;
     let got = audit_text(rt.alloc(), store, role, query.as_str(), plan.as_slice())?;
@@ -174,17 +159,6 @@ fn audit_all(
         audit(rt, store, row)?;
     }
     Ok(())
-}
-
-fn indexed_sales(alloc: Global) -> Result<Box<Store<Global>, Global>, Failure<FixtureError>> {
-    let mut store = sales(alloc)?;
-    apply(
-        alloc,
-        &mut store,
-        "root",
-        "CREATE INDEX deal_id ON deal (id);",
-    )?;
-    Ok(store)
 }
 
 #[test]
