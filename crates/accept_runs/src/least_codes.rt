@@ -84,7 +84,7 @@ fn is_found(
     store: &Store<Global>,
     line: &str,
 ) -> Result<(), AllocError> {
-    let [query, indexes, unknown, wanted, cost, code] = fields(line);
+    let [query, indexes, unknown, wanted, cost, code, _] = fields(line);
     let asked = Asked {
         query,
         indexes,

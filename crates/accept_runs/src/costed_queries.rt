@@ -1,4 +1,4 @@
-//! Queries that several rows share.
+//! Queries whose codes have costs, which several rows share.
 
 const PAIR: &str = "SELECT a.id FROM a, b WHERE a.id = b.id";
 

@@ -95,7 +95,7 @@ fn has_size(
     store: &Store<Global>,
     line: &str,
 ) -> Result<(), AllocError> {
-    let [query, unknown, set, want, _, _] = fields(line);
+    let [query, unknown, set, want, _, _, _] = fields(line);
     let asked = Asked {
         query,
         indexes: "",

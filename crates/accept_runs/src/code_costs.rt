@@ -96,7 +96,7 @@ fn has_cost(
     store: &Store<Global>,
     line: &str,
 ) -> Result<(), AllocError> {
-    let [query, indexes, unknown, wanted, want, code] = fields(line);
+    let [query, indexes, unknown, wanted, want, code, _] = fields(line);
     let asked = Asked {
         query,
         indexes,

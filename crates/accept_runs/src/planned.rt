@@ -1,6 +1,6 @@
 //! What plans of queries are made from, and what their costs are estimated from.
 
-use crate::queries::query_text;
+use crate::costed_queries::query_text;
 use crate::rows::{has_number, index_of};
 use access::frame;
 use algebra::planning_list;
@@ -71,7 +71,8 @@ fn indexed_columns(
     Ok(columns)
 }
 
-fn indexed(
+/// Those of each entry.
+pub fn indexed(
     alloc: Global,
     indexes: &str,
     entries: usize,
