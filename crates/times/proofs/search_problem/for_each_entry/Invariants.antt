@@ -1,5 +1,5 @@
 use Rattle.std.proofs.Common.{◌≡◌, ◌≤◌, length}
-use Rattle.plan_times.proofs.query.for_each_entry.Given as goal
+use Rattle.times.proofs.search_problem.for_each_entry.Given as goal
 
 abbrev pub invariant-loop : goal.invariant-loop
 invariant-loop l = record {

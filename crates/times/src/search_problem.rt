@@ -1,4 +1,4 @@
-//! What the search reads of a query.
+//! The problem of the search: what it reads of a query.
 //!
 //! Each table has 1,000 rows and nine columns, an id and one for each table; each column has the numbers from 1 to 1,000, and the
 //! id has an index. A condition joins an entry's column for another table to the id of that table.
