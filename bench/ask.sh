@@ -1,5 +1,5 @@
 #!/usr/bin/env bash
-# Measures how long a query takes whose tables are loaded, and how long its plan: ask_times makes tables t1, t2, .. in memory, each
+# Measures how long a query takes whose tables are loaded, and how long its plan: `times ask` makes tables t1, t2, .. in memory, each
 # with an index on its key, and asks so many times. What it takes without asking is subtracted. One table is asked for the row of a
 # key; of more tables the combinations of a chain, each joined with the next by its key, are counted. Beside it sqlite3 looks up the
 # same row.
@@ -10,8 +10,8 @@ set -eu -o pipefail
 rows=${1:-1000000}
 runs=${2:-5}
 . "$(dirname "$0")/measure.sh"
-ask_times=$top/crates/ask_times/out/ask_times
-(cd "$top/crates/ask_times" && rt run -- rows 3 100 2) > "$work/built"
+times=$top/crates/times/out/times
+(cd "$top/crates/times" && rt run -- ask rows 3 100 2) > "$work/built"
 
 # The middle one of the runs of a command, in seconds.
 middle() {
@@ -24,8 +24,8 @@ each() {
 # The rows or the plan of so many tables of so many rows, asked so many times.
 ask() {
     local none all
-    none=$(middle "$ask_times" "$1" "$2" "$3" 0)
-    all=$(middle "$ask_times" "$1" "$2" "$3" "$4")
+    none=$(middle "$times" ask "$1" "$2" "$3" 0)
+    all=$(middle "$times" ask "$1" "$2" "$3" "$4")
     printf '%-10s %s tables of %8d rows: %10s ms each, beside %s s for the tables\n' "$1" "$2" "$3" "$(each "$all" "$none" "$4")" "$none"
 }
 ask plan 1 "$rows" 20000

@@ -1,6 +1,6 @@
 #!/usr/bin/env bash
 # Measures how long a join of two tables on a key takes by each method of the executor, beside sqlite3 with the index that it makes
-# itself and without. run_times makes the tables in memory and runs one code; sqlite3 imports the same tables into memory. `none` and
+# itself and without. `times run` makes the tables in memory and runs one code; sqlite3 imports the same tables into memory. `none` and
 # `import alone` join nothing, so the time of a join is the difference. Of at most 10000 rows both also run nested loops. `rowplan` is
 # asked too, which loads the tables, joins them by its best plan and writes all rows.
 # usage: bench/join.sh [ROWS [RUNS]], with 100000 rows a table and 5 runs where nothing is said.
@@ -9,8 +9,8 @@ set -eu
 rows=${1:-100000}
 runs=${2:-5}
 . "$(dirname "$0")/measure.sh"
-run_times=$top/crates/run_times/out/run_times
-(cd "$top/crates/run_times" && rt run -- hash 100) > "$work/built"
+times=$top/crates/times/out/times
+(cd "$top/crates/times" && rt run -- run hash 100) > "$work/built"
 methods='hash merge merge-indexed'
 [ "$rows" -gt 10000 ] || methods="$methods nested"
 
@@ -63,9 +63,9 @@ ask() {
 }
 echo "$rows rows in each of two tables"
 for _ in $(seq "$runs"); do
-    measure 'run_times, none' "$run_times" none "$rows"
+    measure 'times run, none' "$times" run none "$rows"
     for method in $methods; do
-        measure "run_times, $method" "$run_times" "$method" "$rows"
+        measure "times run, $method" "$times" run "$method" "$rows"
         found_all
     done
     if [ -f "$work/import.sql" ]; then

@@ -2,14 +2,14 @@
 # Measures how long the search for the least code of a query takes, beside PostgreSQL's planning of the same query: 1 to 8 tables
 # in a chain (each joined to the next), a star (the first joined to each other) and a clique (each two joined).
 # usage: bench/plan.sh [RUNS], with 20 runs where nothing is said; of each time the middle one is given.
-# `rt` must be on the path. The program plan_times is proved and built first, if it is not yet. PostgreSQL is left out where its
+# `rt` must be on the path. The program `times` is proved and built first, if it is not yet. PostgreSQL is left out where its
 # programs are not in POSTGRESQL, or /usr/lib/postgresql/15/bin; it runs in a folder of its own, on a socket alone.
 set -eu
 runs=${1:-20}
 bin=${POSTGRESQL:-/usr/lib/postgresql/15/bin}
 . "$(dirname "$0")/measure.sh"
-plan_times=$top/crates/plan_times/out/plan_times
-(cd "$top/crates/plan_times" && rt run -- chain 3 1) > "$work/built"
+times=$top/crates/times/out/times
+(cd "$top/crates/times" && rt run -- plan chain 3 1) > "$work/built"
 
 # A server does not run as root.
 as_owner() {
@@ -30,7 +30,7 @@ start() {
     as_owner "$bin/pg_ctl" -D "$work/data" -l "$work/log" -w -o "-k '$work' -c listen_addresses= -c autovacuum=off -c fsync=off" start > "$work/start"
 }
 
-# The tables of plan_times: an id and a column for each table, each with 1000 numbers, all different since 1009 is prime, in an
+# The tables of `times plan`: an id and a column for each table, each with 1000 numbers, all different since 1009 is prime, in an
 # order of its own.
 make_tables() {
     local i j columns values
@@ -82,7 +82,7 @@ postgresql() {
 search() {
     local from to
     from=$(date +%s%N)
-    "$plan_times" "$1" "$2" "$3" > "$work/cost"
+    "$times" plan "$1" "$2" "$3" > "$work/cost"
     to=$(date +%s%N)
     echo $((to - from))
 }

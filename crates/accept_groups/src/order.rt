@@ -1,7 +1,7 @@
 //! Worked rows of ORDER BY, LIMIT, and the text of an answer.
 
 use crate::passing::passes;
-use fixture_stores::{answered, sales};
+use fixtures::{answered, sales};
 use std::test::Fail;
 
 // ORDER BY headings and positions; rows that are equal there follow by all columns, ascending.

@@ -1,7 +1,7 @@
 //! The order of codes.
 
 use expr::{Code, cmp_codes};
-use fixture_stores::code_of;
+use fixtures::code_of;
 use std::alloc::Global;
 use std::cmp::Ordering;
 use std::process::Abort;

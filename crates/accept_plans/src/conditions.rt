@@ -3,8 +3,7 @@
 use crate::term_texts::show_conditions;
 use algebra::planning_list;
 use catalog::Catalog;
-use fixture_stores::sales;
-use fixtures::Printer;
+use fixtures::{Printer, sales};
 use resolve::{Bound, bind};
 use row_ast::Query;
 use std::alloc::{AllocError, Global};

@@ -1,15 +1,23 @@
-//! Tests of the terms that the steps of a trail make, of the verdicts on trails, of codes, of the conditions that a query is
-//! planned with, of the trails that a planner makes, and of plans read from texts. docs/ACCEPTANCE.md lists them.
+//! Tests of plans: the terms that the steps of a trail make, the verdicts on trails, codes, the conditions that a query is planned
+//! with, the plans that are made and written as texts, and the audits of texts. docs/ACCEPTANCE.md lists them.
 #![tactic(auto)]
 
+#[cfg(test)]
+mod audits;
+#[cfg(test)]
+mod chains;
 #[cfg(test)]
 mod code_order;
 #[cfg(test)]
 mod conditions;
 #[cfg(test)]
+mod explains;
+#[cfg(test)]
 mod plan_reading;
 #[cfg(test)]
 mod planned;
+#[cfg(test)]
+mod planned_texts;
 #[cfg(test)]
 mod queries;
 #[cfg(test)]
@@ -18,6 +26,8 @@ mod rewrites;
 mod rows;
 #[cfg(test)]
 mod steps;
+#[cfg(test)]
+mod stores;
 #[cfg(test)]
 mod term_texts;
 #[cfg(test)]

@@ -1,5 +1,6 @@
 //! Plans read from texts, or the number of the first unreadable line.
 
+use crate::rows::bytes_of;
 use algebra::Step;
 use expr::{Access, Code, Method};
 use memory::{Failure, Items, Text};
@@ -48,15 +49,6 @@ fn entry(alloc: Global, alias: &str, names: &str) -> Result<PlanEntry<Global>, A
         alias: Text::new(alloc, alias)?,
         columns,
     })
-}
-
-// The bytes of a text of the table.
-fn bytes_of(alloc: Global, text: &str) -> Result<Vec<u8>, AllocError> {
-    let mut bytes = Vec::new(alloc);
-    for byte in text.as_bytes() {
-        bytes.push(if *byte == b';' { b'\n' } else { *byte })?;
-    }
-    Ok(bytes)
 }
 
 fn show_access(access: Access, out: &mut String) -> Result<(), AllocError> {

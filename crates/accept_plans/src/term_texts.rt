@@ -2,8 +2,7 @@
 //! join in parentheses, E with the indices of its entries.
 
 use expr::MovableExpr;
-use fixture_stores::show_bound;
-use fixtures::Printer;
+use fixtures::{Printer, show_bound};
 use row_terms::Term;
 use std::alloc::{AllocError, Global};
 

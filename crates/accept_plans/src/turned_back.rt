@@ -7,7 +7,7 @@ use crate::rows::fields;
 use algebra::planning_list;
 use catalog::Catalog;
 use expr::MovableExpr;
-use fixture_stores::sales;
+use fixtures::sales;
 use memory::boxed;
 use resolve::{Bound, bind};
 use row_ast::Query;

@@ -7,7 +7,7 @@ use access::frame;
 use algebra::{Step, planning_list};
 use catalog::Catalog;
 use expr::Code;
-use fixture_stores::{code_of, sales};
+use fixtures::{code_of, sales};
 use memory::{Items, boxed};
 use resolve::{Bound, bind};
 use row_ast::Query;

@@ -1,6 +1,6 @@
 //! The run of a script in a test.
 
-use fixture_stores::run_script;
+use fixtures::run_script;
 use std::alloc::Global;
 use std::test::Fail;
 

@@ -1,8 +1,8 @@
 //! Statements by roles, and their results in a store.
 
 use crate::stores::made;
-use fixture_stores::FixtureError::{Parse, Statement};
-use fixture_stores::{FixtureError, apply, deals};
+use fixtures::FixtureError::{Parse, Statement};
+use fixtures::{FixtureError, apply, deals};
 use memory::Failure;
 use std::alloc::{AllocError, Global};
 use std::process::Abort;

@@ -1,6 +1,6 @@
 //! Worked rows: a schema, texts of rows, and the replies to a role.
 
-use fixture_stores::run_script;
+use fixtures::run_script;
 use std::test::Fail;
 
 // Refusals, denials, own rows, and rows that are printed.

@@ -1,6 +1,6 @@
 //! Worked rows of the store of crates/rowplan/data/sales: roles, memberships, column grants, and the first denial.
 
-use fixture_stores::run_script;
+use fixtures::run_script;
 use std::test::Fail;
 
 const WORKED: &str = "-- members_see_their_own_deals

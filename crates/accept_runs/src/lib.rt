@@ -1,23 +1,43 @@
-//! Tests of the run of codes: their combinations, the order of these, and the steps that are counted. docs/ACCEPTANCE.md lists
-//! them.
+//! Tests of the run of codes and of their expected costs: combinations, their order and the steps that are counted; statistics of
+//! tables, factors of conditions, estimated sizes, costs, and the search for the least code. docs/ACCEPTANCE.md lists them.
 #![tactic(auto)]
 
 #[cfg(test)]
 mod cases;
 #[cfg(test)]
+mod code_costs;
+#[cfg(test)]
+mod costed_queries;
+#[cfg(test)]
+mod counted;
+#[cfg(test)]
 mod drawn_tables;
 #[cfg(test)]
 mod every_code;
 #[cfg(test)]
+mod factors;
+#[cfg(test)]
+mod least_codes;
+#[cfg(test)]
+mod least_of_all;
+#[cfg(test)]
 mod nested_loops;
+#[cfg(test)]
+mod planned;
+#[cfg(test)]
+mod rows;
 #[cfg(test)]
 mod runs;
 #[cfg(test)]
-mod sizes;
+mod set_sizes;
+#[cfg(test)]
+mod slot_size;
 #[cfg(test)]
 mod slow_source;
 #[cfg(test)]
 mod steps_counted;
+#[cfg(test)]
+mod stores;
 #[cfg(test)]
 mod texts;
 #[cfg(test)]

@@ -4,13 +4,15 @@ ghost use Rattle.std.specs.Prelude.{◌≡◌, map};
 ghost use Rattle.tuples.specs.View.{guard_of};
 
 use crate::cases::{A, C, ROWS, SCHEMA, query_text};
+use crate::planned::{column_of, indexed};
+use crate::rows::fields;
 use crate::texts::shown;
 use access::frame;
 use algebra::planning_list;
-use expr::{Code, ColumnId};
-use fixture_runs::{run_over, tables_of};
-use fixture_stores::{FixtureError, code_of, contents, load, store_of};
-use memory::{Failure, Items};
+use expr::Code;
+use fixture_plans::{run_over, tables_of};
+use fixtures::{FixtureError, code_of, contents, load, store_of};
+use memory::Failure;
 use resolve::{Bound, bind};
 use row_ast::Query;
 use std::alloc::{AllocError, AllocGlobal, Global};
@@ -33,18 +35,8 @@ struct Row<'r> {
     steps: &'r str,
 }
 
-// The part of a line before the next mark, and the rest.
-fn field(line: &str) -> (&str, &str) {
-    line.split_once(" | ").unwrap_or((line, ""))
-}
-
 fn row_of(line: &str) -> Row<'_> {
-    let (role, rest) = field(line);
-    let (query, rest) = field(rest);
-    let (indexes, rest) = field(rest);
-    let (wanted, rest) = field(rest);
-    let (code, rest) = field(rest);
-    let (combinations, steps) = field(rest);
+    let [role, query, indexes, wanted, code, combinations, steps] = fields(line);
     Row {
         role,
         query,
@@ -57,48 +49,6 @@ fn row_of(line: &str) -> Row<'_> {
 }
 
 // ---- what plans are made from
-
-// An entry or a column as an index: its number in a text, which counts from 1.
-fn index_from(text: &str) -> Option<usize> {
-    text.parse::<usize>().ok()?.checked_sub(1)
-}
-
-// The column of a text.
-fn column_of(text: &str) -> Option<ColumnId> {
-    let (entry, column) = text.split_once('.')?;
-    Some(ColumnId {
-        entry: index_from(entry)?,
-        column: index_from(column)?,
-    })
-}
-
-// The numbers of the columns of an entry that have an index.
-fn indexed_columns(
-    alloc: Global,
-    indexes: &str,
-    entry: usize,
-) -> Result<Items<u64, Global>, AllocError> {
-    let mut columns = Items::new(alloc);
-    for word in indexes.split(' ') {
-        match column_of(word) {
-            Some(id) if id.entry == entry => columns.push((id.column as u64).saturating_add(1))?,
-            _ => {}
-        }
-    }
-    Ok(columns)
-}
-
-fn indexed(
-    alloc: Global,
-    indexes: &str,
-    entries: usize,
-) -> Result<Items<Items<u64, Global>, Global>, AllocError> {
-    let mut all = Items::new(alloc);
-    for entry in 0..entries {
-        all.push(indexed_columns(alloc, indexes, entry)?)?;
-    }
-    Ok(all)
-}
 
 fn setting(
     alloc: Global,

@@ -1,7 +1,7 @@
 //! Each request for memory of the steps of a script refused in turn.
 
 use crate::scripts::{event_of, parts_of, shown};
-use fixture_stores::{FixtureError, deals};
+use fixtures::{FixtureError, deals};
 use memory::{Failure, Heap, boxed};
 use metered::Metered;
 use session::{Core, Event};

@@ -5,7 +5,7 @@ use crate::refusals::{NAMES, NOT_OPEN};
 use crate::roles::{APART, NUMBERS, SET};
 use crate::scripts::{event_of, parts_of, sales_core, shown};
 use crate::texts::{FETCHES, KEPT};
-use fixture_stores::FixtureError;
+use fixtures::FixtureError;
 use memory::{Failure, Heap};
 use metered::Metered;
 use session::{Core, Event, Reply};

@@ -1,7 +1,7 @@
 //! Each refusal of each event.
 
 use crate::scripts::{run, run_over};
-use fixture_stores::FLAGS;
+use fixtures::FLAGS;
 use std::test::Fail;
 
 // Each event of a session that is not open, also with a role that is none, and a text that is none.

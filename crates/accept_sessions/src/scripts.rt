@@ -1,7 +1,7 @@
 //! Runs of scripts. A row is the line of an event, ` => `, and the text of the reply, with ` / ` for each LF but the last, or
 //! `no event` where the line is none. A load takes the text that its path names.
 
-use fixture_stores::{FixtureError, OPEN, SALES_DEALS, SALES_REGIONS, sales, store_of};
+use fixtures::{FixtureError, OPEN, SALES_DEALS, SALES_REGIONS, sales, store_of};
 use memory::{Failure, Heap, boxed};
 use session::{Core, Event, Reply};
 use session_scripts::{ScriptLine, read_line, reply_text};

@@ -1,7 +1,7 @@
 //! Diagnostics of texts over the store of `sales`, by hand.
 
 use diagnostics::codes_text;
-use fixture_stores::{SALES, sales, store_of};
+use fixtures::{SALES, sales, store_of};
 use output::Output;
 use setup::{Arguments, SchemaError, explain_refusal, explain_schema};
 use std::alloc::Global;

@@ -1,11 +1,16 @@
 //! Tests of stores that go through the whole program: opened from a schema text and files, loaded, asked with writers that
-//! fail, and what is said of refused texts. docs/ACCEPTANCE.md lists them.
+//! fail, with memory that is refused, and what is said of refused texts; and calls that take no memory. docs/ACCEPTANCE.md lists
+//! them.
 #![tactic(auto)]
 
 #[cfg(test)]
 mod explanations;
 #[cfg(test)]
 mod loads;
+#[cfg(test)]
+mod memory_refused;
+#[cfg(test)]
+mod no_memory;
 #[cfg(test)]
 mod opening;
 #[cfg(test)]

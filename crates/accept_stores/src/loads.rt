@@ -3,8 +3,7 @@
 use crate::stores::made;
 use csv_records::Records;
 use engine::StoreError::Data;
-use fixture_stores::{DEALS, FLAGS, FixtureError, SCHEMA, answered, deals, load, store_of};
-use fixtures::in_pieces;
+use fixtures::{DEALS, FLAGS, FixtureError, SCHEMA, answered, deals, in_pieces, load, store_of};
 use memory::Failure;
 use std::alloc::Global;
 use std::process::Abort;

@@ -1,6 +1,6 @@
 //! Stores, which have to be made.
 
-use fixture_stores::FixtureError;
+use fixtures::FixtureError;
 use memory::Failure;
 use std::process::Abort;
 

@@ -2,7 +2,7 @@
 
 use crate::stores::made;
 use engine::serve;
-use fixture_stores::deals;
+use fixtures::deals;
 use output::Output;
 use std::alloc::Global;
 use std::io;

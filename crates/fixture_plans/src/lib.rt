@@ -1,11 +1,13 @@
-//! Small problems of planning that are drawn from a seed, and all codes that their plans may have. It has no contracts; the tests
-//! compare what others find with what is found here.
+//! Small problems of planning that are drawn from a seed, all codes that their plans may have, and the run of codes over tables with
+//! indexes that are made for it. The tests compare what others find with what is found here.
 #![tactic(auto)]
 
 mod every_code;
 mod random;
 mod random_problems;
+mod worlds;
 
 pub use every_code::all_codes;
 pub use random::Random;
 pub use random_problems::{Drawn, draw};
+pub use worlds::{no_query, run_over, tables_of};

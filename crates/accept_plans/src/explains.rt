@@ -1,0 +1,209 @@
+//! The texts of plans.
+
+use crate::rows::fields;
+use crate::stores::{ids, indexed_sales};
+use fixtures::{FixtureError, SALES, audited, explained, load, sales, store_of};
+use memory::Failure;
+use std::alloc::{AllocError, AllocGlobal, Global};
+use std::process::Abort;
+use std::test::Fail;
+use store::Store;
+
+// A role, its query, and the status with the lines that explain it, up to the trail; ` | ` between them, and ` / ` for an LF. The
+// costs are worked out by hand from the statistics: five deals with ids 1 to 5, of two owners and two regions; three regions, of
+// which one has no id.
+const JOINS: &str = "\
+audit | SELECT d.id FROM deal d, region r WHERE d.region = r.id | 0 cost 19 / filter 1 (d.region = r.id) / first d full / hash 1 r full / trail
+root | SELECT d.id FROM deal d, region r WHERE d.region = r.id | 0 cost 19 / filter 1 (d.region = r.id) / first d full / hash 1 r full / trail
+alice | SELECT d.id FROM deal d, region r WHERE d.region = r.id | 0 cost 2009 / filter 1 (d.region = r.id) / first d full / hash 1 r full / trail
+audit | SELECT d.id FROM deal d JOIN region r ON d.region = r.id | 0 cost 19 / filter 1 (d.region = r.id) / first d full / hash 1 r full / trail
+audit | SELECT d.id FROM deal d, region r WHERE d.region = r.id AND r.id = 1 | 0 cost 10 / filter 1 (d.region = r.id) / filter 2 (r.id = 1) / filter 3 (d.region = 1) / first d full / nested r full / trail
+audit | SELECT d.id FROM deal d JOIN region r ON d.region = r.id JOIN region s ON r.id = s.id | 0 cost 34 / filter 1 (d.region = r.id) / filter 2 (r.id = s.id) / first r full / nested s full / hash 1 d full / trail
+audit | SELECT a.id FROM deal a, deal b WHERE a.id = b.id | 0 cost 25 / filter 1 (a.id = b.id) / first a full / hash 1 b full / trail
+alice | SELECT a.id FROM deal a, deal b WHERE a.id = b.id | 0 cost 5000 / filter 1 (a.id = b.id) / first a full / hash 1 b full / trail
+audit | SELECT d.id FROM deal d CROSS JOIN region r | 0 cost 23 / first d full / nested r full / trail
+";
+
+const SINGLE: &str = "\
+audit | SELECT id FROM deal | 0 cost 5 / first deal full / trail
+alice | SELECT id FROM deal | 0 cost 1000 / first deal full / trail
+guest | SELECT id FROM deal | 0 cost 1000 / first deal full / trail
+alice | SELECT id FROM region | 0 cost 3 / first region full / trail
+audit | SELECT id FROM deal WHERE NOT (id IN (1, 2) OR owner IS NULL) | 0 cost 5 / filter 1 (deal.id NOT IN (1, 2)) / filter 2 (deal.owner IS NOT NULL) / first deal full / trail
+audit | SELECT id FROM deal WHERE amount/parts > 1 AND id = 3 | 0 cost 5 / filter 1 (deal.id = 3) / first deal full / trail
+audit | SELECT id FROM deal WHERE owner = CURRENT_USER AND owner <> 'it''s' | 0 cost 5 / filter 1 (deal.owner = CURRENT_USER) / filter 2 (deal.owner <> 'it''s') / first deal full / trail
+audit | SELECT id FROM deal WHERE FALSE | 0 cost 0 / filter 1 FALSE / empty / trail
+audit | SELECT id FROM deal WHERE 1 = 2 | 0 cost 0 / filter 1 FALSE / empty / trail
+alice | SELECT id FROM deal WHERE 1 = 2 ORDER BY id | 0 cost 0 / filter 1 FALSE / empty / trail
+";
+
+// Groups and orders, with and without a last sort.
+const ORDERS: &str = "\
+audit | SELECT owner, count(*) AS n FROM deal GROUP BY owner | 0 cost 20 / first deal full / sort deal.owner / trail
+audit | SELECT id FROM deal ORDER BY id | 0 cost 20 / first deal full / sort deal.id / trail
+audit | SELECT id FROM deal ORDER BY id DESC | 0 cost 5 / first deal full / trail
+audit | SELECT id + 1 AS n FROM deal ORDER BY n | 0 cost 5 / first deal full / trail
+audit | SELECT count(*) AS n FROM deal GROUP BY owner, id ORDER BY n | 0 cost 20 / first deal full / sort deal.owner / trail
+audit | SELECT r.name, count(*) AS n FROM deal d JOIN region r ON d.region = r.id GROUP BY r.name | 0 cost 40 / filter 1 (d.region = r.id) / first d full / hash 1 r full / sort r.name / trail
+";
+
+// Over an index on the deals' id.
+const INDEXED: &str = "\
+audit | SELECT id FROM deal WHERE id = 3 | 0 cost 3 / filter 1 (deal.id = 3) / first deal index id by 1 / trail
+alice | SELECT id FROM deal WHERE id = 3 | 0 cost 201 / filter 1 (deal.id = 3) / first deal index id by 1 / trail
+audit | SELECT id FROM deal WHERE id < 3 | 0 cost 5 / filter 1 (deal.id < 3) / first deal full / trail
+audit | SELECT id FROM deal ORDER BY id | 0 cost 10 / first deal index id / trail
+audit | SELECT id, count(*) AS n FROM deal GROUP BY id | 0 cost 10 / first deal index id / trail
+";
+
+const REPLIES: &str = "\
+zed | SELECT id FROM deal | 6 refused 42704
+audit | SELECT | 3 refused 42601 at 6
+audit | SELECT nosuch FROM deal | 3 refused 42703 at 7
+audit | SELECT id FROM nosuch | 3 refused 42P01 at 15
+lone | SELECT id FROM deal | 4 denied 42501 column id of table deal
+guest | SELECT owner FROM deal | 4 denied 42501 column owner of table deal
+";
+
+// A policy that shows every row is a guard all the same.
+const OPEN_POLICY: &str = "\
+root | SELECT id FROM t | 0 cost 2 / first t full / trail
+reader | SELECT id FROM t | 0 cost 1000 / first t full / trail
+";
+
+const OPEN_SCHEMA: &str = "CREATE ROLE reader; CREATE TABLE t (id bigint);
+ALTER TABLE t ENABLE ROW LEVEL SECURITY; CREATE POLICY p ON t USING (TRUE); GRANT SELECT ON t TO reader;";
+
+// The two tables with ids 1 to 1000, and an index on each id.
+const THOUSANDS: &str = "\
+root | SELECT a.id FROM a, b WHERE a.id = b.id ORDER BY id | 0 cost 6000 / filter 1 (a.id = b.id) / first a index id / hash 1 b full / trail
+root | SELECT a.id FROM a, b WHERE a.id = b.id AND a.id < 11 AND b.id < 11 | 0 cost 62 / filter 1 (a.id = b.id) / filter 2 (a.id < 11) / filter 3 (b.id < 11) / first a index id by 2 / merge 1 b index id by 3 / trail
+";
+
+const THOUSANDS_SCHEMA: &str = "CREATE TABLE a (id bigint); CREATE TABLE b (id bigint);
+CREATE INDEX a_id ON a (id); CREATE INDEX b_id ON b (id);";
+
+// The lines of a text up to `trail`, with ` / ` between them.
+fn head_of(alloc: Global, status: u8, text: &str) -> Result<String, AllocError> {
+    let mut head = format!(in alloc; "{status} ")?;
+    for (i, line) in text.lines().enumerate() {
+        if i > 0 {
+            head.push_str(" / ")?;
+        }
+        head.push_str(line)?;
+        if line == "trail" {
+            return Ok(head);
+        }
+    }
+    Ok(head)
+}
+
+// What explains a row's query is what it should be, and a plan is accepted.
+fn explain(
+    rt: &(impl Abort + AllocGlobal),
+    store: &Store<Global>,
+    row: &str,
+) -> Result<(), AllocError> {
+    let alloc = rt.alloc();
+    let ([role, text, want, _], _) = fields(row);
+    let (status, out) = explained(alloc, store, role, text);
+    let written = std::str::from_utf8(out.inner.as_slice()).unwrap_or("no UTF-8");
+    let head = head_of(alloc, status, written)?;
+    assert_eq!(rt; head.as_str(), want, "{row}");
+    if status == 0 {
+        let (verdict, line) = audited(alloc, store, role, text, out.inner.as_slice());
+        let line = std::str::from_utf8(line.inner.as_slice()).unwrap_or("no UTF-8");
+        assert_eq!(rt; verdict, 0, "{row}");
+        assert_eq!(rt; line, "accepted\n", "{row}");
+    }
+    Ok(())
+}
+
+fn explain_all(
+    rt: &(impl Abort + AllocGlobal),
+    store: &Store<Global>,
+    rows: &str,
+) -> Result<(), AllocError> {
+    assert!(rt; !rows.is_empty());
+    for row in rows.lines() {
+        explain(rt, store, row)?;
+    }
+    Ok(())
+}
+
+fn thousands(alloc: Global) -> Result<Box<Store<Global>, Global>, Failure<FixtureError>> {
+    let mut store = store_of(alloc, THOUSANDS_SCHEMA)?;
+    let rows = ids(alloc, 1000)?;
+    load(&mut store, "a", rows.as_str())?;
+    load(&mut store, "b", rows.as_str())?;
+    Ok(store)
+}
+
+#[test]
+fn joins_are_planned_by_cost(rt: HostRuntime) -> Result<(), Fail> {
+    let store = sales(rt.alloc())?;
+    Ok(explain_all(&rt, &store, JOINS)?)
+}
+
+#[test]
+fn single_tables_and_empty_plans(rt: HostRuntime) -> Result<(), Fail> {
+    let store = sales(rt.alloc())?;
+    Ok(explain_all(&rt, &store, SINGLE)?)
+}
+
+#[test]
+fn wanted_orders_have_a_last_sort_where_nothing_gives_them(rt: HostRuntime) -> Result<(), Fail> {
+    let store = sales(rt.alloc())?;
+    Ok(explain_all(&rt, &store, ORDERS)?)
+}
+
+#[test]
+fn indexes_are_used_where_they_cost_less(rt: HostRuntime) -> Result<(), Fail> {
+    let store = indexed_sales(rt.alloc())?;
+    Ok(explain_all(&rt, &store, INDEXED)?)
+}
+
+#[test]
+fn refusals_and_denials_come_first(rt: HostRuntime) -> Result<(), Fail> {
+    let store = sales(rt.alloc())?;
+    Ok(explain_all(&rt, &store, REPLIES)?)
+}
+
+#[test]
+fn policy_that_shows_every_row_hides_the_statistics(rt: HostRuntime) -> Result<(), Fail> {
+    let mut store = store_of(rt.alloc(), OPEN_SCHEMA)?;
+    load(&mut store, "t", "id\n1\n2\n")?;
+    Ok(explain_all(&rt, &store, OPEN_POLICY)?)
+}
+
+#[test]
+fn orders_of_indexes_and_merges_are_worth_their_cost(rt: HostRuntime) -> Result<(), Fail> {
+    let store = thousands(rt.alloc())?;
+    Ok(explain_all(&rt, &store, THOUSANDS)?)
+}
+
+#[test]
+fn hidden_rows_change_no_byte(rt: HostRuntime) -> Result<(), Fail> {
+    let alloc = rt.alloc();
+    let query =
+        "SELECT d.id FROM deal d, region r WHERE d.region = r.id AND d.id < 100 ORDER BY id";
+    let full = sales(alloc)?;
+    let mut other = store_of(alloc, SALES)?;
+    load(
+        &mut other,
+        "deal",
+        "id,owner,region,amount,parts\n900,bob,7,1,1\n",
+    )?;
+    load(
+        &mut other,
+        "region",
+        "id,name\n1,north\n2,south\n\\N,none\n",
+    )?;
+    let (status, one) = explained(alloc, &full, "alice", query);
+    let (same, two) = explained(alloc, &other, "alice", query);
+    assert_eq!(&rt; status, 0);
+    assert_eq!(&rt; same, 0);
+    assert!(&rt; one.inner.len() > 100);
+    assert_eq!(&rt; one.inner.as_slice(), two.inner.as_slice());
+    Ok(())
+}

@@ -1,0 +1,102 @@
+//! Plans of the planner, written as texts, are accepted.
+
+use crate::verdicts::made_setting;
+use bound_plans::{named, plan_entries};
+use expr::MovableExpr;
+use fixtures::{audited, sales};
+use memory::Items;
+use plan_texts::{Plan, write_plan};
+use resolve::{Bound, bind};
+use rewrite::{place, plain_code, simplify};
+use row_ast::{Expr, Query};
+use scope::Entry;
+use std::alloc::{AllocError, AllocGlobal, Global};
+use std::process::Abort;
+use std::test::Fail;
+use store::Store;
+use syntax::parse_query;
+
+// A role and a query, with ` | ` between them.
+const QUERIES: &str = "\
+audit | SELECT id FROM deal WHERE id = 3
+alice | SELECT id FROM deal WHERE id = 3
+guest | SELECT id FROM deal
+root | SELECT deal.id FROM deal, region WHERE deal.id = 1
+root | SELECT r.id FROM deal d JOIN region r ON d.region = r.id WHERE d.owner IN ('it''s', 'bob') AND d.region = 2
+root | SELECT a.id FROM deal a, deal b, deal c WHERE a.id = c.id AND 2 < c.id AND (b.id = c.id AND 1 = 1)
+alice | SELECT id FROM deal WHERE NOT (id < 3 OR owner = 'bob')
+bob | SELECT id FROM deal WHERE owner NOT IN ('é', 'x') OR amount NOT BETWEEN -5 AND parts
+root | SELECT id FROM deal WHERE CASE WHEN owner = CURRENT_USER THEN id IS NULL WHEN parts > 0 THEN FALSE ELSE region IS NOT NULL END
+root | SELECT id FROM deal WHERE CASE WHEN owner = 'x' THEN id END = 1
+root | SELECT id FROM deal WHERE NOT CASE WHEN id = 1 THEN NULL END = NULL
+root | SELECT deal.id FROM deal, region WHERE 1 = 2
+";
+
+// The conditions as trees, with their columns named.
+fn filters(
+    alloc: Global,
+    entries: &[Entry<'_, Global>],
+    conditions: &[MovableExpr<Global>],
+) -> Result<Items<Expr<Global>, Global>, AllocError> {
+    let mut filters = Items::new(alloc);
+    for condition in conditions {
+        filters.push(Box::into_inner(named(alloc, entries, condition.expression())?))?;
+    }
+    Ok(filters)
+}
+
+// The text of the plan of the plain code.
+fn plan_text(
+    alloc: Global,
+    store: &Store<Global>,
+    role: &str,
+    bound: &Bound<'_, Global>,
+) -> Result<Vec<u8>, AllocError> {
+    let entries = bound.entries.as_slice();
+    let setting = made_setting(alloc, store.catalog(), role, bound, "")?;
+    let code = plain_code(alloc, &setting)?;
+    let trail = place(alloc, &setting, simplify(alloc, &bound.query)?.trail, &code)?;
+    let plan = Plan {
+        cost: 0,
+        filters: filters(alloc, entries, setting.conditions.as_slice())?,
+        code,
+        sort: None,
+        trail,
+    };
+    write_plan(alloc, plan_entries(alloc, entries)?.as_slice(), &plan)
+}
+
+fn is_accepted(
+    rt: &(impl Abort + AllocGlobal),
+    store: &Store<Global>,
+    role: &str,
+    text: &str,
+    query: &Query<Global>,
+) -> Result<(), AllocError> {
+    let Ok(bound) = bind(rt.alloc(), store.catalog(), query) else {
+        panic!(rt; "{text}: not bound");
+    };
+    let plan = plan_text(rt.alloc(), store, role, &bound)?;
+    let (status, out) = audited(rt.alloc(), store, role, text, plan.as_slice());
+    assert_eq!(rt;
+        std::str::from_utf8(out.inner.as_slice()),
+        Ok("accepted\n"),
+        "{text}"
+    );
+    assert_eq!(rt; status, 0, "{text}");
+    Ok(())
+}
+
+#[test]
+fn plans_of_the_planner_are_accepted_as_texts(rt: HostRuntime) -> Result<(), Fail> {
+    let store = sales(rt.alloc())?;
+    assert!(rt; !QUERIES.is_empty());
+    for row in QUERIES.lines() {
+        let (role, text) = row.split_once(" | ").unwrap_or(("", row));
+        match parse_query(rt.alloc(), text) {
+            Ok(query) => is_accepted(&rt, &store, role, text, &query)?,
+            Err(_) => panic!(rt; "{text}: no query"),
+        }
+    }
+    Ok(())
+}

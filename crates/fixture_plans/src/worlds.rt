@@ -1,0 +1,99 @@
+//! The tables of a world, their indexes, and the run of codes over them.
+
+ghost use Rattle.std.specs.Prelude.{◌≡◌, [], ℕ, IfOk, List, Some, length, map, slice_get, slice_index_or};
+ghost use Rattle.fixture_plans.specs.Worlds.{AreOf};
+ghost use Rattle.tuples.specs.View.{guard_of};
+
+use executor::run;
+use expr::{BoundQuery, Code, ColumnId};
+use indexes::{IndexRows, indexes_of};
+use memory::Items;
+use std::alloc::{AllocError, Global};
+use tables::Table;
+use trailcheck::{Setting, is_admissible};
+use tuples::{Combo, Guard, GuardedTable, Work, World};
+
+/// Each table with its guard.
+pub fn tables_of<'w>(
+    alloc: Global,
+    rows: &'w [&'w Table<Global>],
+    frame: &'w [Guard<Global>],
+) -> Result<Vec<GuardedTable<'w, Global>, Global>, AllocError>
+    ensures { IfOk result (λ tables. map (λ t. guard_of t.guard.now) tables.items ≡ map guard_of frame.now) }
+{
+    let mut tables = Vec::new(alloc);
+    for (entry, guard) in frame.iter().enumerate() {
+        let Some(rows) = rows.get(entry) else {
+            return Err(AllocError);
+        };
+        tables.push(GuardedTable { rows, guard })?;
+    }
+    Ok(tables)
+}
+
+// Of each table its indexes on these columns.
+fn indexes_of_tables(
+    alloc: Global,
+    tables: &[GuardedTable<'_, Global>],
+    indexed: &[Items<u64, Global>],
+) -> Result<Items<Items<IndexRows<Global>, Global>, Global>, AllocError>
+    ensures long { IfOk result (λ all. length all ≡ length indexed.now) }
+    ensures each { IfOk result (λ all. (entry : ℕ) (columns : List ℕ) → slice_get indexed.now entry ≡ Some columns → AreOf tables.now entry columns (slice_index_or all entry [])) }
+{
+    let mut all = Items::new(alloc);
+    for (entry, columns) in indexed.iter().enumerate() {
+        let Some(table) = tables.get(entry) else {
+            return Err(AllocError);
+        };
+        all.push(indexes_of(alloc, table.rows, columns.as_slice())?)?;
+    }
+    Ok(all)
+}
+
+// The indexes, lent.
+fn lent(
+    alloc: Global,
+    indexes: &[Items<IndexRows<Global>, Global>],
+) -> Result<Vec<&[IndexRows<Global>], Global>, AllocError>
+    ensures { IfOk result (λ lent. map (λ xs. xs.now) lent.items ≡ indexes.now) }
+{
+    let mut all = Vec::new(alloc);
+    for these in indexes {
+        all.push(these.as_slice())?;
+    }
+    Ok(all)
+}
+
+/// A query without items and conditions, for a run, which reads nothing of it.
+pub fn no_query(alloc: Global) -> BoundQuery<Global> {
+    BoundQuery {
+        items: Items::new(alloc),
+        ons: Items::new(alloc),
+        filter: None,
+        group_by: Items::new(alloc),
+        having: None,
+        is_grouped: false,
+        order_by: Items::new(alloc),
+        limit: None,
+    }
+}
+
+/// The combinations that the run of a code gives, with indexes that are made for it; none where no plan may have the code.
+pub fn run_over(
+    alloc: Global,
+    world: &World<'_, Global>,
+    setting: &Setting<Global>,
+    code: &Code<Global>,
+    wanted: Option<ColumnId>,
+    work: &mut Work,
+) -> Result<Option<Items<Combo<Global>, Global>>, AllocError>
+    requires { map guard_of setting.now.frame ≡ map (λ t. guard_of t.guard.now) world.now.tables.now }
+{
+    let indexes = indexes_of_tables(alloc, world.tables, setting.indexed.as_slice())?;
+    let lent = lent(alloc, indexes.as_slice())?;
+    if !is_admissible(alloc, setting, code)? {
+        return Ok(None);
+    }
+    let combinations = run(alloc, world, setting, &lent, code, wanted, work)?;
+    Ok(Some(combinations))
+}

@@ -1,6 +1,0 @@
-use Rattle.std.proofs.Common.{◌≡◌, map, take}
-use Rattle.tuples.specs.View.{guard_of}
-use Rattle.fixture_runs.proofs.worlds.tables_of.Given as goal
-
-abbrev pub invariant-loop-entry : goal.invariant-loop-entry
-invariant-loop-entry l = map (λ t. guard_of t.guard.now) l.tables.items ≡ map guard_of (take l.entry l.frame)

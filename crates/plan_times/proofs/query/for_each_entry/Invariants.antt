@@ -1,8 +1,0 @@
-use Rattle.std.proofs.Common.{◌≡◌, ◌≤◌, length}
-use Rattle.plan_times.proofs.query.for_each_entry.Given as goal
-
-abbrev pub invariant-loop : goal.invariant-loop
-invariant-loop l = record {
-  each : length l.all.items ≡ l.counter;
-  within : l.counter ≤ l.entries;
-}

@@ -1,0 +1,39 @@
+//! The parts of the engine whose work is timed.
+
+use crate::asking::asked_line;
+use crate::join_run::run_line;
+use crate::search::search_line;
+use crate::stop::Stop;
+use std::alloc::Global;
+
+/// A part of the engine.
+#[derive(Clone, Copy, Debug, PartialEq, Eq)]
+pub(crate) enum Part {
+    /// The search for the least code of a query.
+    Plan,
+    /// The run of one code over two tables.
+    Run,
+    /// Queries of a store, or their plans.
+    Ask,
+}
+
+impl Part {
+    /// The part of that name, if there is one.
+    pub fn named(name: &str) -> Option<Part> {
+        match name {
+            "plan" => Some(Part::Plan),
+            "run" => Some(Part::Run),
+            "ask" => Some(Part::Ask),
+            _ => None,
+        }
+    }
+
+    /// Does the work that the words say, and returns a line with numbers of what came of it.
+    pub fn work(self, alloc: Global, words: &[String]) -> Result<String, Stop> {
+        match self {
+            Part::Plan => search_line(alloc, words),
+            Part::Run => run_line(alloc, words),
+            Part::Ask => asked_line(alloc, words),
+        }
+    }
+}

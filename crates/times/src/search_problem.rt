@@ -1,0 +1,133 @@
+//! The problem of the search: what it reads of a query.
+//!
+//! Each table has 1,000 rows and nine columns, an id and one for each table; each column has the numbers from 1 to 1,000, and the
+//! id has an index. A condition joins an entry's column for another table to the id of that table.
+
+ghost use Rattle.std.specs.Prelude.{◌≡◌, ◌≤◌, IfOk, length};
+
+use crate::shape::Shape;
+use expr::{ColumnId, MovableExpr};
+use memory::Items;
+use predicates::columns_equal;
+use stats::{Bounds, ColumnStats, Stats};
+use std::alloc::{AllocError, Global};
+use trailcheck::Setting;
+use tuples::Guard;
+
+/// The number of rows of each table.
+const ROWS: u64 = 1000;
+
+/// The number of columns of each table.
+const COLUMNS: usize = 9;
+
+// A guard for each entry, which shows every row.
+fn frame(alloc: Global, entries: usize) -> Result<Items<Guard<Global>, Global>, AllocError>
+    ensures { IfOk result (λ frame. length frame ≡ entries) }
+{
+    let mut frame = Items::new(alloc);
+    for _ in 0..entries {
+        frame.push(Guard::All)?;
+    }
+    Ok(frame)
+}
+
+// Of each entry, the id.
+fn indexed(alloc: Global, entries: usize) -> Result<Items<Items<u64, Global>, Global>, AllocError> {
+    let mut indexed = Items::new(alloc);
+    for _ in 0..entries {
+        let mut columns = Items::new(alloc);
+        columns.push(1)?;
+        indexed.push(columns)?;
+    }
+    Ok(indexed)
+}
+
+// Adds the conditions that join earlier entries to an entry.
+fn push_joins(
+    alloc: Global,
+    known: &mut Items<MovableExpr<Global>, Global>,
+    shape: Shape,
+    other: usize,
+) -> Result<(), AllocError>
+    requires { other ≤ 8 }
+{
+    for one in 0..other {
+        if shape.joins(one, other) {
+            let column = ColumnId {
+                entry: one,
+                column: other + 1,
+            };
+            let id = ColumnId {
+                entry: other,
+                column: 0,
+            };
+            known.push(columns_equal(alloc, column, id)?)?;
+        }
+    }
+    Ok(())
+}
+
+// The conditions of a query of a shape.
+fn conditions(
+    alloc: Global,
+    shape: Shape,
+    entries: usize,
+) -> Result<Items<MovableExpr<Global>, Global>, AllocError>
+    requires { entries ≤ 8 }
+{
+    let mut conditions = Items::new(alloc);
+    for other in 0..entries {
+        push_joins(alloc, &mut conditions, shape, other)?;
+    }
+    Ok(conditions)
+}
+
+/// What plans of a query of a shape are made from.
+pub(crate) fn setting(
+    alloc: Global,
+    shape: Shape,
+    entries: usize,
+) -> Result<Setting<Global>, AllocError>
+    requires { entries ≤ 8 }
+    ensures { IfOk result (λ s. length s.frame ≡ entries) }
+{
+    Ok(Setting {
+        frame: frame(alloc, entries)?,
+        indexed: indexed(alloc, entries)?,
+        conditions: conditions(alloc, shape, entries)?,
+    })
+}
+
+/// The statistics of each table.
+pub(crate) fn table_stats(alloc: Global) -> Result<Stats<Global>, AllocError> {
+    let bounds = Bounds {
+        least: 1,
+        greatest: 1000,
+    };
+    let mut columns = Items::new(alloc);
+    for _ in 0..COLUMNS {
+        columns.push(ColumnStats {
+            distinct: ROWS,
+            bounds: Some(bounds),
+        })?;
+    }
+    Ok(Stats::Known {
+        rows: ROWS,
+        columns,
+    })
+}
+
+/// The same statistics for each entry.
+pub(crate) fn for_each_entry(
+    alloc: Global,
+    stats: &Stats<Global>,
+    entries: usize,
+) -> Result<Vec<&Stats<Global>>, AllocError>
+    ensures { IfOk result (λ v. length v.items ≡ entries) }
+{
+    let mut all = Vec::new(alloc);
+    for _ in 0..entries {
+        all.push(stats)?;
+    }
+    Ok(all)
+}
