@@ -31,12 +31,12 @@ use Rattle.bound_plans.specs.Named.{named}
 use Rattle.resolve.specs.Resolved.{Bound}
 use Rattle.replies.specs.Reply.{Reply, no_memory}
 use Rattle.replies.specs.ReplyText.{reply_text}
+use Rattle.replies.proofs.Statuses.{only_no_memory}
 use Rattle.analysis.specs.Analysis.{admitted}
 use Rattle.store.specs.Database.{Database}
 use Rattle.engine.specs.Explained.{KnowsSame, best_text, explained, explained_query, explained_status, explained_text, known, plan_with, problem, sort_column, text_if_found}
 use Rattle.engine.specs.Known.{known_behind, known_statistics, statistics_in}
 use Rattle.engine.specs.Settings.{setting}
-use Rattle.engine.proofs.Statuses.{only_no_memory}
 
 -- the statistics gathered by entries and guards are those known of each entry's table
 pub known_of_each : (cat : Catalog) (role : Name) (database : Database) (es : List Entry) → known_statistics database es (frame cat role es) ≡ map (λ e. known cat role (statistics_in database) e.table) es

@@ -11,8 +11,8 @@ use Rattle.bound_plans.specs.Filters.{are_filters}
 use Rattle.scope.specs.Entry.{Entry}
 use Rattle.replies.specs.Reply.{no_memory}
 use Rattle.replies.specs.ReplyText.{reply_text}
+use Rattle.replies.proofs.Statuses.{only_no_memory}
 use Rattle.engine.specs.Audits.{Audit, Replied, Unreadable, Judged, audit_status, audit_text, judged}
-use Rattle.engine.proofs.Statuses.{only_no_memory}
 
 pub judged_is : (at : Setting) (x : Term) (es : List Entry) (p : Plan) (b : Bool) (v : Verdict) → b ≡ are_filters es p.filters at.conditions → b ≡ true → v ≡ verdict at x p.trail p.code → v ≡ judged at x es p
 judged_is at x es p b v is holds h =

@@ -1,4 +1,5 @@
 pub mod Admitted
+pub mod Due
 pub mod ExplainedTexts
 pub mod Few
 pub mod FewConjuncts
@@ -8,7 +9,6 @@ pub mod Judging
 pub mod Planned
 pub mod Readable
 pub mod Statistics
-pub mod Statuses
 pub mod Steps
 pub mod Tables
 pub mod Texts

@@ -1,7 +1,6 @@
 //! Explaining: the text of the plan by which a query is answered.
 
-ghost use Rattle.std.specs.Prelude.{◌≡◌, ◌≢◌, ◌⊎◌, ◌<◌, ◌≤◌, ℕ, List, IfOk, length, map, option_map, true};
-ghost use Rattle.std.specs.Io.KnownBytes.{Appends};
+ghost use Rattle.std.specs.Prelude.{◌≡◌, ◌≢◌, ◌<◌, ◌≤◌, ℕ, List, IfOk, length, map, option_map, true};
 ghost use Rattle.value.specs.Names.{Name};
 ghost use Rattle.row_ast.specs.View.{expr_of, query_of};
 ghost use Rattle.expr.specs.Conjuncts.{movable_conjuncts};
@@ -17,7 +16,7 @@ ghost use Rattle.bound_plans.specs.Named.{named};
 ghost use Rattle.resolve.specs.EntryTables.{AreTables};
 ghost use Rattle.resolve.specs.View.{bound_of};
 ghost use Rattle.syntax.specs.Limits.{within_limits};
-ghost use Rattle.output.specs.Taken.{Begins, one_more};
+ghost use Rattle.output.specs.Sent.{IsSent};
 ghost use Rattle.replies.specs.Reply.{no_memory, reply_status};
 ghost use Rattle.replies.specs.ReplyText.{reply_text};
 ghost use Rattle.replies.specs.View.{reply_of};
@@ -171,28 +170,6 @@ fn explained<A: Heap>(
     }
 }
 
-// Writes what explains a role's text, or one line where memory runs out.
-fn write_explained<A: Heap, W: Out>(
-    alloc: A,
-    store: &Store<A>,
-    role: &str,
-    text: &str,
-    out: &mut W,
-) -> u8
-    ensures answered { result ≢ 7 → result ≢ 8 → IsExplained (W.taken out.old) (W.taken out.new) result (explained store.now.catalog (known store.now.catalog role.now (statistics_in store.now)) role.now text.now) }
-    ensures memory { result ≡ 7 → Appends (W.taken out.old) (W.taken out.new) (reply_text no_memory) }
-    ensures failed { result ≡ 8 → W.failures out.new ≡ one_more (W.failures out.old) }
-    ensures fine { result ≢ 8 → W.failures out.new ≡ W.failures out.old }
-    ensures beginning { result ≡ 8 →
-        Begins (W.taken out.old) (W.taken out.new) (explained_text (explained store.now.catalog (known store.now.catalog role.now (statistics_in store.now)) role.now text.now))
-        ⊎ Begins (W.taken out.old) (W.taken out.new) (reply_text no_memory) }
-{
-    match explained(alloc, store, role, text) {
-        Ok((bytes, status)) => send(out, &bytes, status),
-        Err(_) => send(out, b"refused 53200\n".as_slice(), 7),
-    }
-}
-
 /// Writes the text of the plan by which a role's query is answered (PostgreSQL: EXPLAIN), and gives its status: 0 a plan,
 /// with its estimated cost in steps of work, the planning list, the code, a last sort and the trail that `verify` accepts; else the
 /// refusal or denial of the text with its status, as `serve`; 7 out of memory, 8 a writer that failed. No row is read: of the
@@ -205,21 +182,17 @@ pub fn explain<A: Heap, W: Out>(
     text: &str,
     out: &mut W,
 ) -> u8
-    // The whole text of the plan, of the refusal or of the denial, and its status.
-    ensures answered { result ≢ 7 → result ≢ 8 → IsExplained (W.taken out.old) (W.taken out.new) result (explained store.now.catalog (known store.now.catalog role.now (statistics_in store.now)) role.now text.now) }
-    // Memory ran out: one line, and nothing of the text.
-    ensures memory { result ≡ 7 → Appends (W.taken out.old) (W.taken out.new) (reply_text no_memory) }
-    // The writer failed in this call, and a beginning of either went out.
-    ensures failed { result ≡ 8 → W.failures out.new ≡ one_more (W.failures out.old) }
-    ensures fine { result ≢ 8 → W.failures out.new ≡ W.failures out.old }
-    ensures beginning { result ≡ 8 →
-        Begins (W.taken out.old) (W.taken out.new) (explained_text (explained store.now.catalog (known store.now.catalog role.now (statistics_in store.now)) role.now text.now))
-        ⊎ Begins (W.taken out.old) (W.taken out.new) (reply_text no_memory) }
+    // The whole text of the plan, of the refusal or of the denial, and its status; or memory ran out, or the writer failed.
+    ensures sent { let due = explained store.now.catalog (known store.now.catalog role.now (statistics_in store.now)) role.now text.now in
+        IsSent (W.taken out.old) (W.taken out.new) (W.failures out.old) (W.failures out.new) result (explained_status due) (explained_text due) (reply_text no_memory) }
     // A database whose tables of which the role sees every row have the same statistics makes no difference.
     ensures hidden { (other : Database) → KnowsSame store.now.catalog role.now text.now (statistics_in store.now) (statistics_in other) → result ≢ 7 → result ≢ 8 →
         IsExplained (W.taken out.old) (W.taken out.new) result (explained store.now.catalog (known store.now.catalog role.now (statistics_in other)) role.now text.now) }
 {
-    write_explained(alloc, store, role, text, out)
+    match explained(alloc, store, role, text) {
+        Ok((bytes, status)) => send(out, &bytes, status),
+        Err(_) => send(out, b"refused 53200\n".as_slice(), 7),
+    }
 }
 
 /// What explains a text is the same whatever rows are hidden from the role: two databases that have the same statistics of each

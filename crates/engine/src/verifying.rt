@@ -1,14 +1,12 @@
 //! Verifying the plans of another planner.
 
-ghost use Rattle.std.specs.Prelude.{◌≡◌, ◌≢◌, ◌⊎◌, ◌<◌, ◌++◌, IfOk, OnOk, codes};
+ghost use Rattle.std.specs.Prelude.{◌≡◌, ◌<◌, ◌++◌, IfOk, OnOk, codes};
 ghost use Rattle.std.specs.Fmt.{decimal};
-ghost use Rattle.std.specs.Io.KnownBytes.{Appends};
-ghost use Rattle.output.specs.Taken.{Begins, one_more};
+ghost use Rattle.output.specs.Sent.{IsSent};
 ghost use Rattle.replies.specs.Reply.{no_memory};
 ghost use Rattle.replies.specs.ReplyText.{reply_text};
 ghost use Rattle.engine.specs.Audits as spec;
-ghost use Rattle.engine.specs.Audits.{audit, audit_text};
-ghost use Rattle.engine.specs.Serving.{IsAudited};
+ghost use Rattle.engine.specs.Audits.{audit, audit_status, audit_text};
 ghost use Rattle.engine.specs.View.{audit_of};
 
 use crate::auditing::{Audit, audit_plan};
@@ -120,16 +118,9 @@ pub fn verify<A: Heap, W: Out>(
     plan: &[u8],
     out: &mut W,
 ) -> u8
-    // The whole text of the audit, and its status.
-    ensures answered { result ≢ 7 → result ≢ 8 → IsAudited (W.taken out.old) (W.taken out.new) result (audit catalog.now role.now text.now plan.now) }
-    // Memory ran out: one line, and nothing of the audit.
-    ensures memory { result ≡ 7 → Appends (W.taken out.old) (W.taken out.new) (reply_text no_memory) }
-    // The writer failed in this call, and a beginning of either went out.
-    ensures failed { result ≡ 8 → W.failures out.new ≡ one_more (W.failures out.old) }
-    ensures fine { result ≢ 8 → W.failures out.new ≡ W.failures out.old }
-    ensures beginning { result ≡ 8 →
-        Begins (W.taken out.old) (W.taken out.new) (audit_text (audit catalog.now role.now text.now plan.now))
-        ⊎ Begins (W.taken out.old) (W.taken out.new) (reply_text no_memory) }
+    // The whole text of the audit, and its status; or memory ran out, or the writer failed.
+    ensures sent { let due = audit catalog.now role.now text.now plan.now in
+        IsSent (W.taken out.old) (W.taken out.new) (W.failures out.old) (W.failures out.new) result (audit_status due) (audit_text due) (reply_text no_memory) }
 {
     match audited(alloc, catalog, role, text, plan) {
         Ok((bytes, status)) => send(out, &bytes, status),

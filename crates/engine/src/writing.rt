@@ -1,11 +1,10 @@
 //! Writing the reply.
 
-ghost use Rattle.std.specs.Prelude.{◌≡◌, ◌≢◌, ◌⊎◌, ℕ, List};
-ghost use Rattle.std.specs.Io.KnownBytes.{Appends};
-ghost use Rattle.output.specs.Taken.{Begins, one_more};
+ghost use Rattle.std.specs.Prelude.{◌≡◌, ◌≢◌, ℕ, List};
+ghost use Rattle.output.specs.Sent.{IsSent};
 ghost use Rattle.value.specs.Names.{Name};
 ghost use Rattle.catalog.specs.Catalog.{Catalog};
-ghost use Rattle.replies.specs.Reply.{no_memory};
+ghost use Rattle.replies.specs.Reply.{no_memory, reply_status};
 ghost use Rattle.replies.specs.ReplyText.{reply_text};
 ghost use Rattle.store.specs.Database.{Rows, rows_of};
 ghost use Rattle.engine.specs.Answer.{reply_to};
@@ -19,44 +18,13 @@ use output::{Out, send};
 use replies::{reply_status, reply_text};
 use store::Store;
 
-// Writes the reply to a role's text, or one line where memory runs out.
-fn write_reply<A: Heap, W: Out>(
-    alloc: A,
-    store: &Store<A>,
-    role: &str,
-    text: &str,
-    out: &mut W,
-) -> u8
-    ensures answered { result ≢ 7 → result ≢ 8 → IsWhole (W.taken out.old) (W.taken out.new) result (reply_to store.now.catalog (rows_of store.now) role.now text.now) }
-    ensures memory { result ≡ 7 → Appends (W.taken out.old) (W.taken out.new) (reply_text no_memory) }
-    ensures failed { result ≡ 8 → W.failures out.new ≡ one_more (W.failures out.old) }
-    ensures fine { result ≢ 8 → W.failures out.new ≡ W.failures out.old }
-    ensures beginning { result ≡ 8 →
-        Begins (W.taken out.old) (W.taken out.new) (reply_text (reply_to store.now.catalog (rows_of store.now) role.now text.now))
-        ⊎ Begins (W.taken out.old) (W.taken out.new) (reply_text no_memory) }
-{
-    let reply = ask(alloc, store, role, text);
-    let status = reply_status(&reply);
-    match reply_text(alloc, &reply) {
-        Ok(bytes) => send(out, &bytes, status),
-        Err(_) => send(out, b"refused 53200\n".as_slice(), 7),
-    }
-}
-
 /// Writes the reply to a role's text, and gives its status: 0 rows, 3 a refused text, 4 a denial, 5 a fault, 6 an unknown
 /// role, 7 out of memory, 8 a writer that failed. Nothing is written before the reply is whole, and the writer is not flushed.
 /// `serve(alloc, &store, "root", "SELECT nosuch FROM t", &mut out)` writes `refused 42703 at 7` and gives 3.
 pub fn serve<A: Heap, W: Out>(alloc: A, store: &Store<A>, role: &str, text: &str, out: &mut W) -> u8
-    // The whole reply, and its status.
-    ensures answered { result ≢ 7 → result ≢ 8 → IsWhole (W.taken out.old) (W.taken out.new) result (reply_to store.now.catalog (rows_of store.now) role.now text.now) }
-    // Memory ran out: one line, and nothing of the reply.
-    ensures memory { result ≡ 7 → Appends (W.taken out.old) (W.taken out.new) (reply_text no_memory) }
-    // The writer failed in this call, and a beginning of either went out.
-    ensures failed { result ≡ 8 → W.failures out.new ≡ one_more (W.failures out.old) }
-    ensures fine { result ≢ 8 → W.failures out.new ≡ W.failures out.old }
-    ensures beginning { result ≡ 8 →
-        Begins (W.taken out.old) (W.taken out.new) (reply_text (reply_to store.now.catalog (rows_of store.now) role.now text.now))
-        ⊎ Begins (W.taken out.old) (W.taken out.new) (reply_text no_memory) }
+    // The whole reply, and its status; or memory ran out, or the writer failed.
+    ensures sent { let due = reply_to store.now.catalog (rows_of store.now) role.now text.now in
+        IsSent (W.taken out.old) (W.taken out.new) (W.failures out.old) (W.failures out.new) result (reply_status due) (reply_text due) (reply_text no_memory) }
     // Rows that the role does not see make no difference.
     ensures hidden { (other : Rows) → SeesSame store.now.catalog role.now text.now (rows_of store.now) other → result ≢ 7 → result ≢ 8 →
         IsWhole (W.taken out.old) (W.taken out.new) result (reply_to store.now.catalog other role.now text.now) }
@@ -64,7 +32,12 @@ pub fn serve<A: Heap, W: Out>(alloc: A, store: &Store<A>, role: &str, text: &str
     ensures ungranted { (other : Rows) → ReadsSame store.now.catalog role.now (rows_of store.now) other → result ≢ 7 → result ≢ 8 →
         IsWhole (W.taken out.old) (W.taken out.new) result (reply_to store.now.catalog other role.now text.now) }
 {
-    write_reply(alloc, store, role, text, out)
+    let reply = ask(alloc, store, role, text);
+    let status = reply_status(&reply);
+    match reply_text(alloc, &reply) {
+        Ok(bytes) => send(out, &bytes, status),
+        Err(_) => send(out, b"refused 53200\n".as_slice(), 7),
+    }
 }
 
 /// Rows that a role does not see make no difference to its replies: two contents whose rows that it sees, entry by entry and

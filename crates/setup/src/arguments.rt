@@ -1,13 +1,10 @@
 //! The arguments of a query, and its reply.
 
-ghost use Rattle.std.specs.Prelude.{◌≡◌, ◌≢◌, ◌⊎◌};
-ghost use Rattle.std.specs.Io.KnownBytes.{Appends};
-ghost use Rattle.output.specs.Taken.{Begins, one_more};
-ghost use Rattle.replies.specs.Reply.{no_memory};
+ghost use Rattle.output.specs.Sent.{IsSent};
+ghost use Rattle.replies.specs.Reply.{no_memory, reply_status};
 ghost use Rattle.replies.specs.ReplyText.{reply_text};
 ghost use Rattle.store.specs.Database.{rows_of};
 ghost use Rattle.engine.specs.Answer.{reply_to};
-ghost use Rattle.engine.specs.Serving.{IsWhole};
 
 use engine::serve;
 use memory::Heap;
@@ -34,16 +31,9 @@ pub fn reply<A: Heap, W: Out>(
     arguments: &Arguments<'_>,
     out: &mut W,
 ) -> u8
-    // The whole reply, and its status.
-    ensures answered { result ≢ 7 → result ≢ 8 → IsWhole (W.taken out.old) (W.taken out.new) result (reply_to store.now.catalog (rows_of store.now) arguments.now.role.now arguments.now.text.now) }
-    // Memory ran out: one line, and nothing of the reply.
-    ensures memory { result ≡ 7 → Appends (W.taken out.old) (W.taken out.new) (reply_text no_memory) }
-    // The writer failed in this call, and a beginning of either went out.
-    ensures failed { result ≡ 8 → W.failures out.new ≡ one_more (W.failures out.old) }
-    ensures fine { result ≢ 8 → W.failures out.new ≡ W.failures out.old }
-    ensures beginning { result ≡ 8 →
-        Begins (W.taken out.old) (W.taken out.new) (reply_text (reply_to store.now.catalog (rows_of store.now) arguments.now.role.now arguments.now.text.now))
-        ⊎ Begins (W.taken out.old) (W.taken out.new) (reply_text no_memory) }
+    // The whole reply, and its status; or memory ran out, or the writer failed.
+    ensures sent { let due = reply_to store.now.catalog (rows_of store.now) arguments.now.role.now arguments.now.text.now in
+        IsSent (W.taken out.old) (W.taken out.new) (W.failures out.old) (W.failures out.new) result (reply_status due) (reply_text due) (reply_text no_memory) }
 {
     serve(alloc, store, arguments.role, arguments.text, out)
 }

@@ -1,11 +1,11 @@
 //! The reply to the arguments of a query, its rows as a table.
 
-ghost use Rattle.std.specs.Prelude.{◌≡◌, ◌≢◌, ◌⊎◌};
-ghost use Rattle.output.specs.Taken.{one_more};
-ghost use Rattle.replies.specs.Reply.{no_memory};
+ghost use Rattle.output.specs.Sent.{IsSent};
+ghost use Rattle.replies.specs.Reply.{no_memory, reply_status};
+ghost use Rattle.replies.specs.ReplyText.{reply_text};
+ghost use Rattle.tabular.specs.ReplyTables.{reply_table};
 ghost use Rattle.store.specs.Database.{rows_of};
 ghost use Rattle.engine.specs.Answer.{reply_to};
-ghost use Rattle.tabular.specs.Writing.{BeginsTable, IsTable};
 
 use crate::arguments::Arguments;
 use engine::ask;
@@ -22,16 +22,9 @@ pub fn reply_table<A: Heap, W: Out>(
     arguments: &Arguments<'_>,
     out: &mut W,
 ) -> u8
-    // The whole reply, or the line of out of memory, and its status.
-    ensures written { result ≢ 8 →
-        IsTable (W.taken out.old) (W.taken out.new) result (reply_to store.now.catalog (rows_of store.now) arguments.now.role.now arguments.now.text.now)
-        ⊎ IsTable (W.taken out.old) (W.taken out.new) result no_memory }
-    // The writer failed in this call, and a beginning of either went out.
-    ensures failed { result ≡ 8 → W.failures out.new ≡ one_more (W.failures out.old) }
-    ensures fine { result ≢ 8 → W.failures out.new ≡ W.failures out.old }
-    ensures beginning { result ≡ 8 →
-        BeginsTable (W.taken out.old) (W.taken out.new) (reply_to store.now.catalog (rows_of store.now) arguments.now.role.now arguments.now.text.now)
-        ⊎ BeginsTable (W.taken out.old) (W.taken out.new) no_memory }
+    // The whole reply, and its status; or memory ran out, or the writer failed.
+    ensures sent { let due = reply_to store.now.catalog (rows_of store.now) arguments.now.role.now arguments.now.text.now in
+        IsSent (W.taken out.old) (W.taken out.new) (W.failures out.old) (W.failures out.new) result (reply_status due) (reply_table due) (reply_text no_memory) }
 {
     let reply = ask(alloc, store, arguments.role, arguments.text);
     write_table(alloc, &reply, out)

@@ -1,4 +1,3 @@
-pub mod Due
 pub mod ShownChars
 pub mod Sides
 pub mod Times

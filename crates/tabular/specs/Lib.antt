@@ -1,4 +1,3 @@
 pub mod Cells
 pub mod ReplyTables
 pub mod Tables
-pub mod Writing

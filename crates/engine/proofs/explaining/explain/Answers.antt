@@ -1,11 +1,28 @@
-use Rattle.std.proofs.Common.{subst}
+use Rattle.std.proofs.Common.{◌∙◌, refl, subst}
+use Rattle.output.proofs.Sending.{line_sent, text_sent}
 use Rattle.engine.specs.Known.{statistics_in}
 use Rattle.engine.specs.Serving.{IsExplained}
-use Rattle.engine.proofs.ExplainedTexts.{same_explained}
+use Rattle.engine.proofs.ExplainedTexts.{only_memory, same_explained}
 use Rattle.engine.proofs.explaining.explain.Goals as goal
 
-pub returns-clause-hidden : goal.returns-clause-hidden
-returns-clause-hidden g c = λ other same no_memory no_failure.
-    subst (IsExplained (g.W.Out.taken c.args.out.now) (g.W.Out.taken c.write_explained.new.out) c.write_explained.result)
+pub returns-in-Ok-clause-sent : goal.returns-in-Ok-clause-sent
+returns-in-Ok-clause-sent g c =
+    let s = c.send.ensures in
+    text_sent s.whole s.failed s.fine s.beginning (c.deref.ensures.value ∙ c.in-Ok.ensures.0) c.in-Ok.ensures.1 (only_memory _)
+
+pub returns-in-Ok-clause-hidden : goal.returns-in-Ok-clause-hidden
+returns-in-Ok-clause-hidden g c = λ other same enough good.
+    subst (IsExplained (g.W.Out.taken c.args.out.now) (g.W.Out.taken c.send.new.out) c.send.result)
     (same_explained c.args.store.now.catalog c.args.role.now c.args.text.now (statistics_in c.args.store.now) (statistics_in other) same)
-    (c.write_explained.ensures.answered no_memory no_failure)
+    ((returns-in-Ok-clause-sent g c).answered enough good)
+
+pub returns-in-Err-clause-sent : goal.returns-in-Err-clause-sent
+returns-in-Err-clause-sent g c =
+    let s = c.send-in-Err.ensures in
+    line_sent s.whole s.failed s.fine s.beginning c.as_slice.ensures refl
+
+pub returns-in-Err-clause-hidden : goal.returns-in-Err-clause-hidden
+returns-in-Err-clause-hidden g c = λ other same enough good.
+    subst (IsExplained (g.W.Out.taken c.args.out.now) (g.W.Out.taken c.send-in-Err.new.out) c.send-in-Err.result)
+    (same_explained c.args.store.now.catalog c.args.role.now c.args.text.now (statistics_in c.args.store.now) (statistics_in other) same)
+    ((returns-in-Err-clause-sent g c).answered enough good)

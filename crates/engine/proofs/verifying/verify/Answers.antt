@@ -1,17 +1,14 @@
-use Rattle.std.proofs.Common.{◌∙◌, inr, sym, subst, arith}
-use Rattle.std.specs.Io.KnownBytes.{Appends}
-use Rattle.engine.specs.Audits.{audit}
+use Rattle.std.proofs.Common.{◌∙◌, refl}
+use Rattle.output.proofs.Sending.{line_sent, text_sent}
 use Rattle.engine.proofs.Judging.{only_memory}
 use Rattle.engine.proofs.verifying.verify.Goals as goal
 
-pub returns-in-Ok-clause-memory : goal.returns-in-Ok-clause-memory
-returns-in-Ok-clause-memory g c = λ is.
-    let sent = c.send.ensures.whole (λ failed. omega (arith, is, failed)) in
-    let due = audit c.args.catalog.now c.args.role.now c.args.text.now c.args.plan.now in
-    subst (Appends (g.W.Out.taken c.args.out.now) (g.W.Out.taken c.send.new.out)) (c.deref.ensures.value ∙ c.in-Ok.ensures.0 ∙ only_memory due (sym c.in-Ok.ensures.1 ∙ sym sent.0 ∙ is)) sent.1
+pub returns-in-Ok-clause-sent : goal.returns-in-Ok-clause-sent
+returns-in-Ok-clause-sent g c =
+    let s = c.send.ensures in
+    text_sent s.whole s.failed s.fine s.beginning (c.deref.ensures.value ∙ c.in-Ok.ensures.0) c.in-Ok.ensures.1 (only_memory _)
 
-pub returns-in-Err-clause-memory : goal.returns-in-Err-clause-memory
-returns-in-Err-clause-memory g c = λ is. rw c.as_slice.ensures at (c.send-in-Err.ensures.whole (λ failed. omega (arith, is, failed))).1
-
-pub returns-in-Err-clause-beginning : goal.returns-in-Err-clause-beginning
-returns-in-Err-clause-beginning g c = λ failed. inr (rw c.as_slice.ensures at (c.send-in-Err.ensures.beginning failed))
+pub returns-in-Err-clause-sent : goal.returns-in-Err-clause-sent
+returns-in-Err-clause-sent g c =
+    let s = c.send-in-Err.ensures in
+    line_sent s.whole s.failed s.fine s.beginning c.as_slice.ensures refl
