@@ -62,10 +62,7 @@ fn push_failure<A: Heap>(
 }
 
 // The line of a failure, with LF.
-fn line_of<A: Heap>(
-    alloc: A,
-    failure: &Failure<SetupError<A>>,
-) -> Result<Vec<u8, A>, AllocError>
+fn line_of<A: Heap>(alloc: A, failure: &Failure<SetupError<A>>) -> Result<Vec<u8, A>, AllocError>
     ensures { IfOk result (λ line. line.items ≡ failure_line failure.now ++ 10 ∷ []) }
 {
     let mut line = Vec::new(alloc);
