@@ -21,7 +21,7 @@ use Rattle.trailcheck.specs.Settings.{Setting}
 use Rattle.rewrite.proofs.Distinct.{among_more}
 use Rattle.trailcheck.specs.Shapes.{entry_index}
 use Rattle.joindp.specs.Cost.{Estimates, cost_after, entry_size, factor_held, last_sorting, size, step_cost, step_cost_of}
-use Rattle.joindp.specs.Orders.{Order, is_ordered_by, numbered, order_after, sorting_unless}
+use Rattle.joins.specs.Orders.{Order, is_ordered_by, numbered, order_after, sorting_unless}
 use Rattle.joindp.proofs.OneBit.{or_false}
 
 -- ---- bits
