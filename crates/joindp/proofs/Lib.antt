@@ -14,3 +14,4 @@ pub mod PlacedSets
 pub mod Reached
 pub mod Rows
 pub mod Sized
+pub mod SomeCode
