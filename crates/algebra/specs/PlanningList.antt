@@ -1,6 +1,7 @@
 -- The conditions that a query is planned with.
 use Rattle.std.specs.Prelude.{Bool, false, not, ◌==◌, nat_le, List, [], ◌∷◌, ◌++◌, length, map, Option, Some, None, if◌then◌else◌}
 use Rattle.std.specs.List.{flat_map}
+use Rattle.value.specs.Limits.{most_conjuncts}
 use Rattle.expr.specs.declared.bound.ColumnId.{ColumnId}
 use Rattle.expr.specs.Bound.{BoundExpr, And, one_expr}
 use Rattle.expr.specs.BoundQuery.{BoundQuery}
@@ -9,7 +10,7 @@ use Rattle.predicates.specs.Equalities.{column_sides}
 use Rattle.predicates.specs.Folded.{folded}
 use Rattle.predicates.specs.Inward.{inward}
 use Rattle.predicates.specs.Offsets.{without_offsets}
-use Rattle.algebra.specs.Rules.{constant_of, most_members}
+use Rattle.algebra.specs.Rules.{constant_of}
 use Rattle.algebra.specs.Runs.{stands_in}
 
 -- the movable conjuncts as they are written
@@ -72,7 +73,7 @@ abbrev pub without_repeats : List BoundExpr → List BoundExpr
 without_repeats es = with_others [] es
 
 abbrev pub is_too_long : List BoundExpr → Bool
-is_too_long es = not (nat_le (length es) most_members)
+is_too_long es = not (nat_le (length es) most_conjuncts)
 
 -- the simplified parts with their consequences, none twice; the written conditions where those are too many
 abbrev pub planned : (written simple : List BoundExpr) → List BoundExpr

@@ -1,6 +1,7 @@
 -- The rewrite rules: of each the node that it fits, what takes its place, and on what condition. R is a raw entry, G i a guard,
 -- F e a filter, * a join, E an empty term.
 use Rattle.std.specs.Prelude.{ℕ, zero, suc, Bool, true, false, nat_le, ◌&&◌, ◌||◌, List, length, Option, Some, None, option_map, option_and_then, slice_get, Result, Ok, Err, if◌then◌else◌}
+use Rattle.value.specs.Limits.{most_conjuncts}
 use Rattle.expr.specs.declared.bound.ColumnId.{ColumnId}
 use Rattle.expr.specs.Bound.{BoundExpr, is_column}
 use Rattle.expr.specs.Conjuncts.{conjuncts_of}
@@ -40,12 +41,9 @@ abbrev pub split_filter : Term → Outcome
 split_filter (Filtered e x) = in_two (parted e) x
 split_filter _ = Err Misfit
 
-abbrev pub most_members : ℕ
-most_members = 64
-
 -- F b (F a X) to F (a AND b) X, where the AND has at most 64 members
 abbrev pub merge_filters : Term → Outcome
-merge_filters (Filtered b (Filtered a x)) = where_met (nat_le (length (conjuncts_of (both a b))) most_members) (Filtered (both a b) x)
+merge_filters (Filtered b (Filtered a x)) = where_met (nat_le (length (conjuncts_of (both a b))) most_conjuncts) (Filtered (both a b) x)
 merge_filters _ = Err Misfit
 
 -- F b (F a X) to F a (F b X)

@@ -9,7 +9,6 @@ ghost use Rattle.algebra.specs.PlanningList as spec;
 ghost use Rattle.algebra.specs.Runs.{stands_in};
 
 use crate::equalities::constant_of;
-use crate::two_filters::MOST_MEMBERS;
 use expr::{BoundExpr, BoundQuery, MovableExpr, movable_conjuncts};
 use memory::{Heap, Items, boxed};
 use predicates::{
@@ -17,6 +16,7 @@ use predicates::{
     law_offsets_keep_value,
 };
 use std::alloc::AllocError;
+use value::MOST_CONJUNCTS;
 
 /// Conditions that never fault.
 type Conditions<A> = Items<MovableExpr<A>, A>;
@@ -232,7 +232,7 @@ pub fn without_repeats<A: Heap>(
 pub fn is_too_long<A: Heap>(conditions: &[MovableExpr<A>]) -> bool
     ensures { result ≡ spec.is_too_long conditions.now }
 {
-    conditions.len() > MOST_MEMBERS
+    conditions.len() > MOST_CONJUNCTS
 }
 
 /// The conditions that a query is planned with: its movable conjuncts in simplified form, and then `other = v` for each two

@@ -10,9 +10,7 @@ use crate::step::Reason;
 use memory::{Failure, Heap, boxed};
 use predicates::{both, conjunct_count, parted};
 use row_terms::Term;
-
-/// The most members of an AND, and the most conditions of a planning list.
-pub(crate) const MOST_MEMBERS: usize = 64;
+use value::MOST_CONJUNCTS;
 
 /// `F (a AND rest) X` to `F rest (F a X)`.
 pub(crate) fn split_filter<A: Heap>(alloc: A, term: Term<A>) -> Result<Term<A>, Failure<Reason>>
@@ -53,7 +51,7 @@ pub(crate) fn merge_filters<A: Heap>(alloc: A, term: Term<A>) -> Result<Term<A>,
                 input,
             } => {
                 let condition = both(alloc, lower, upper)?;
-                if conjunct_count(&condition) > MOST_MEMBERS {
+                if conjunct_count(&condition) > MOST_CONJUNCTS {
                     return Err(Failure::Error(Reason::Unmet));
                 }
                 Ok(Term::Filtered { condition, input })

@@ -1,4 +1,3 @@
-pub mod Conditions
 pub mod Counts
 pub mod Grants
 pub mod KeptColumns

@@ -133,19 +133,6 @@ module _ (bs : List Bool) (ws : List ℕ) (mask : IsMaskOf bs ws) where
 
   -- ---- fewer items
 
-  -- up to a whole word
-  pub mask_cut_words : (m : ℕ) → m ≤ length bs → m % 64 ≡ 0 → IsMaskOf (take m bs) (take (m / 64) ws)
-  mask_cut_words m le whole = record {
-    long = length-take-le (m / 64) ws (omega (arith, mask.long)) ∙ omega (arith, length-take-le m bs le);
-    each = λ i.
-        let case : (i < m) ⊎ (m ≤ i) = cases_lt i m in
-        elim case [
-          | inl within ↦ ap (λ y. bit_at y (i % 64)) (get_or-take (m / 64) ws (i / 64) 0 (omega arith)) ∙ mask.each i ∙ sym (ap (λ t. cond t 1 0) (get_or-take m bs i false within))
-          | inr past ↦ ap (λ y. bit_at y (i % 64)) (get_or_past (take (m / 64) ws) (i / 64) 0 (omega (arith, length-take-le (m / 64) ws (omega (arith, mask.long))))) ∙ bit_at-zero (i % 64)
-              ∙ sym (ap (λ t. cond t 1 0) (get_or_past (take m bs) i false (omega (arith, length-take-le m bs le))))
-        ];
-  }
-
   low_bits : (x r i : ℕ) → r < 64 → bit_at (bit_and x (1 * 2 ^ r % 2 ^ 64 - 1)) i ≡ min (bit_at x i) (bit_at (2 ^ r - 1) i)
   low_bits x r i lt =
       let small : 1 * 2 ^ r % 2 ^ 64 ≡ 2 ^ r = omega (arith, pow-lt {i = r} {j = 64} lt) in

@@ -5,7 +5,7 @@ ghost use Rattle.value.specs.Names.{Name};
 ghost use Rattle.row_ast.specs.View.{query_of};
 ghost use Rattle.expr.specs.Conjuncts.{movable_conjuncts};
 ghost use Rattle.expr.specs.View.{bound_items_of};
-ghost use Rattle.rewrite.specs.Laws.{most_conjuncts, most_entries};
+ghost use Rattle.value.specs.Limits.{most_conjuncts, most_entries};
 ghost use Rattle.resolve.specs.EntryTables.{AreTables};
 ghost use Rattle.resolve.specs.View.{bound_of};
 ghost use Rattle.catalog.specs.Catalog.{Catalog};

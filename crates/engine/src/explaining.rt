@@ -9,7 +9,7 @@ ghost use Rattle.scope.specs.View.{entries_of};
 ghost use Rattle.catalog.specs.Catalog.{Catalog};
 ghost use Rattle.stats.specs.Statistics as stats;
 ghost use Rattle.trailcheck.specs.View.{setting_of};
-ghost use Rattle.rewrite.specs.Laws.{most_conjuncts, most_entries};
+ghost use Rattle.value.specs.Limits.{most_conjuncts, most_entries};
 ghost use Rattle.planning.specs.LastSort.{last_sort};
 ghost use Rattle.planning.specs.Plans.{IsPlan};
 ghost use Rattle.plan_texts.specs.View.{plan_of};

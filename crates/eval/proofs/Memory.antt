@@ -52,8 +52,5 @@ pub exits_safe : {X Y : Type 0} (r : Result Y (Failure Fault)) (f : Failure Faul
 exits_safe (Ok x) f is n = absurd is
 exits_safe {X} (Err e) f is n = λ q. n (cc)
 
-pub err_safe : {X Y : Type 0} (f : Failure Fault) → ◌≢◌ {A = Result X (Failure Fault)} (Err f) (Err OutOfMemory) → ◌≢◌ {A = Result Y (Failure Fault)} (Err f) (Err OutOfMemory)
-err_safe f n = λ q. n (cc)
-
 pub ok_safe : {X : Type 0} (x : X) → ◌≢◌ {A = Result X (Failure Fault)} (Ok x) (Err OutOfMemory)
 ok_safe x = λ q. cc (q)

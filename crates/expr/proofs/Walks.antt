@@ -26,9 +26,6 @@ module _ {A : Type 0} (e : BoundExpr A) (offset : ℕ) where
     pub case_some : (b : Box (BoundExpr A) A) → o ≡ Some b → bound_expr_of e ≡ bound.Case offset (bound_arms as_) (bound.Value (bound_expr_of b.value))
     case_some b n = ap bound_expr_of is ∙ ap (λ p. bound_expr_of (Case offset v p)) n ∙ ap (λ x. bound.Case offset x (bound.Value (bound_expr_of b.value))) (bound_arms_hidden v) ∙ ap (λ xs. bound.Case offset (bound_arms xs) (bound.Value (bound_expr_of b.value))) (sym d)
 
-    pub else_is : (b : Box (BoundExpr A) A) → o ≡ Some b → (x : BoundExpr A) → x ≡ b.value → bound_expr_of e ≡ bound.Case offset (bound_arms as_) (bound.Value (bound_expr_of x))
-    else_is b n x q = case_some b n ∙ ap (λ y. bound.Case offset (bound_arms as_) (bound.Value (bound_expr_of y))) (sym q)
-
     pub case_is : bound_expr_of e ≡ bound.Case offset (bound_arms as_) (otherwise_of o)
     case_is = go o refl
       where

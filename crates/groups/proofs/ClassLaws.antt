@@ -176,10 +176,6 @@ pub no_columns : (columns : List ColumnId) → (length columns == 0) ≡ true �
 no_columns [] none = refl
 no_columns (column ∷ columns) none = let zero : length (column ∷ columns) ≡ 0 = eqb-true _ _ none in absurd (omega (arith, zero))
 
-pub some_columns : (columns : List ColumnId) → (length columns == 0) ≡ false → groups_of columns [] ≡ []
-some_columns [] some = absurd (true≢false some)
-some_columns (column ∷ columns) some = refl
-
 pub only_group : (calls : List AggregateCall) (key : Row) (ts : List Total) → key ≡ [] → ts ≡ fresh calls → runs key ts ∷ [] ≡ running_groups calls (all_in_one [] ∷ [])
 only_group calls key ts e f = ap₂ (λ k l. runs k l ∷ []) e (f ∙ sym (fresh_running calls))
 

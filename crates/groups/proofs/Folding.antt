@@ -24,7 +24,7 @@ use Rattle.groups.specs.GroupRow.{group_rows}
 use Rattle.groups.specs.Running.{RunningGroup, finished_rows, put_running, running_groups}
 use Rattle.groups.specs.Taking.{Takes, TakesOutcome, totals_in}
 use Rattle.groups.specs.View.{member_of}
-use Rattle.groups.proofs.ClassLaws.{rows_finished, totals_more}
+use Rattle.groups.proofs.ClassLaws.{totals_more}
 
 -- ---- the outcomes of combinations
 
@@ -32,16 +32,6 @@ module _ {X : Type 0} (cells_of : X → Cells) (role : Name) (columns : List Col
   -- of each its member, or the fault of its arguments
   abbrev pub outcomes : List X → List (Fate Member)
   outcomes xs = map (λ x. gives (member_on (cells_of x) role columns calls)) xs
-
-  -- without GROUP BY keys are empty
-  keys_fit : (xs : List X) → AllByRecursion (λ m. columns ≡ [] → m.key ≡ []) (filter_map given_in (outcomes xs))
-  keys_fit [] = tt
-  keys_fit (x ∷ xs) = go (arguments (cells_of x) role calls) (keys_fit xs)
-    where
-      go : (r : Result Row Fault) → AllByRecursion (λ m. columns ≡ [] → m.key ≡ []) (filter_map given_in (outcomes xs)) →
-          AllByRecursion (λ m. columns ≡ [] → m.key ≡ []) (cons_option (given_in (gives (with_key (key_on (cells_of x) columns) r))) (filter_map given_in (outcomes xs)))
-      go (Ok args) more = ((λ none. ap (key_on (cells_of x)) none), more)
-      go (Err f) more = more
 
 -- ---- the groups from a state on, by further outcomes
 
@@ -74,31 +64,12 @@ module _ (calls : List AggregateCall) where
       folds columns (lesser fault_cmp known (Some f)) ms fates keys
       ∙ ap (λ o. totals_over columns (unless_fault o (ms ++ filter_map given_in fates))) (lesser_assoc fault_cmp fault_total known (Some f) (least fault_cmp (filter_map fault_in fates)))
 
-  -- from the start they are those of the stage of arguments
-  pub fold_start : {X : Type 0} (cells_of : X → Cells) (role : Name) (columns : List ColumnId) (xs : List X) →
-      folding None (running_groups calls (groups_of columns [])) (outcomes cells_of role columns calls xs) ≡ totals_over columns (stage (outcomes cells_of role columns calls xs))
-  fold_start cells_of role columns xs = folds columns None [] (outcomes cells_of role columns calls xs) (keys_fit cells_of role columns calls xs)
-
   one_taken : {A : Type 0} (due : Result Member Fault) (old new : Groups A) (rest : List (Fate Member)) → Takes calls due old new → folding old.stage.least (totals_in old) (gives due ∷ rest) ≡ folding new.stage.least (totals_in new) rest
   one_taken (Ok m) old new rest takes = ap₂ (λ f gs. folding f gs rest) (sym takes.1) (sym takes.0)
   one_taken (Err f) old new rest takes = ap₂ (λ f gs. folding f gs rest) (sym takes.1) (sym takes.0)
-
-  -- one combination later
-  pub fold_next : {A : Type 0} (due : Result Member Fault) (old new : Groups A) (fates rest : List (Fate Member)) (whole : Result (List RunningGroup) Fault) →
-      fates ≡ gives due ∷ rest → Takes calls due old new → folding old.stage.least (totals_in old) fates ≡ whole → folding new.stage.least (totals_in new) rest ≡ whole
-  fold_next due old new fates rest whole first takes so_far = sym (one_taken due old new rest takes) ∙ ap (folding old.stage.least (totals_in old)) (sym first) ∙ so_far
 
   -- what is taken in is what is due
   pub taken : {A : Type 0} (outcome : Result (code.Member A) (Failure Fault)) (due : Result Member Fault) (old new : Groups A) → Gives (λ m. member_of m) outcome due → TakesOutcome calls outcome old new → Takes calls due old new
   taken (Ok m) due old new h takes = subst (λ d. Takes calls d old new) (sym h) takes
   taken (Err (failures.Error f)) due old new h takes = subst (λ d. Takes calls d old new) (sym h) takes
   taken (Err failures.OutOfMemory) due old new h takes = absurd takes
-
-  over_then : (columns : List ColumnId) (r : Result (List Member) Fault) → and_then (totals_over columns r) (finished_rows calls) ≡ and_then r (group_rows columns calls)
-  over_then columns (Ok ms) = rows_finished columns calls ms
-  over_then columns (Err f) = refl
-
-  -- at the end
-  pub fold_end : (columns : List ColumnId) (known : Option Fault) (gs : List RunningGroup) (fates : List (Fate Member)) (r : Result (List Member) Fault) →
-      fates ≡ [] → folding known gs fates ≡ totals_over columns r → and_then (unless_fault known gs) (finished_rows calls) ≡ and_then r (group_rows columns calls)
-  fold_end columns known gs fates r none so_far = ap (λ o. and_then o (finished_rows calls)) (ap (folding known gs) (sym none) ∙ so_far) ∙ over_then columns r

@@ -57,13 +57,6 @@ gives_some view (Ok x) due h = ap gives h
 gives_some view (Err (failures.Error f)) due h = ap gives h
 gives_some view (Err failures.OutOfMemory) due h = tt
 
--- those are given for which a test is true
-pub gives_if_some : {X Y : Type 0} (view : X → Y) (x : X) (test : Result Bool (Failure Fault)) (due : Result Bool Fault) → Gives (λ b. b) test due → Gives (option_map view) (given_if x test) (gives_if (view x) due)
-gives_if_some view x (Ok true) due h = ap (gives_if (view x)) h
-gives_if_some view x (Ok false) due h = ap (gives_if (view x)) h
-gives_if_some view x (Err (failures.Error f)) due h = ap (gives_if (view x)) h
-gives_if_some view x (Err failures.OutOfMemory) due h = tt
-
 over : {X Y : Type 0} → (X → Y) → Result (List X) Fault → Result (List Y) Fault
 over view (Ok xs) = Ok (map view xs)
 over view (Err f) = Err f
@@ -73,14 +66,7 @@ unfolding over
 over_unless view None xs = refl
 over_unless view (Some f) xs = refl
 
-gives_over : {X Y : Type 0} (view : X → Y) (result : Result (List X) (Failure Fault)) (due : Result (List X) Fault) → Gives (λ xs. xs) result due → Gives (map view) result (over view due)
 unfolding over
 gives_over view (Ok xs) due h = ap (over view) h
 gives_over view (Err (failures.Error f)) due h = ap (over view) h
 gives_over view (Err failures.OutOfMemory) due h = tt
-
--- at the end
-pub stage_end : {X Y : Type 0} (view : X → Y) (known : Option Fault) (xs : List X) (result : Result (List X) (Failure Fault)) (fates : List (Fate Y)) (whole : Result (List Y) Fault) →
-    fates ≡ [] → Gives (λ all. all) result (unless_fault known xs) → going_on known (map view xs) fates ≡ whole → Gives (map view) result whole
-stage_end view known xs result fates whole none due so_far =
-    subst (Gives (map view) result) (over_unless view known xs ∙ ap (going_on known (map view xs)) (sym none) ∙ so_far) (gives_over view result (unless_fault known xs) due)

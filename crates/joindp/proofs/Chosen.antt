@@ -38,13 +38,6 @@ no_plan_before : (q r : Plan) → IsNoWorse q r → plan_cmp r.0 (Steps r.1) q.0
 no_plan_before q r (inl a) k = let e : Greater ≡ Less = sym (ap (λ o. ordering_then o (code_cmp (Steps r.1) (Steps q.1))) (greater_cmp q.0 r.0 a)) ∙ k in cc
 no_plan_before q r (inr a) k = not_before (numbers q.1) (numbers r.1) a.1 (sym (ap (λ o. ordering_then o (code_cmp (Steps r.1) (Steps q.1))) (equal_cmp q.0 r.0 a.0)) ∙ k)
 
--- ---- where no row can be read
-
-module _ (p : Problem) (refuted : is_refuted p.setting ≡ true) where
-  pub empty_is_least : IsLeast p 0 Empty
-  empty_is_least Empty h k = cc
-  empty_is_least (Steps ss) h k = both_ways (is_refuted p.setting) (not-true (is_refuted p.setting) (and_left (not (is_refuted p.setting)) _ h)) refuted
-
 -- ---- else
 
 module _ (p : Problem) (few : entry_count p ≤ 12) (open' : is_refuted p.setting ≡ false) where

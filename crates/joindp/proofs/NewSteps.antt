@@ -50,19 +50,3 @@ is_new at entries s h =
 pub same_number : (at : Setting) (number : ℕ) → condition_at at number ≡ numbered at.conditions number
 same_number at zero = refl
 same_number at (suc k) = refl
-
-module _ (p : Problem) (orders : List Order) (has : HasOrders p orders) where
-  of_sides : (entry number : ℕ) (o : Option BoundExpr) → numbered p.setting.conditions number ≡ o → (placed : Entries) → is_some_and (equates_with placed entry) o ≡ true → IsListed orders (merged_order (sides_held entry o))
-  of_sides entry number None e placed h = absurd (true≢false (sym h))
-  of_sides entry number (Some c) e placed h = go (column_sides c) refl h
-    where
-      go : (q : Option (ColumnId × ColumnId)) → column_sides c ≡ q → span placed entry q ≡ true → IsListed orders (merged_order (option_map (facing entry) q))
-      go None f k = absurd (true≢false (sym k))
-      go (Some ids) f k = has.of_merge entry number (facing entry ids).0 (facing entry ids).1 (ap (sides_held entry) e ∙ ap (option_map (facing entry)) f)
-
-  -- the order after a join is listed
-  pub listed_after : (placed : Entries) (entry : ℕ) (order : Order) (m : Method) → IsListed orders order → may_join_by p.setting placed entry m ≡ true → IsListed orders (order_after p.setting.conditions entry order m)
-  listed_after placed entry order Nested listed h = listed
-  listed_after placed entry order (Hash k) listed h = listed
-  listed_after placed entry order (Merge k) listed h =
-      of_sides entry k (numbered p.setting.conditions k) refl placed (sym (ap (is_some_and (equates_with placed entry)) (same_number p.setting k)) ∙ h)

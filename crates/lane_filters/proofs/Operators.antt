@@ -8,52 +8,33 @@ use Rattle.std.proofs.lemmas.Cmp.{int_cmp_total}
 use Rattle.std.proofs.lemmas.List.{length-replicate}
 use Rattle.std.proofs.lemmas.Simd.{zip2_splat, zip2_splat_left}
 use Rattle.value.specs.Datum.{Datum, null, int, text, bool}
+use Rattle.value.specs.Operators.{commutator}
 use Rattle.value.specs.Orders.{of_bool, test_of}
+use Rattle.value.proofs.Operators.{commuted}
 use Rattle.value.specs.declared.order.Truth.{Truth}
 use Rattle.value.specs.declared.operators.Comparison.{Comparison}
 use Rattle.value.specs.declared.operators.Comparison.TheVariants.{Equal, NotEqual, Less, LessOrEqual, Greater, GreaterOrEqual}
 use Rattle.eval.specs.Operators.{comparison_of}
 use Rattle.columns.specs.Comparing.{holds}
 use Rattle.columns.proofs.Truths.{int_order}
-use Rattle.lane_filters.specs.Exchanged.{exchanged}
-
-reversed : (op : Comparison) (x : Ordering) → test_of (exchanged op) x ≡ test_of op (ordering_reverse x)
-reversed Equal o.Less = refl
-reversed Equal o.Equal = refl
-reversed Equal o.Greater = refl
-reversed NotEqual o.Less = refl
-reversed NotEqual o.Equal = refl
-reversed NotEqual o.Greater = refl
-reversed Less o.Less = refl
-reversed Less o.Equal = refl
-reversed Less o.Greater = refl
-reversed LessOrEqual o.Less = refl
-reversed LessOrEqual o.Equal = refl
-reversed LessOrEqual o.Greater = refl
-reversed Greater o.Less = refl
-reversed Greater o.Equal = refl
-reversed Greater o.Greater = refl
-reversed GreaterOrEqual o.Less = refl
-reversed GreaterOrEqual o.Equal = refl
-reversed GreaterOrEqual o.Greater = refl
 
 -- a value on the right
-on_the_right : (op : Comparison) (n : ℤ) (d : Datum) → comparison_of (exchanged op) d (int n) ≡ comparison_of op (int n) d
+on_the_right : (op : Comparison) (n : ℤ) (d : Datum) → comparison_of (commutator op) d (int n) ≡ comparison_of op (int n) d
 on_the_right op n null = refl
 on_the_right op n (int m) =
-    ap (λ x. of_bool (test_of (exchanged op) x)) (int_order m n) ∙ ap of_bool (reversed op (int_cmp m n) ∙ ap (test_of op) (sym (int_cmp_total.antisymm n m) ∙ sym (int_order n m)))
-on_the_right op n (text t) = ap of_bool (reversed op o.Greater)
-on_the_right op n (bool true) = ap of_bool (reversed op o.Less)
-on_the_right op n (bool false) = ap of_bool (reversed op o.Less)
+    ap (λ x. of_bool (test_of (commutator op) x)) (int_order m n) ∙ ap of_bool (commuted op (int_cmp m n) ∙ ap (test_of op) (sym (int_cmp_total.antisymm n m) ∙ sym (int_order n m)))
+on_the_right op n (text t) = ap of_bool (commuted op o.Greater)
+on_the_right op n (bool true) = ap of_bool (commuted op o.Less)
+on_the_right op n (bool false) = ap of_bool (commuted op o.Less)
 
-all_right : (op : Comparison) (n : ℤ) (ds : List Datum) → map (λ d. comparison_of (exchanged op) d (int n)) ds ≡ map (λ d. comparison_of op (int n) d) ds
+all_right : (op : Comparison) (n : ℤ) (ds : List Datum) → map (λ d. comparison_of (commutator op) d (int n)) ds ≡ map (λ d. comparison_of op (int n) d) ds
 all_right op n [] = refl
 all_right op n (d ∷ ds) = λ p. on_the_right op n d p ∷ all_right op n ds p
 
 pub literal_right : (op : Comparison) (rows : ℕ) (n : ℤ) (ds : List Datum) → length ds ≡ rows → map (λ d. comparison_of op d (int n)) ds ≡ zip2 (comparison_of op) ds (replicate rows (int n))
 literal_right op rows n ds e = sym (zip2_splat (comparison_of op) ds rows (int n) e)
 
-pub literal_left : (op : Comparison) (rows : ℕ) (n : ℤ) (ds : List Datum) → length ds ≡ rows → map (λ d. comparison_of (exchanged op) d (int n)) ds ≡ zip2 (comparison_of op) (replicate rows (int n)) ds
+pub literal_left : (op : Comparison) (rows : ℕ) (n : ℤ) (ds : List Datum) → length ds ≡ rows → map (λ d. comparison_of (commutator op) d (int n)) ds ≡ zip2 (comparison_of op) (replicate rows (int n)) ds
 literal_left op rows n ds e = all_right op n ds ∙ sym (zip2_splat_left (comparison_of op) (int n) rows ds e)
 
 same_of_all : (f : Datum → Truth) (rows : ℕ) (d : Datum) → map f (replicate rows d) ≡ replicate rows (f d)

@@ -1,4 +1,3 @@
 pub mod ByLanes
-pub mod Exchanged
 pub mod Outcomes
 pub mod View

@@ -32,22 +32,6 @@ module _ {Y W Z : Type 0} (f : W → List Z) (g : Y → W) (ys : List Y) (k : �
       let e : drop k ys ≡ [] = drop_of_length-le ys l in
       sym (append-nil known) ∙ ap (λ zs. known ++ flat_map f (map g zs)) (sym e) ∙ so_far
 
--- ---- some items of each that is read and its index, made by f
-
-module _ {Y W Z : Type 0} (f : ℕ → W → List Z) (all : ℕ → List W → List Z) (g : Y → W) (ys : List Y) (k : ℕ) (known whole : List Z) (so_far : known ++ all k (map g (drop k ys)) ≡ whole) where
-  pub counted_next : ((n : ℕ) (w : W) (ws : List W) → all n (w ∷ ws) ≡ f n w ++ all (n + 1) ws) → (y : Y) → k < length ys → y ≡ get_or ys k y → (new : List Z) → new ≡ known ++ f k (g y)
-      → new ++ all (k + 1) (map g (drop (k + 1) ys)) ≡ whole
-  counted_next law y more is new n =
-      let e : k + 1 ≡ suc k = omega arith in
-      let d : map g (drop k ys) ≡ g y ∷ map g (drop (k + 1) ys) = rw (e, drop-cons ys k y more, ← is) refl in
-      let s : all k (map g (drop k ys)) ≡ f k (g y) ++ all (k + 1) (map g (drop (k + 1) ys)) = ap (all k) d ∙ law k (g y) (map g (drop (k + 1) ys)) in
-      rw n (append_assoc known (f k (g y)) (all (k + 1) (map g (drop (k + 1) ys))) ∙ ap (λ zs. known ++ zs) (sym s) ∙ so_far)
-
-  pub counted_over : ((n : ℕ) → all n [] ≡ []) → length ys ≤ k → known ≡ whole
-  counted_over law l =
-      let e : drop k ys ≡ [] = drop_of_length-le ys l in
-      sym (append-nil known) ∙ ap (λ zs. known ++ zs) (sym (law k)) ∙ ap (λ zs. known ++ all k (map g zs)) (sym e) ∙ so_far
-
 -- one item more, as it is viewed
 pub pushed : {X Z : Type 0} (v : X → Z) (old new : List X) (x : X) (z : Z) → new ≡ old ++ x ∷ [] → v x ≡ z → map v new ≡ map v old ++ z ∷ []
 pushed v old new x z n e = rw (n, map-append, e) refl

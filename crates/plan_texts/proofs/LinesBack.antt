@@ -210,10 +210,6 @@ module _ (entries : List PlanEntry) where
       ∙ rw (digit_is d 102 e refl, split_at blank (d ∷ ds) 32 more l refl)
       (rw (digit_is d 99 e refl, digit_is d 102 e refl, digit_is d 110 e refl, digit_is d 104 e refl, digit_is d 109 e refl, digit_is d 115 e refl) refl))
 
-  -- the path and the arguments
-  step_rest : (s : Step) → List ℕ
-  step_rest s = path_text s.path ++ flat_map argument_text s.arguments
-
   step_words : (s : Step) → IsStep s → step_at ((decimal s.rule ++ sign_of s.is_reverse) ∷ slice_split blank (path_text s.path ++ flat_map argument_text s.arguments)) ≡ Some s
   step_words s is =
       ap (λ ps. step_at ((decimal s.rule ++ sign_of s.is_reverse) ∷ ps)) (args_cut (path_text s.path) (path_text_lacks s.path) s.arguments is.arguments)

@@ -7,7 +7,7 @@ ghost use Rattle.stats.specs.View.{stats_of};
 ghost use Rattle.algebra.specs.PlanningList.{planning_list};
 ghost use Rattle.algebra.specs.View.{step_of};
 ghost use Rattle.trailcheck.specs.View.{setting_of};
-ghost use Rattle.rewrite.specs.Laws.{most_conjuncts, most_entries};
+ghost use Rattle.value.specs.Limits.{most_conjuncts, most_entries};
 ghost use Rattle.planning.specs.Best.{LeastIsBest};
 ghost use Rattle.planning.specs.LastSort as sorting;
 ghost use Rattle.planning.specs.Plans.{IsPlan};

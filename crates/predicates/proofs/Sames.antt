@@ -118,12 +118,6 @@ module _ {A : Type 0} (xs ys : List (lent'.BoundArm A)) (k : ℕ) (x y : lent'.B
   pub arms_next : true ≡ same (bound_expr_of x.when) (bound_expr_of y.when) → true ≡ same (bound_expr_of x.result) (bound_expr_of y.result) → arms_same (bound_arms (drop (k + 1) xs)) (bound_arms (drop (k + 1) ys)) ≡ whole
   arms_next t u = and_true _ _ (u ∙ and_true _ _ t) ∙ step
 
-  pub whens_apart : false ≡ same (bound_expr_of x.when) (bound_expr_of y.when) → false ≡ whole
-  whens_apart t = and_false _ _ (and_false _ _ t) ∙ step
-
-  pub results_apart : false ≡ same (bound_expr_of x.result) (bound_expr_of y.result) → false ≡ whole
-  results_apart t = and_false _ _ (and_false_right _ _ t) ∙ step
-
 -- ---- ELSE
 
 pub else_same : {A : Type 0} (x y : Option (Box (lent.BoundExpr A) A)) (b c : Box (lent.BoundExpr A) A) → x ≡ Some b → y ≡ Some c → (d e : lent.BoundExpr A) → d ≡ b.value → e ≡ c.value

@@ -18,7 +18,8 @@ use Rattle.eval.specs.Operators.{comparison_of, between_of, in_of, null_test, ne
 use Rattle.eval.proofs.Conditions.{and_start, or_start}
 use Rattle.eval.specs.Meaning.{Cells, Outcome, meaning, conjunction, disjunction, comparison, between, membership, null_check, logical_not, condition, unless_false, unless_true, as_datum}
 use Rattle.eval.proofs.Movables.{and_left, and_right}
-use Rattle.predicates.specs.Inward.{turned, before, and_before, or_before, inward, not_inward, and_inward, or_inward, not_and_inward, not_or_inward}
+use Rattle.value.specs.Operators.{negator}
+use Rattle.predicates.specs.Inward.{before, and_before, or_before, inward, not_inward, and_inward, or_inward, not_and_inward, not_or_inward}
 use Rattle.predicates.proofs.Keeping.{both}
 
 -- ---- truth values
@@ -56,7 +57,7 @@ compared_not test other h (bool n) (int m) = ap of_bool (h (datum_cmp (bool n) (
 compared_not test other h (bool n) (text m) = ap of_bool (h (datum_cmp (bool n) (text m))) ∙ of_bool_not (test (datum_cmp (bool n) (text m)))
 compared_not test other h (bool n) (bool m) = ap of_bool (h (datum_cmp (bool n) (bool m))) ∙ of_bool_not (test (datum_cmp (bool n) (bool m)))
 
-turns : (op : operators.Comparison) (x y : Datum) → comparison_of (turned op) x y ≡ negated (comparison_of op x y)
+turns : (op : operators.Comparison) (x y : Datum) → comparison_of (negator op) x y ≡ negated (comparison_of op x y)
 turns Equal = compared_not is_eq is_ne (elim [ order.Less ↦ refl | order.Equal ↦ refl | order.Greater ↦ refl ])
 turns NotEqual = compared_not is_ne is_eq (elim [ order.Less ↦ refl | order.Equal ↦ refl | order.Greater ↦ refl ])
 turns Less = compared_not is_lt is_ge (elim [ order.Less ↦ refl | order.Equal ↦ refl | order.Greater ↦ refl ])
@@ -154,10 +155,10 @@ merged_or (Ok Unknown) (Ok Unknown) (Err g) = refl
 merged_or (Ok Unknown) (Ok True) c = refl
 merged_or (Ok Unknown) (Err f) c = refl
 
-comparison_turned : (op : operators.Comparison) (m n : Outcome) → condition (comparison (turned op) m n) ≡ opposite (condition (comparison op m n))
-comparison_turned op (Err f) n = refl
-comparison_turned op (Ok x) (Err f) = refl
-comparison_turned op (Ok x) (Ok y) = ap Ok (again (comparison_of (turned op) x y) ∙ turns op x y ∙ ap negated (sym (again (comparison_of op x y))))
+comparison_negated : (op : operators.Comparison) (m n : Outcome) → condition (comparison (negator op) m n) ≡ opposite (condition (comparison op m n))
+comparison_negated op (Err f) n = refl
+comparison_negated op (Ok x) (Err f) = refl
+comparison_negated op (Ok x) (Ok y) = ap Ok (again (comparison_of (negator op) x y) ∙ turns op x y ∙ ap negated (sym (again (comparison_of op x y))))
 
 between_turned : (negate : Bool) (m low high : Outcome) → condition (between (not negate) m low high) ≡ opposite (condition (between negate m low high))
 between_turned negate (Err f) low high = refl
@@ -212,7 +213,7 @@ module _ (cells : Cells) (role : List ℕ) where
     not_truth (And offset es) = condition_datum _ ∙ not_or_truth es ∙ ap opposite (sym (condition_datum (all es)))
     not_truth (Or offset es) = condition_datum _ ∙ not_and_truth es ∙ ap opposite (sym (condition_datum (any es)))
     not_truth (Not offset e) = inward_truth e ∙ sym (opposite_twice (truth e)) ∙ ap opposite (sym (condition_not (meaning cells role e)))
-    not_truth (Comparison op offset e f) = comparison_turned op (meaning cells role e) (meaning cells role f)
+    not_truth (Comparison op offset e f) = comparison_negated op (meaning cells role e) (meaning cells role f)
     not_truth (Between negate offset e low high) = between_turned negate (meaning cells role e) (meaning cells role low) (meaning cells role high)
     not_truth (In negate offset values e) = in_turned negate (meaning cells role e) values
     not_truth (IsNull negate offset e) = is_null_turned negate (meaning cells role e)

@@ -4,7 +4,7 @@ ghost use Rattle.std.specs.Prelude.{◌≡◌, IfOk, OnOk};
 ghost use Rattle.value.specs.Datum.{datum, datum_of};
 ghost use Rattle.expr.specs.Bound as bound;
 ghost use Rattle.expr.specs.View.{bound_expr_of, bound_exprs};
-ghost use Rattle.predicates.specs.Inward.{all_carried, and_members, before, carried, inward, joined, leaf_carried, members_of, not_leaf, or_members, turned, turned_literal};
+ghost use Rattle.predicates.specs.Inward.{all_carried, and_members, before, carried, inward, joined, leaf_carried, members_of, not_leaf, or_members, negated_literal};
 
 use expr::{
     BoundExpr, Copied, Members, between, comparison, conjunction, copy_expr, disjunction, literal,
@@ -12,25 +12,11 @@ use expr::{
 };
 use memory::Heap;
 use std::alloc::AllocError;
-use value::{Comparison, Value, as_condition, not3, of_truth};
-
-// The comparison that is true where the other is false.
-fn turned(operator: Comparison) -> Comparison
-    ensures { result ≡ turned operator }
-{
-    match operator {
-        Comparison::Equal => Comparison::NotEqual,
-        Comparison::NotEqual => Comparison::Equal,
-        Comparison::Less => Comparison::GreaterOrEqual,
-        Comparison::LessOrEqual => Comparison::Greater,
-        Comparison::Greater => Comparison::LessOrEqual,
-        Comparison::GreaterOrEqual => Comparison::Less,
-    }
-}
+use value::{Value, as_condition, not3, of_truth};
 
 // TRUE for FALSE and FALSE for TRUE; NULL stays.
-fn turned_literal<A: Heap>(alloc: A, value: &Value<A>) -> Result<Value<A>, AllocError>
-    ensures { IfOk result (λ v. datum v ≡ turned_literal (datum value.now)) }
+fn negated_literal<A: Heap>(alloc: A, value: &Value<A>) -> Result<Value<A>, AllocError>
+    ensures { IfOk result (λ v. datum v ≡ negated_literal (datum value.now)) }
 {
     of_truth(not3(as_condition(&value.as_val()))).to_value(alloc)
 }
@@ -49,7 +35,7 @@ fn not_leaf<A: Heap>(alloc: A, expression: &BoundExpr<A>) -> Copied<A>
             let left = copy_expr(alloc, left)?;
             comparison(
                 alloc,
-                turned(*operator),
+                operator.negator(),
                 *offset,
                 left,
                 copy_expr(alloc, right),
@@ -87,7 +73,7 @@ fn not_leaf<A: Heap>(alloc: A, expression: &BoundExpr<A>) -> Copied<A>
             offset,
             operand,
         } => { null_check(alloc, !*negated, *offset, copy_expr(alloc, operand)) }
-        BoundExpr::Literal(value) => literal(alloc, turned_literal(alloc, value)),
+        BoundExpr::Literal(value) => literal(alloc, negated_literal(alloc, value)),
         _ => logical_not(alloc, 0, copy_expr(alloc, expression)),
     }
 }

@@ -3,25 +3,12 @@
 ghost use Rattle.std.specs.Prelude.{◌≡◌, IfOk};
 ghost use Rattle.predicates.specs.Folded.{folded};
 ghost use Rattle.predicates.specs.Inward.{inward};
-ghost use Rattle.predicates.specs.Offsets.{without_offsets};
 
 use crate::carrying::carry_inward;
 use crate::folding::fold;
-use crate::offsets::copy_without_offsets;
 use expr::MovableExpr;
 use memory::Heap;
 use std::alloc::AllocError;
-
-/// The condition with all offsets 0.
-pub fn without_offsets<A: Heap>(
-    alloc: A,
-    condition: &MovableExpr<A>,
-) -> Result<MovableExpr<A>, AllocError>
-    ensures { IfOk result (λ form. form ≡ without_offsets condition.now) }
-{
-    let form = copy_without_offsets(alloc, condition.expression())?;
-    Ok(MovableExpr::of_movable(form))
-}
 
 /// The condition with NOT carried inward.
 pub fn inward<A: Heap>(alloc: A, condition: &MovableExpr<A>) -> Result<MovableExpr<A>, AllocError>

@@ -18,7 +18,7 @@ pub use equalities::{
     column_equals, column_sides, columns_equal, is_never_true, literal_side, not_null_form,
 };
 pub use folding::fold;
-pub use forms::{folded, inward, without_offsets};
+pub use forms::{folded, inward};
 pub use laws::{
     law_both_hold, law_equalities_chain, law_equality_turns, law_factoring_keeps_rows,
     law_folding_keeps_value, law_folds_what_is_closed, law_inward_keeps_truth, law_never_true,

@@ -1,6 +1,7 @@
 -- The checker accepts a trail that leads to the shape, within its limits.
 use Rattle.std.proofs.Common.{◌≡◌, ◌∙◌, refl, sym, ap, subst, ℕ, zero, suc, ◌+◌, ◌*◌, ◌≤◌, true, map, List, [], ◌∷◌, ◌++◌, length, length-append, Ok, if◌then◌else◌, arith}
 use Rattle.std.proofs.lemmas.List.{length-map}
+use Rattle.value.specs.Limits.{most_conjuncts, most_entries}
 use Rattle.expr.specs.Bound.{BoundExpr}
 use Rattle.expr.specs.BoundQuery.{BoundQuery}
 use Rattle.expr.specs.Codes.{Code}
@@ -19,7 +20,7 @@ use Rattle.trailcheck.specs.Settings.{Setting}
 use Rattle.trailcheck.specs.Shapes.{shape}
 use Rattle.trailcheck.specs.Verdicts.{compared, verdict}
 use Rattle.trailcheck.proofs.Same as same
-use Rattle.rewrite.specs.Laws.{PlansAreAccepted, PlansAreShort, most_conjuncts, most_entries, most_plan_steps}
+use Rattle.rewrite.specs.Laws.{PlansAreAccepted, PlansAreShort, most_plan_steps}
 use Rattle.rewrite.specs.Placing.{placing}
 use Rattle.rewrite.specs.Simplifying.{simplifying}
 use Rattle.rewrite.specs.Trails.{led}

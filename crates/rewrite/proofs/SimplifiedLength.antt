@@ -8,7 +8,7 @@ use Rattle.expr.specs.Conjuncts.{movable_conjuncts}
 use Rattle.predicates.specs.Offsets.{without_offsets}
 use Rattle.row_terms.specs.declared.path.Branch.TheVariants.{First}
 use Rattle.algebra.specs.PlanningList.{written_conditions, simplified, simplified_parts, parts_of, consequence, with_any, with_each, with_all, with_consequences, with_others, without_repeats, is_too_long, planned, planning_list}
-use Rattle.algebra.specs.Rules.{most_members}
+use Rattle.value.specs.Limits.{most_conjuncts}
 use Rattle.algebra.specs.Runs.{stands_in}
 use Rattle.algebra.specs.Steps.{Step}
 use Rattle.rewrite.specs.Simplifying.{simplifying_each, repeated, parting, parting_each, from_top, adding, adding_each, adding_all, dropping, simplifying_steps, simplifying_from, simplifying}
@@ -76,10 +76,10 @@ length-dropping known (e ∷ es) = go (stands_in e known) (λ new. length-droppi
 -- ---- within the limits
 
 is_few : (es : List BoundExpr) → is_too_long es ≡ false → length es ≤ 64
-is_few es h = go (nat_le (length es) most_members) refl h
+is_few es h = go (nat_le (length es) most_conjuncts) refl h
   where
-    go : (b : Bool) → nat_le (length es) most_members ≡ b → not b ≡ false → length es ≤ 64
-    go true e k = leb-true (length es) most_members e
+    go : (b : Bool) → nat_le (length es) most_conjuncts ≡ b → not b ≡ false → length es ≤ 64
+    go true e k = leb-true (length es) most_conjuncts e
     go false e k = absurd (cc)
 
 module _ (written : List BoundExpr) (few : length written ≤ 64) where

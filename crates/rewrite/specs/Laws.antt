@@ -1,5 +1,6 @@
 -- Where the trails of a planner lead.
 use Rattle.std.specs.Prelude.{◌≡◌, ◌≤◌, ℕ, true, List, ◌++◌, length, Ok}
+use Rattle.value.specs.Limits.{most_conjuncts, most_entries}
 use Rattle.expr.specs.BoundQuery.{BoundQuery}
 use Rattle.expr.specs.Codes.{Code}
 use Rattle.expr.specs.Conjuncts.{movable_conjuncts}
@@ -27,12 +28,6 @@ PlacesEach = (at : Setting) (code : Code) → is_admissible at code ≡ true →
 -- so the shape of an admissible code means the bag of the written term, in every content
 abbrev pub ShapesMeanSame : Type 0
 ShapesMeanSame = (at : Setting) (q : BoundQuery) (code : Code) → at.conditions ≡ planning_list q → is_admissible at code ≡ true → MeanSame at.frame (written (length at.frame) q) (shape at code)
-
-abbrev pub most_entries : ℕ
-most_entries = 8
-
-abbrev pub most_conjuncts : ℕ
-most_conjuncts = 64
 
 -- the checker accepts both together, of a query within the limits
 abbrev pub PlansAreAccepted : Type 0

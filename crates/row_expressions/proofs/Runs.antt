@@ -79,8 +79,5 @@ module _ (make : List Expr → Expr) (members : Expr → List Expr) where
   pub joined_go : (start : ℕ) (ms : List Expr) (y : Token × Located) (ys : List (Token × Located)) → joined start ms (y ∷ ys) ≡ joined start (ms ++ members y.1.1) ys
   joined_go start ms y ys = ap (λ l. (start, make l)) (sym (append_assoc ms (members y.1.1) (flat_map members (map (λ y. y.1.1) ys))))
 
-  pub joined_none : (start : ℕ) (ms : List Expr) → joined start ms [] ≡ (start, make ms)
-  joined_none start ms = ap (λ l. (start, make l)) (append-nil ms)
-
   pub joined_end : (start : ℕ) (ms : List Expr) → joined start ms [] ≡ (start, make ms)
   joined_end start ms = ap (λ l. (start, make l)) (append-nil ms)

@@ -76,9 +76,6 @@ module _ (L : Language) where
   either_starts_right f g m n ts us (inl a) = inl (head_or_right f g ts a.0, a.1)
   either_starts_right f g m n ts us (inr a) = inr (or_right m n a.0, a.1)
 
-  word_starts : (p : Kind → Bool) (ts : List Token) (t : Token) (us : List Token) → (ts ≡ t ∷ us) × (p (kind t) ≡ true) → Starts p false ts us
-  word_starts p ts t us h = inl (subst (λ l. head_in kind p l ≡ true) (sym h.0) h.1, omega (arith, ap length h.0))
-
   -- the start of a value followed by a viable prefix of the next
   both_begins : (f g : Kind → Bool) (m : Bool) (ts us vs : List Token) → Starts f m ts us → (vs ≡ us) ⊎ (head_in kind g us ≡ true) → (vs ≡ ts) ⊎ (head_in kind (λ k. (m && g k) || f k) ts ≡ true)
   both_begins f g m ts us vs (inl a) b = inr (head_or_right (λ k. m && g k) f ts a.0)

@@ -331,11 +331,6 @@ module _ (L : Language) where
     abbrev pub NestPrefix : I → Prefixing Token
     NestPrefix i ts us = (us ≡ ts) ⊎ ((opens i ≡ true) × ((y : Token) × (ms : List Token) × (ts ≡ y ∷ ms) × (p (kind y) ≡ true) × F i ms us))
 
-    not_here : (y : Token) (ms : List Token) (z : Token) (ls : List Token) → y ∷ ms ≡ z ∷ ls → p (kind z) ≡ true → p (kind y) ≡ false → ⊥
-    not_here y ms z ls e h n =
-        let q : z ≡ y = cc in
-        let r : p (kind y) ≡ true = subst (λ (t : Token). p (kind t) ≡ true) q h in cc
-
     tail_same : (y : Token) (ms : List Token) (z : Token) (ls : List Token) → y ∷ ms ≡ z ∷ ls → ls ≡ ms
     tail_same y ms z ls e = cc
 
@@ -410,9 +405,6 @@ module _ (L : Language) where
 
     abbrev pub loop_ext : Kind → Bool
     loop_ext k = f k || x k
-
-    abbrev loop_up : Room × I → Room × I
-    loop_up j = (more_room j.0, up j.1)
 
     -- the bound that the length of the text or the limit sets on the turns of the loop
     abbrev pub Counts : Room → ℕ → List Token → Type 0

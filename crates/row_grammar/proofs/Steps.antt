@@ -16,15 +16,6 @@ unfolding deep_at
 deep_is G w zero r ts h = absurd (omega arith)
 deep_is G w (suc d) r ts h = let e : suc d - 1 ≡ d = omega arith in rw e refl
 
--- a level opens
-pub if_open : {A : Type 0} (d : ℕ) (x y : A) → 0 < d → (if can_open d then x else y) ≡ x
-if_open zero x y h = absurd (omega arith)
-if_open (suc d) x y h = refl
-
-pub bind_bind : {A B C : Type 0} (r : Result A ReadError) (f : A → Result B ReadError) (g : B → Result C ReadError) → ((r >>= f) >>= g) ≡ (r >>= λ x. f x >>= g)
-bind_bind (Ok x) f g = refl
-bind_bind (Err e) f g = refl
-
 -- an error of a part is the whole's
 pub fault_along : {X Y : Type 0} (s : Failure ReadError) (r : Result X ReadError) (r' : Result Y ReadError) → ((stop : ReadError) → r ≡ Err stop → r' ≡ Err stop) → IsFailure s r → IsFailure s r'
 fault_along OutOfMemory r r' h q = tt
@@ -98,8 +89,6 @@ module _ {K T : Type 0} (kind : T → K) {A B : Type 0} (k : List A → B) (r : 
 
   -- ---- a run that goes on has a further value, so only the result of one or more counts
 
-  pub ends_more : (k' : List A → B) (lim : Bool) (n : ℕ) (us : List T) → ((x : A) (xs : List A) → k (x ∷ xs) ≡ k' (x ∷ xs)) → 0 < n → head_in kind p us ≡ true
-      → ends k (many_at kind lim r p n us) ≡ ends k' (many_at kind lim r p n us)
   unfolding many_at
   ends_more k' lim zero us a l h = absurd (omega arith)
   ends_more k' lim (suc n) us a l h = rw h (go (r us))

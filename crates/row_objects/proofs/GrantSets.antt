@@ -9,14 +9,8 @@ use Rattle.row_objects.specs.Grants.{Grant, grants_to, grants_to_all, has_grant,
 
 -- ---- lists that grow at the end
 
-pub front_same : {X : Type 0} (xs : List X) → IsFront xs xs
-front_same xs = ([], sym (append-nil xs))
-
 pub front_on : {X : Type 0} (a b c : List X) → IsFront a b → IsFront b c → IsFront a c
 front_on a b c p q = (p.0 ++ q.0, q.1 ∙ ap (λ l. l ++ q.0) p.1 ∙ append_assoc a p.0 q.0)
-
-pub front_cut : {X : Type 0} (a b : List X) (n : ℕ) → n ≡ length a → IsFront a b → take n b ≡ a
-front_cut a b n e p = ap (λ l. take n l) p.1 ∙ take_at a p.0 n (sym e)
 
 -- ---- grants are a set
 

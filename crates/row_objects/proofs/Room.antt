@@ -34,9 +34,3 @@ module _ {A : Type 0} where
 
     pub no_room : (v : TableDef A) (n : ℕ) → slice_get (map (λ e. e.1) es) i ≡ Some v → n ≡ length v.policies → room ≤ n → false ≡ has_policy_room (map table_entry es)
     no_room v n at count full = let s = count_next es i v at in let r = is.1 in let h : most_policies ≤ policy_count (map table_entry es) = omega arith in grind (arith, nat_tests)
-
-    pub room_over : length es ≤ i → true ≡ has_policy_room (map table_entry es)
-    room_over over = let s = none_left es i over in let r = is.1 in let p = is.0 in let h : policy_count (map table_entry es) < most_policies = omega arith in grind (arith, nat_tests)
-
-  pub room_first : (es : List (Name × TableDef A)) → IsRoom es 0 most_policies
-  room_first es = (omega arith, refl)

@@ -1,5 +1,4 @@
 pub mod Covered
-pub mod Descent
 pub mod NextEntry
 pub mod SlotLists
 pub mod Unions

@@ -1,6 +1,5 @@
 pub mod Laws
 pub mod Means
-pub mod Paths
 pub mod Terms
 pub mod View
 pub mod Written

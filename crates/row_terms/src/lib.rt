@@ -7,6 +7,6 @@ mod query_term;
 mod term;
 
 pub use laws::law_written_means;
-pub use path::{Branch, node_at};
+pub use path::Branch;
 pub use query_term::written;
 pub use term::{Term, covers};

@@ -1,15 +1,8 @@
 -- The limits on the size of a query.
 use Rattle.std.specs.Prelude.{ℕ, ◌+◌, Bool, ◌&&◌, nat_le, List, length, map, Option, Some, None}
 use Rattle.std.specs.List.{sum}
+use Rattle.value.specs.Limits.{most_entries, most_conjuncts}
 use Rattle.row_ast.specs.Ast.{and_members, Condition, SelectList, All, Items, Join, Inner, Cross, FromItem, Query}
-
--- the most tables of FROM
-abbrev pub most_entries : ℕ
-most_entries = 8
-
--- the most conjuncts of ON and WHERE together
-abbrev pub most_conjuncts : ℕ
-most_conjuncts = 64
 
 -- the most items of SELECT
 abbrev pub most_items : ℕ

@@ -3,18 +3,14 @@
 ghost use Rattle.std.specs.Prelude.{◌≡◌, ◌≤◌, ◌-◌, nat_le, length, map, option_map, SomeIff};
 ghost use Rattle.std.specs.List.{sum};
 ghost use Rattle.syntax.specs.Limits as sizes;
-ghost use Rattle.syntax.specs.Limits.{entries, join_members, filter_members, from_members, conjuncts, item_count, within_joined, within_lists, within_columns, most_entries, most_conjuncts, most_items};
+ghost use Rattle.syntax.specs.Limits.{entries, join_members, filter_members, from_members, conjuncts, item_count, within_joined, within_lists, within_columns, most_items};
+ghost use Rattle.value.specs.Limits.{most_conjuncts, most_entries};
 ghost use Rattle.row_ast.specs.Ast as ast;
 ghost use Rattle.row_ast.specs.View.{expr_of, condition_of, select_list_of, join_of, from_item_of, query_of};
 
 use memory::Heap;
 use row_ast::{Condition, Expr, FromItem, Join, Query, SelectList};
-
-// The most tables of FROM.
-const MOST_ENTRIES: usize = 8;
-
-// The most conjuncts of ON and WHERE together.
-const MOST_CONJUNCTS: usize = 64;
+use value::{MOST_CONJUNCTS, MOST_ENTRIES};
 
 // The most items of SELECT.
 const MOST_ITEMS: usize = 64;

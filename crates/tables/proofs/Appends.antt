@@ -16,7 +16,7 @@ use Rattle.tables.specs.declared.TheConstants.{MAX_ROWS}
 use Rattle.tables.specs.Loading.{Fields, StopsAfterGood, TableRows, appended, load_of}
 use Rattle.tables.specs.Reading.{LoadFollows}
 use Rattle.tables.proofs.Cells.{exit_gives}
-use Rattle.tables.proofs.Follow.{fault_of_known, fault_of_some, rows_of_known, rows_of_some, same_load, stops_of_known}
+use Rattle.tables.proofs.Follow.{same_load, stops_of_known}
 
 -- ---- the table before
 
@@ -25,27 +25,6 @@ columns_are read columns rows t same is = ap (map column_of) same ∙ ap (λ (v 
 
 pub count_is : (cols : List Column) (n : ℕ) (rows : List Row) (t : TableRows) → n ≡ length rows → record { columns = cols; rows = rows } ≡ t → n ≡ length t.rows
 count_is cols n rows t count is = count ∙ ap (λ (v : TableRows). length v.rows) is
-
-pub room_fits : (n m : ℕ) → n ≡ m → m ≤ MAX_ROWS → m + (MAX_ROWS - n) < 2 ^ 63
-room_fits n m same few = omega arith
-
--- ---- the table after
-
--- the rows that were there are those before their number
-pub kept_front : (n : ℕ) (old new rows : List Row) → n ≡ length old → new ≡ old ++ rows → take n new ≡ old
-kept_front n old new rows count all = (λ i. take (count i) (all i)) ∙ take-append_seam old rows
-
-pub same_table : (cols : List Column) (items new : List Row) (t : TableRows) → new ≡ items → record { columns = cols; rows = items } ≡ t → record { columns = cols; rows = new } ≡ t
-same_table cols items new t same is = ap (λ (xs : List Row). let v : TableRows = record { columns = cols; rows = xs } in v) same ∙ is
-
-pub more_wide : {A : Type 0} (read columns : List (declared.Column A)) (items rows new : List Row) → read ≡ columns → new ≡ items ++ rows → All (λ r. length r ≡ length columns) items → All (λ r. length r ≡ length (map column_of read)) rows
-    → All (λ r. length r ≡ length columns) new
-more_wide read columns items rows new same grown all more =
-    let wide : All (λ r. length r ≡ length columns) rows = rw (length-map, same) at more in
-    rw grown (All-append (λ r. length r ≡ length columns) items rows all wide)
-
-pub more_few : (n : ℕ) (items rows new : List Row) → n ≡ length items → new ≡ items ++ rows → length items ≤ MAX_ROWS → length rows ≤ MAX_ROWS - n → length new ≤ MAX_ROWS
-more_few n items rows new count grown few room = omega (arith, ap length grown, length-append items rows, count)
 
 -- ---- no rows came
 
@@ -69,18 +48,6 @@ module _ (cols cols' : List Column) (n : ℕ) (old : List Row) (known : Option (
     same_fault : LoadFollows cols' (MAX_ROWS - length old) known left (Err e)
     same_fault = same_load cols cols' (MAX_ROWS - n) (MAX_ROWS - length old) known left (Err e) at (ap (λ (m : ℕ). MAX_ROWS - m) count) follows
 
-    pub refused_known : (new : List Row) → left.failure ≡ None → IfSome known (λ recs. Gives {X = Unit {0}} (λ _. new) r (appended old (load_of cols' (MAX_ROWS - length old) recs)))
-    refused_known new none = by_known known (fault_of_known cols' (MAX_ROWS - length old) known left e old new same_fault none) where
-      by_known : (k : Option (List Fields)) → IfSome k (λ recs. IsFailure e (appended old (load_of cols' (MAX_ROWS - length old) recs))) → IfSome k (λ recs. Gives {X = Unit {0}} (λ _. new) r (appended old (load_of cols' (MAX_ROWS - length old) recs)))
-      by_known None h = tt
-      by_known (Some recs) h = exit_gives (λ _. new) r e (appended old (load_of cols' (MAX_ROWS - length old) recs)) is h
-
-    pub refused_some : (new : List Row) (given : ℕ) → left.failure ≡ None
-        → (recs : List Fields) × Gives {X = Unit {0}} (λ _. new) r (appended old (load_of cols' (MAX_ROWS - length old) recs)) × OnOk r (length recs ≡ given)
-    refused_some new given none =
-        let s = fault_of_some cols' (MAX_ROWS - length old) known left e old new same_fault none in
-        (s.0, exit_gives (λ _. new) r e (appended old (load_of cols' (MAX_ROWS - length old) s.0)) is s.1, no_value _ r e is)
-
     pub refused_stops : IfSome known (λ recs. StopsAfterGood cols' (MAX_ROWS - length old) recs r)
     refused_stops = exit_stops cols' (MAX_ROWS - length old) known e r is (stops_of_known cols' (MAX_ROWS - length old) known left e same_fault)
 
@@ -88,12 +55,6 @@ module _ (cols cols' : List Column) (n : ℕ) (old : List Row) (known : Option (
   module _ (rows new : List Row) (grown : new ≡ old ++ rows) (follows : LoadFollows cols (MAX_ROWS - n) known left (Ok rows)) where
     same_rows : LoadFollows cols' (MAX_ROWS - length old) known left (Ok rows)
     same_rows = same_load cols cols' (MAX_ROWS - n) (MAX_ROWS - length old) known left (Ok rows) at (ap (λ (m : ℕ). MAX_ROWS - m) count) follows
-
-    pub loaded_known : IfSome known (λ recs. Gives {X = Unit {0}} (λ _. new) (Ok tt) (appended old (load_of cols' (MAX_ROWS - length old) recs)))
-    loaded_known = rows_of_known cols' (MAX_ROWS - length old) known left rows old new same_rows grown
-
-    pub loaded_some : (recs : List Fields) × Gives {X = Unit {0}} (λ _. new) (Ok tt) (appended old (load_of cols' (MAX_ROWS - length old) recs)) × (length recs ≡ left.given)
-    loaded_some = rows_of_some cols' (MAX_ROWS - length old) known left rows old new same_rows grown
 
 -- ---- memory ran out
 

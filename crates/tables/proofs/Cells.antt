@@ -126,9 +126,6 @@ pub exit_no_reader : {X : Type 0} (r : Result X (Failure LoadError)) (f : Failur
 exit_no_reader (Ok x) f is none = tt
 exit_no_reader (Err e) f is none = λ row same. none row (sym is ∙ same)
 
-pub memory_is_no_reader : (row : ℕ) → OutOfMemory ≢ Error (error.Reader row)
-memory_is_no_reader row same = cc same
-
 -- the type of a column
 pub type_at : {A : Type 0} (columns : List (declared.Column A)) (i : ℕ) (x : declared.Column A) → i < length columns → x ≡ get_or columns i x → get_or (types_of (map column_of columns)) i types.Bigint ≡ x.data_type
 type_at columns i x lt is =

@@ -319,39 +319,10 @@ same_load cols cols' room room' known left result is at follows =
 
 -- ---- the rows that were there
 
-fault_exactly : (failure : Option (Failure RecordError)) (e : LoadError) → failure ≡ None → is_fault failure e ≡ true
-fault_exactly failure error.Header none = refl
-fault_exactly failure (error.Reader row) none = rw none refl
-fault_exactly failure (error.Cell row column) none = refl
-fault_exactly failure (error.NotNull row column) none = refl
-fault_exactly failure error.TooMany none = refl
-
--- an error of records
-pub fault_of_known : (cols : List Column) (room : ℕ) (known : Option (List Fields)) (left : Left) (e : Failure LoadError) (old new : List Row) → LoadFollows cols room known left (Err e)
-    → left.failure ≡ None → IfSome known (λ recs. Gives {X = Unit {0}} (λ _. new) (Err e) (appended old (load_of cols room recs)))
-fault_of_known cols room None left e old new follows none = tt
-fault_of_known cols room (Some known) left OutOfMemory old new follows none = tt
-fault_of_known cols room (Some known) left (Error e) old new (recs, are, due, many, stops) none = rw are (ap (appended old) (due (fault_exactly left.failure e none)))
-
-pub fault_of_some : (cols : List Column) (room : ℕ) (known : Option (List Fields)) (left : Left) (e : Failure LoadError) (old new : List Row) → LoadFollows cols room known left (Err e)
-    → left.failure ≡ None → (recs : List Fields) × Gives {X = Unit {0}} (λ _. new) (Err e) (appended old (load_of cols room recs)) × Unit {0}
-fault_of_some cols room known left OutOfMemory old new (recs, are, due, many, stops) none = (recs, tt, tt)
-fault_of_some cols room known left (Error e) old new (recs, are, due, many, stops) none = (recs, ap (appended old) (due (fault_exactly left.failure e none)), tt)
-
 pub stops_of_known : (cols : List Column) (room : ℕ) (known : Option (List Fields)) (left : Left) (e : Failure LoadError) → LoadFollows cols room known left (Err e)
     → IfSome known (λ recs. StopsAfterGood {Y = Unit {0}} cols room recs (Err e))
 stops_of_known cols room None left e follows = tt
 stops_of_known cols room (Some known) left e (recs, are, due, many, stops) = rw are stops
-
--- rows of records
-pub rows_of_known : (cols : List Column) (room : ℕ) (known : Option (List Fields)) (left : Left) (rows : List Row) (old new : List Row) → LoadFollows cols room known left (Ok rows)
-    → new ≡ old ++ rows → IfSome known (λ recs. Gives {X = Unit {0}} (λ _. new) (Ok tt) (appended old (load_of cols room recs)))
-rows_of_known cols room None left rows old new follows all = tt
-rows_of_known cols room (Some known) left rows old new (recs, are, due, many, stops) all = rw are (ap (appended old) due ∙ ap Ok (sym all))
-
-pub rows_of_some : (cols : List Column) (room : ℕ) (known : Option (List Fields)) (left : Left) (rows : List Row) (old new : List Row) → LoadFollows cols room known left (Ok rows)
-    → new ≡ old ++ rows → (recs : List Fields) × Gives {X = Unit {0}} (λ _. new) (Ok tt) (appended old (load_of cols room recs)) × (length recs ≡ left.given)
-rows_of_some cols room known left rows old new (recs, are, due, many, stops) all = (recs, ap (appended old) due ∙ ap Ok (sym all), many)
 
 -- ---- for callers: the rows that were appended
 

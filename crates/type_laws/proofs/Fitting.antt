@@ -7,12 +7,6 @@ use Rattle.type_laws.specs.Rules.{IsFitting}
 
 -- ---- types that fit
 
-pub none_fits : (t : TypeOf) → IsFitting None t
-none_fits t = inl refl
-
-pub fits_itself : (t : TypeOf) → IsFitting t t
-fits_itself t = inr refl
-
 -- what is of the same type fits as well
 pub fits_same : (a b t : TypeOf) → a ≡ b → IsFitting b t → IsFitting a t
 fits_same a b t e (inl f) = inl (e ∙ f)

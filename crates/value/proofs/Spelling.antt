@@ -28,9 +28,6 @@ numeral (d ∷ ds) h = (omega arith, own.to (d ∷ ds) (sym (same_test (d ∷ ds
 fits : (z : ℤ) → is_bigint z ≡ true → FitsSigned w64 z
 fits z h = grind (arith, nat_tests)
 
-unfit : (z : ℤ) → is_bigint z ≡ false → FitsSigned w64 z → ⊥
-unfit z h = grind (arith, nat_tests)
-
 minus : (c : ℕ) (cs : List ℕ) → (c == 45) ≡ true → is_positive cs ≡ true → IsNumeral 10 (without_leading_sign (c ∷ cs)) × (signed_digits_value 10 (c ∷ cs) ≡ spelled (c ∷ cs))
 minus c cs e h = rw e (numeral cs h, refl)
 

@@ -5,7 +5,9 @@ pub mod Conditions
 pub mod Datum
 pub mod Exact
 pub mod Faults
+pub mod Limits
 pub mod Names
+pub mod Operators
 pub mod Orders
 pub mod Texts
 pub mod Truths

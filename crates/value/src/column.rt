@@ -1,10 +1,9 @@
 //! The columns of tables.
 
 ghost use Rattle.std.specs.Prelude.{◌≡◌, IfOk};
-ghost use Rattle.value.specs.Columns.{column_of, columns_of, fits_type};
-ghost use Rattle.value.specs.Datum.{datum};
+ghost use Rattle.value.specs.Columns.{column_of, columns_of};
 
-use crate::types::{ColType, Value};
+use crate::types::ColType;
 use memory::{Heap, Items, Text};
 use std::alloc::AllocError;
 
@@ -17,19 +16,6 @@ pub struct Column<A: Heap> {
     pub data_type: ColType,
     /// True for `NOT NULL`: no row may be null there.
     pub not_null: bool,
-}
-
-/// True where a value is of a type, or null.
-pub fn fits_type<A: Heap>(data_type: ColType, value: &Value<A>) -> bool
-    ensures { result ≡ fits_type data_type (datum value.now) }
-{
-    match (data_type, value) {
-        (_, Value::Null) => true,
-        (ColType::Bigint, Value::Int(_)) => true,
-        (ColType::Text, Value::Text(_)) => true,
-        (ColType::Boolean, Value::Bool(_)) => true,
-        _ => false,
-    }
 }
 
 fn copy_column<A: Heap>(alloc: A, column: &Column<A>) -> Result<Column<A>, AllocError>

@@ -1,4 +1,5 @@
-//! Values: their order and comparison, logic of three values, exact arithmetic, their texts and casts, and the codes of faults and refusals.
+//! Values: their order and comparison, logic of three values, exact arithmetic, their texts and casts; operators; the codes of
+//! faults and refusals; and the limits of a query.
 #![tactic(auto)]
 
 mod arith;
@@ -6,6 +7,7 @@ mod casting;
 mod column;
 mod digits;
 mod faults;
+mod limits;
 mod operators;
 mod order;
 mod reading;
@@ -16,10 +18,11 @@ mod writing;
 
 pub use arith::{add, div, mul, neg, rem, sub};
 pub use casting::cast;
-pub use column::{Column, copy_columns, fits_type};
+pub use column::{Column, copy_columns};
 pub use faults::{Fault, law_kinds_in_order};
+pub use limits::{MOST_CONJUNCTS, MOST_ENTRIES};
 pub use operators::{Aggregate, Arithmetic, Comparison};
-pub use order::{Truth, cmp_rows, cmp_values, eq3, law_sorted_rows, lt3, sort_rows};
+pub use order::{Truth, cmp_rows, cmp_values, eq3, law_sorted_rows, lt3};
 pub use reading::{law_one_spelling, read_bigint, read_value};
 pub use refusal::Refusal;
 pub use truth::{and3, as_condition, not3, of_truth, or3};

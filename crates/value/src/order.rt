@@ -1,12 +1,12 @@
 //! The order of values and of rows, and comparison.
 
-ghost use Rattle.std.specs.Prelude.{◌≡◌, IsTrue, ◌↔◌, List, map, IsPermutation, IsSorted};
+ghost use Rattle.std.specs.Prelude.{◌≡◌, IsTrue, ◌↔◌, List, IsPermutation, IsSorted};
 ghost use Rattle.bags.specs.Sorting.{sorted_by};
 ghost use Rattle.value.specs.Datum.{Row, datum_of, null, row_of};
 ghost use Rattle.value.specs.Orders.{datum_cmp, row_cmp, compared, equal_of, less_of, class};
 
 use crate::types::{Val, Value};
-use memory::{Heap, Items};
+use memory::Heap;
 use std::cmp::Ordering;
 
 /// A truth value of three, ordered as false, unknown, true (PostgreSQL: Logical Operators).
@@ -90,13 +90,6 @@ pub fn cmp_rows<A: Heap>(a: &[Value<A>], b: &[Value<A>]) -> Ordering
             other => other,
         },
     }
-}
-
-/// Sorts rows, and allocates no memory.
-pub fn sort_rows<A: Heap>(rows: &mut Vec<Items<Value<A>, A>, A>)
-    ensures { map (λ r. row_of r) rows.new.items ≡ sorted_by row_cmp (map (λ r. row_of r) rows.old.items) }
-{
-    rows.sort_unstable_by(|a, b| cmp_rows(a.as_slice(), b.as_slice()));
 }
 
 /// The order of rows is total and distinguishes all rows, so a list of rows has one sorted order.

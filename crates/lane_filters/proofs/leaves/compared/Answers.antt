@@ -37,8 +37,8 @@ returns-in-Number-Column g c =
     let many : length column ≡ rows = sym (ap (λ o. length (values_of rows o)) c.in-Number-Column.is-1) ∙ c.requires.right in
     IfOk-weaker c.of_column-in-Number-Column.result _ _
     (λ t p.
-    p ∙ ap (λ (z : ℤ). map (λ (d : Datum). comparison_of c.exchanged.result d (int z)) column) same
-    ∙ ap (λ (o : Comparison). map (λ (d : Datum). comparison_of o d (int n)) column) c.exchanged.ensures ∙ literal_left op rows n column many
+    p ∙ ap (λ (z : ℤ). map (λ (d : Datum). comparison_of c.commutator.result d (int z)) column) same
+    ∙ ap (λ (o : Comparison). map (λ (d : Datum). comparison_of o d (int n)) column) c.commutator.ensures ∙ literal_left op rows n column many
     ∙ sym (λ i. zip2 (comparison_of op) (values_of rows (c.in-Number-Column.is-0 i)) (values_of rows (c.in-Number-Column.is-1 i))))
     c.of_column-in-Number-Column.ensures
 

@@ -1,7 +1,7 @@
 use Rattle.std.proofs.Common.{◌+◌, length, arith, sym}
 use Rattle.std.proofs.lemmas.Bool.{lt-leb}
 use Rattle.std.proofs.lemmas.List.{length-map}
-use Rattle.syntax.specs.Limits.{most_entries}
+use Rattle.value.specs.Limits.{most_entries}
 use Rattle.row_ast.specs.Ast.{FromItem}
 use Rattle.row_ast.specs.View.{from_item_of, join_of}
 use Rattle.syntax.proofs.Sums.{room_passed}

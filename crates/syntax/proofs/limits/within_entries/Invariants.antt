@@ -1,5 +1,6 @@
 use Rattle.std.proofs.Common.{◌≡◌, ◌+◌, map, take}
-use Rattle.syntax.specs.Limits.{entries, most_entries}
+use Rattle.value.specs.Limits.{most_entries}
+use Rattle.syntax.specs.Limits.{entries}
 use Rattle.row_ast.specs.View.{from_item_of}
 use Rattle.syntax.proofs.limits.within_entries.Given as goal
 

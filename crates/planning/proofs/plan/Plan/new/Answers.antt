@@ -8,7 +8,8 @@ use Rattle.trailcheck.specs.Admissible.{is_admissible}
 use Rattle.trailcheck.specs.Verdicts.{verdict}
 use Rattle.trailcheck.specs.View.{setting_of}
 use Rattle.trailcheck.specs.declared.verdict.Verdict.TheVariants.{Accepted}
-use Rattle.rewrite.specs.Laws.{most_entries, most_plan_steps}
+use Rattle.value.specs.Limits.{most_entries}
+use Rattle.rewrite.specs.Laws.{most_plan_steps}
 use Rattle.rewrite.specs.Placing.{placing}
 use Rattle.joindp.specs.Best.{IsLeast, Problem, estimates}
 use Rattle.joindp.specs.Cost as joindp
