@@ -1,7 +1,8 @@
 -- A table changed at its index.
 use Rattle.std.proofs.Common.{◌≡◌, ℕ, zero, suc, ◌+◌, ◌≤◌, Bool, true, false, cond, List, [], ◌∷◌, Option, Some, None, Result, Ok, bytes_eq, refl, sym, ap, ◌∙◌, arith}
 use Rattle.std.specs.List.{position_from}
-use Rattle.memory.proofs.Cases.{some_is, none_is_not}
+use Rattle.memory.proofs.Cases.{some_is}
+use Rattle.row_objects.proofs.Marks.{at_least}
 use Rattle.value.specs.declared.refusal.Refusal.{Refusal}
 use Rattle.value.specs.Names.{Name}
 use Rattle.row_objects.specs.Objects.{Table}
@@ -9,19 +10,10 @@ use Rattle.catalog.specs.Catalog.{Catalog, table_index}
 use Rattle.row_objects.specs.TableChanges.{changed_at}
 use Rattle.catalog.specs.Checks.{first_changed, unless, with_table}
 
-some_of : (i j : ℕ) → i ≡ j → ◌≡◌ {A = Option ℕ} (Some i) (Some j)
+pub some_of : (i j : ℕ) → i ≡ j → ◌≡◌ {A = Option ℕ} (Some i) (Some j)
 some_of i j e = cc
 
 module _ {E : Type 0} (p : E → Bool) where
-  -- an index is counted from the first number on
-  at_least : (es : List E) (k i : ℕ) → position_from p k es ≡ Some i → k ≤ i
-  at_least [] k i h = absurd (none_is_not i h)
-  at_least (e ∷ es) k i h = go (p e) h (at_least es (k + 1) i)
-    where
-      go : (b : Bool) → cond b (Some k) (position_from p (k + 1) es) ≡ Some i → (position_from p (k + 1) es ≡ Some i → k + 1 ≤ i) → k ≤ i
-      go true h more = let q = some_is k i h in omega arith
-      go false h more = let q = more h in omega arith
-
   module _ (f : E → E) where
     changed_from : (es : List E) (k i : ℕ) → position_from p k es ≡ Some (k + i) → changed_at i f es ≡ first_changed p f es
     changed_from [] k i h = refl
@@ -29,7 +21,7 @@ module _ {E : Type 0} (p : E → Bool) where
       where
         go : (b : Bool) → cond b (Some k) (position_from p (k + 1) es) ≡ Some (k + zero) → f e ∷ es ≡ cond b (f e ∷ es) (e ∷ first_changed p f es)
         go true h = refl
-        go false h = absurd (let q = at_least es (k + 1) (k + zero) h in omega arith)
+        go false h = absurd (let q = at_least p es (k + 1) (k + zero) h in omega arith)
     changed_from (e ∷ es) k (suc i) h = go (p e) h (changed_from es (k + 1) i)
       where
         go : (b : Bool) → cond b (Some k) (position_from p (k + 1) es) ≡ Some (k + suc i) → (position_from p (k + 1) es ≡ Some (k + 1 + i) → changed_at i f es ≡ first_changed p f es)

@@ -11,6 +11,7 @@ use Rattle.std.proofs.lemmas.List.{get_or_past, get_or-map, length-map}
 use Rattle.std.proofs.lemmas.List.Elements.{recursion_from_All}
 use Rattle.std.proofs.lemmas.Nat.Bits.{bit_at-zero}
 use Rattle.std.proofs.lemmas.Simd.{tops_compared, mask_l-mod, get_or-zip2, length-zip2}
+use Rattle.value.proofs.Conditions.{true_bool}
 use Rattle.value.specs.Datum.{null, int}
 use Rattle.value.specs.Orders.{compared, datum_cmp, is_true, is_unknown}
 use Rattle.value.specs.declared.order.Truth.{Truth}
@@ -18,7 +19,7 @@ use Rattle.columns.specs.Bits.{IsMaskOf, words_for}
 use Rattle.columns.specs.Columns.{int_unless, ints_of}
 use Rattle.columns.specs.Comparing.{Show}
 use Rattle.columns.proofs.MaskTests.{bit_of_tests}
-use Rattle.columns.proofs.Truths.{true_of_bool, known, int_order}
+use Rattle.columns.proofs.Truths.{known, int_order}
 use Rattle.columns.proofs.Words.{and_is, or_is, not_is}
 
 -- ---- lanes
@@ -58,7 +59,7 @@ module _ (t : Ordering → Bool) where
   pair_true : (x y : ℤ) (b c : Bool) → is_true (compared t (int_unless x b) (int_unless y c)) ≡ ((t (int_cmp x y) && not b) && not c)
   pair_true x y true c = sym (ap (λ h. h && not c) (and-false (t (int_cmp x y))))
   pair_true x y false true = sym (and-false (t (int_cmp x y) && true))
-  pair_true x y false false = true_of_bool (t (datum_cmp (int x) (int y))) ∙ ap t (int_order x y) ∙ sym (and-true (t (int_cmp x y) && true) ∙ and-true (t (int_cmp x y)))
+  pair_true x y false false = true_bool (t (datum_cmp (int x) (int y))) ∙ ap t (int_order x y) ∙ sym (and-true (t (int_cmp x y) && true) ∙ and-true (t (int_cmp x y)))
 
   pair_unknown : (x y : ℤ) (b c : Bool) → is_unknown (compared t (int_unless x b) (int_unless y c)) ≡ (b || c)
   pair_unknown x y true c = refl

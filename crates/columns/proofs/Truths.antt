@@ -12,6 +12,7 @@ use Rattle.std.proofs.lemmas.List.{length-map}
 use Rattle.columns.specs.Columns.{int_unless, ints_of}
 use Rattle.columns.specs.Comparing.{Show}
 use Rattle.std.proofs.lemmas.Simd.{length-zip2}
+use Rattle.value.proofs.Conditions.{true_bool}
 
 and_equal : (x : Ordering) → ordering_then x o.Equal ≡ x
 and_equal o.Less = refl
@@ -21,10 +22,6 @@ and_equal o.Greater = refl
 -- numbers are ordered as numbers
 pub int_order : (y z : ℤ) → datum_cmp (int y) (int z) ≡ int_cmp y z
 int_order y z = and_equal (int_cmp y z)
-
-pub true_of_bool : (b : Bool) → is_true (of_bool b) ≡ b
-true_of_bool true = refl
-true_of_bool false = refl
 
 pub known : (b : Bool) → is_unknown (of_bool b) ≡ false
 known true = refl
@@ -42,7 +39,7 @@ module _ (t : Ordering → Bool) (lit : ℤ) where
   true_bit [] bits i e = refl
   true_bit (z ∷ zs) [] i e = absurd (omega arith)
   true_bit (z ∷ zs) (true ∷ bits) zero e = sym (and-false (t (int_cmp z lit)))
-  true_bit (z ∷ zs) (false ∷ bits) zero e = true_of_bool (t (datum_cmp (int z) (int lit))) ∙ ap t (int_order z lit) ∙ sym (and-true (t (int_cmp z lit)))
+  true_bit (z ∷ zs) (false ∷ bits) zero e = true_bool (t (datum_cmp (int z) (int lit))) ∙ ap t (int_order z lit) ∙ sym (and-true (t (int_cmp z lit)))
   true_bit (z ∷ zs) (b ∷ bits) (suc i) e = true_bit zs bits i (omega arith)
 
   unknown_bit : (zs : List ℤ) (bits : List Bool) (i : ℕ) → length bits ≡ length zs

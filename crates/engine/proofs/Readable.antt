@@ -9,7 +9,7 @@ use Rattle.std.proofs.lemmas.List.{length-map}
 use Rattle.std.proofs.lemmas.List.Elements.{All-contains}
 use Rattle.std.proofs.lemmas.List.Sorted.{IsPermutation-map, IsPermutation-refl}
 use Rattle.std.proofs.lemmas.Simd.{map-map}
-use Rattle.memory.proofs.Cases.{some_is}
+use Rattle.memory.proofs.Cases.{or_second, some_is}
 use Rattle.value.specs.Columns.{Column}
 use Rattle.value.specs.Datum.{Datum, null, Row}
 use Rattle.value.specs.Names.{Name}
@@ -46,10 +46,6 @@ has columns i = list_any (λ c. c == i) columns
 abbrev IsWithin : List ℕ → List ℕ → Type 0
 IsWithin some all = (i : ℕ) → has some i ≡ true → has all i ≡ true
 
-later : (a b : Bool) → b ≡ true → (a || b) ≡ true
-later true b h = refl
-later false b h = h
-
 itself : (i : ℕ) → (i == i) ≡ true
 itself i = eq-eqb i i refl
 
@@ -82,7 +78,7 @@ granted_at cat role t n (suc j) (x ∷ xs) c at h =
     past (granted cat role (select_on t x.name)) rest
   where
     past : (b : Bool) → has (granted_from cat role t (n + 1) xs) (n + suc j) ≡ true → has (if b then n ∷ granted_from cat role t (n + 1) xs else granted_from cat role t (n + 1) xs) (n + suc j) ≡ true
-    past true h = later (n == (n + suc j)) _ h
+    past true h = or_second (n == (n + suc j)) _ h
     past false h = h
 
 -- the columns of an entry that a query names are among those that are granted

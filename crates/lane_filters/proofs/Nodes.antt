@@ -2,6 +2,7 @@
 use Rattle.std.proofs.Common.{◌≡◌, ℕ, Bool, List, [], ◌∷◌, map, length, replicate, Result, Ok, Err, refl, sym, ap, ◌∙◌}
 use Rattle.std.specs.Simd.Lanes.{zip2}
 use Rattle.std.proofs.lemmas.Simd.{splat_is_map}
+use Rattle.value.proofs.Conditions.{truth_back}
 use Rattle.value.specs.Datum.{Datum, Row, cell}
 use Rattle.value.specs.Names.{Name}
 use Rattle.value.specs.Conditions.{truth_at, at_truth}
@@ -19,16 +20,10 @@ use Rattle.tuples.specs.Rows.{cells_of}
 use Rattle.lane_filters.specs.Outcomes.{AreTruths, AreValues}
 use Rattle.lane_filters.proofs.Pointwise.{one_by_one, side_by_side, all_same, of_values, as_many}
 
--- a truth value is read back from its value
-pub again : (t : Truth) → truth_at (at_truth t) ≡ t
-again True = refl
-again False = refl
-again Unknown = refl
-
 -- ---- one row
 
 compared_on : (op : operators.Comparison) (m n : Outcome) (x y : Datum) → m ≡ Ok x → n ≡ Ok y → condition (comparison op m n) ≡ Ok (comparison_of op x y)
-compared_on op m n x y p q = (λ i. condition (comparison op (p i) (q i))) ∙ ap Ok (again (comparison_of op x y))
+compared_on op m n x y p q = (λ i. condition (comparison op (p i) (q i))) ∙ ap Ok (truth_back (comparison_of op x y))
 
 between_on : (n : Bool) (m low high : Outcome) (t u : Truth) → condition (comparison operator.GreaterOrEqual m low) ≡ Ok t → condition (comparison operator.LessOrEqual m high) ≡ Ok u
     → condition (between n m low high) ≡ Ok (negated_if n (least t u))
@@ -36,18 +31,18 @@ between_on n (Err f) low high t u p q = cc
 between_on n (Ok x) (Err f) high t u p q = cc
 between_on n (Ok x) (Ok l) (Err f) t u p q = cc
 between_on n (Ok x) (Ok l) (Ok h) t u p q =
-    let first : comparison_of operator.GreaterOrEqual x l ≡ t = sym (again (comparison_of operator.GreaterOrEqual x l)) ∙ cc in
-    let second : comparison_of operator.LessOrEqual x h ≡ u = sym (again (comparison_of operator.LessOrEqual x h)) ∙ cc in
-    ap Ok (again (negated_if n (least (comparison_of operator.GreaterOrEqual x l) (comparison_of operator.LessOrEqual x h)))) ∙ λ i. Ok (negated_if n (least (first i) (second i)))
+    let first : comparison_of operator.GreaterOrEqual x l ≡ t = sym (truth_back (comparison_of operator.GreaterOrEqual x l)) ∙ cc in
+    let second : comparison_of operator.LessOrEqual x h ≡ u = sym (truth_back (comparison_of operator.LessOrEqual x h)) ∙ cc in
+    ap Ok (truth_back (negated_if n (least (comparison_of operator.GreaterOrEqual x l) (comparison_of operator.LessOrEqual x h)))) ∙ λ i. Ok (negated_if n (least (first i) (second i)))
 
 not_on : (m : Outcome) (t : Truth) → condition m ≡ Ok t → condition (logical_not m) ≡ Ok (negated t)
 not_on (Err f) t p = cc
 not_on (Ok d) t p =
     let same : truth_at d ≡ t = cc in
-    ap Ok (again (negated (truth_at d))) ∙ ap (λ s. Ok (negated s)) same
+    ap Ok (truth_back (negated (truth_at d))) ∙ ap (λ s. Ok (negated s)) same
 
 as_condition : (r : Result Truth Fault) → condition (as_datum r) ≡ r
-as_condition (Ok t) = ap Ok (again t)
+as_condition (Ok t) = ap Ok (truth_back t)
 as_condition (Err f) = refl
 
 and_on : (r s : Result Truth Fault) (t u : Truth) → r ≡ Ok t → s ≡ Ok u → unless_false r s ≡ Ok (least t u)
@@ -99,7 +94,7 @@ module _ (role : Name) (rows : List Row) where
       → AreTruths role rows (IsNull n offset (Column id)) ts
   null_truths n offset id ts e =
       of_values (λ row. condition (meaning (cells_of row) role (IsNull n offset (Column id)))) (λ row. negated_if n (null_test (cell row id.column)))
-      (λ row. ap Ok (again (negated_if n (null_test (cell row id.column))))) rows ∙ ap (map Ok) (composed rows ∙ sym e)
+      (λ row. ap Ok (truth_back (negated_if n (null_test (cell row id.column))))) rows ∙ ap (map Ok) (composed rows ∙ sym e)
     where
       composed : (rs : List Row) → map (λ row. negated_if n (null_test (cell row id.column))) rs ≡ map (negated_if n) (map null_test (map (λ row. cell row id.column) rs))
       composed [] = refl

@@ -1,5 +1,5 @@
--- Options, results and lists by their cases, and the failure that `?` hands on.
-use Rattle.std.proofs.Common.{◌≡◌, List, [], ◌∷◌, Option, Some, None, Result, Ok, Err, IsErrAnd}
+-- Truth values, options, results and lists by their cases, and the failure that `?` hands on.
+use Rattle.std.proofs.Common.{◌≡◌, ◌||◌, Bool, true, false, List, [], ◌∷◌, Option, Some, None, Result, Ok, Err, IsErrAnd, OnErr, OnOk, refl}
 use Rattle.memory.specs.Gives.{Gives, IsFailure}
 use Rattle.memory.specs.declared.failure.Failure.{Failure}
 
@@ -22,3 +22,16 @@ ok_is x y e = cc
 pub exits : {X Y E : Type 0} (view : X → Y) (r : Result X (Failure E)) (f : Failure E) (stated : Result Y E) → IsErrAnd r (λ e. e ≡ f) → IsFailure f stated → Gives view r stated
 exits view (Ok x) f stated is h = absurd is
 exits view (Err e) f stated is h = rw is h
+
+pub at_err : {T E : Type 0} {P : Type 0} (r : Result T E) → P → OnErr r P
+at_err (Ok x) p = tt
+at_err (Err e) p = p
+
+-- a fact of the outcome, from another fact
+pub on_ok : {T E : Type 0} (r : Result T E) (P Q : Type 0) → (P → Q) → OnOk r P → OnOk r Q
+on_ok (Ok x) P Q f h = f h
+on_ok (Err e) P Q f h = tt
+
+pub or_second : (a b : Bool) → b ≡ true → (a || b) ≡ true
+or_second true b h = refl
+or_second false b h = h

@@ -12,19 +12,15 @@ use Rattle.expr.specs.Movable.{movable}
 use Rattle.expr.specs.Bound.{is_column, BoundExpr, Column, Literal, Comparison, IsNull}
 use Rattle.eval.specs.Meaning.{Cells, Outcome, meaning, comparison, null_check, is_true_outcome, holds}
 use Rattle.memory.proofs.Cases.{some_is}
+use Rattle.value.proofs.Conditions.{true_bool, truth_back}
 use Rattle.predicates.specs.Equalities.{column_sides, is_never_true, not_null_of, not_null_form}
 use Rattle.predicates.proofs.Equal.{value_itself, is_equal, column_exact}
-use Rattle.predicates.proofs.Truth.{again}
 
 -- ---- equal values
 
 -- neither is null, and they compare as equal
 abbrev equal : Datum → Datum → Bool
 equal x y = is_true (compared is_eq x y)
-
-true_bool : (b : Bool) → is_true (of_bool b) ≡ b
-true_bool true = refl
-true_bool false = refl
 
 reversed_eq : (o : Ordering) → is_eq (ordering_reverse o) ≡ is_eq o
 reversed_eq order.Less = refl
@@ -76,7 +72,7 @@ abbrev equality : Outcome → Outcome → Bool
 equality m n = is_true_outcome (comparison Equal m n)
 
 equality_is : (x y : Datum) → equality (Ok x) (Ok y) ≡ equal x y
-equality_is x y = ap is_true (again (compared is_eq x y))
+equality_is x y = ap is_true (truth_back (compared is_eq x y))
 
 equality_turned : (m n : Outcome) → equality m n ≡ equality n m
 equality_turned (Err f) (Err g) = refl

@@ -3,6 +3,7 @@ use Rattle.std.proofs.Common.{◌≡◌, ◌∙◌, sym, ap, ap₂, refl, ℕ, B
 use Rattle.std.specs.declared.cmp.Ordering.{Ordering}
 use Rattle.std.specs.declared.cmp.Ordering.TheVariants as order
 use Rattle.std.specs.Ordering.{is_eq, is_ne, is_lt, is_le, is_gt, is_ge}
+use Rattle.value.proofs.Conditions.{truth_back}
 use Rattle.value.specs.Datum.{Datum, null, int, text, bool}
 use Rattle.value.specs.Orders.{compared, datum_cmp, of_bool}
 use Rattle.value.specs.Truths.{negated}
@@ -23,11 +24,6 @@ use Rattle.predicates.specs.Inward.{before, and_before, or_before, inward, not_i
 use Rattle.predicates.proofs.Keeping.{both}
 
 -- ---- truth values
-
-pub again : (t : Truth) → truth_at (at_truth t) ≡ t
-again False = refl
-again Unknown = refl
-again True = refl
 
 twice : (t : Truth) → negated (negated t) ≡ t
 twice False = refl
@@ -76,11 +72,11 @@ opposite_twice (Ok t) = ap Ok (twice t)
 opposite_twice (Err f) = refl
 
 pub condition_datum : (c : Result Truth Fault) → condition (as_datum c) ≡ c
-condition_datum (Ok t) = ap Ok (again t)
+condition_datum (Ok t) = ap Ok (truth_back t)
 condition_datum (Err f) = refl
 
 condition_not : (m : Outcome) → condition (logical_not m) ≡ opposite (condition m)
-condition_not (Ok d) = ap Ok (again (negated (truth_at d)))
+condition_not (Ok d) = ap Ok (truth_back (negated (truth_at d)))
 condition_not (Err f) = refl
 
 opposite_and : (a b : Result Truth Fault) → opposite (unless_false a b) ≡ unless_true (opposite a) (opposite b)
@@ -158,21 +154,21 @@ merged_or (Ok Unknown) (Err f) c = refl
 comparison_negated : (op : operators.Comparison) (m n : Outcome) → condition (comparison (negator op) m n) ≡ opposite (condition (comparison op m n))
 comparison_negated op (Err f) n = refl
 comparison_negated op (Ok x) (Err f) = refl
-comparison_negated op (Ok x) (Ok y) = ap Ok (again (comparison_of (negator op) x y) ∙ turns op x y ∙ ap negated (sym (again (comparison_of op x y))))
+comparison_negated op (Ok x) (Ok y) = ap Ok (truth_back (comparison_of (negator op) x y) ∙ turns op x y ∙ ap negated (sym (truth_back (comparison_of op x y))))
 
 between_turned : (negate : Bool) (m low high : Outcome) → condition (between (not negate) m low high) ≡ opposite (condition (between negate m low high))
 between_turned negate (Err f) low high = refl
 between_turned negate (Ok x) (Err f) high = refl
 between_turned negate (Ok x) (Ok y) (Err f) = refl
-between_turned negate (Ok x) (Ok y) (Ok z) = ap Ok (again _ ∙ negated_not negate (between_of x y z) ∙ ap negated (sym (again (negated_if negate (between_of x y z)))))
+between_turned negate (Ok x) (Ok y) (Ok z) = ap Ok (truth_back _ ∙ negated_not negate (between_of x y z) ∙ ap negated (sym (truth_back (negated_if negate (between_of x y z)))))
 
 in_turned : (negate : Bool) (m : Outcome) (values : List Datum) → condition (membership (not negate) m values) ≡ opposite (condition (membership negate m values))
 in_turned negate (Err f) values = refl
-in_turned negate (Ok x) values = ap Ok (again _ ∙ negated_not negate (in_of x values) ∙ ap negated (sym (again (negated_if negate (in_of x values)))))
+in_turned negate (Ok x) values = ap Ok (truth_back _ ∙ negated_not negate (in_of x values) ∙ ap negated (sym (truth_back (negated_if negate (in_of x values)))))
 
 is_null_turned : (negate : Bool) (m : Outcome) → condition (null_check (not negate) m) ≡ opposite (condition (null_check negate m))
 is_null_turned negate (Err f) = refl
-is_null_turned negate (Ok x) = ap Ok (again _ ∙ negated_not negate (null_test x) ∙ ap negated (sym (again (negated_if negate (null_test x)))))
+is_null_turned negate (Ok x) = ap Ok (truth_back _ ∙ negated_not negate (null_test x) ∙ ap negated (sym (truth_back (negated_if negate (null_test x)))))
 
 -- ---- conditions of the forms
 
@@ -217,7 +213,7 @@ module _ (cells : Cells) (role : List ℕ) where
     not_truth (Between negate offset e low high) = between_turned negate (meaning cells role e) (meaning cells role low) (meaning cells role high)
     not_truth (In negate offset values e) = in_turned negate (meaning cells role e) values
     not_truth (IsNull negate offset e) = is_null_turned negate (meaning cells role e)
-    not_truth (Literal d) = ap Ok (again (negated (truth_at d)))
+    not_truth (Literal d) = ap Ok (truth_back (negated (truth_at d)))
     not_truth (Column id) = condition_not (meaning cells role (Column id))
     not_truth CurrentUser = condition_not (meaning cells role CurrentUser)
     not_truth (Negate offset e) = condition_not (meaning cells role (Negate offset e))

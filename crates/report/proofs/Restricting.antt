@@ -3,6 +3,7 @@ use Rattle.std.proofs.Common.{◌≡◌, ℕ, zero, suc, ◌+◌, ◌==◌, Bool
 use Rattle.std.specs.List.{flat_map, list_any}
 use Rattle.std.proofs.lemmas.Bool.Decides.{nat_tests}
 use Rattle.std.proofs.lemmas.List.{map-append}
+use Rattle.memory.proofs.Cases.{or_second}
 use Rattle.value.specs.Datum.{Row, cell}
 use Rattle.expr.specs.declared.bound.ColumnId.{ColumnId}
 use Rattle.eval.specs.Laws.{AgreeOn}
@@ -27,10 +28,6 @@ cell_of_restricted slots row k here = cell_kept 0 slots row k (rw zero-add here)
 itself : (k : ℕ) → (k == k) ≡ true
 itself k = grind (arith, nat_tests)
 
-or_later : (a b : Bool) → b ≡ true → (a || b) ≡ true
-or_later true b h = refl
-or_later false b h = h
-
 -- the index of a column is among those of the columns of its entry
 pub place_among : (ids : List ColumnId) (id : ColumnId) → Contains ids id → list_any (λ c. c == id.column) (map (λ x. x.column) (filter (λ x. x.entry == id.entry) ids)) ≡ true
 place_among [] id c = absurd (none c)
@@ -42,7 +39,7 @@ place_among (x ∷ ids) id (suc k, less, is) = past (x.entry == id.entry) (place
   where
     past : (b : Bool) → list_any (λ c. c == id.column) (map (λ y. y.column) (filter (λ y. y.entry == id.entry) ids)) ≡ true
         → list_any (λ c. c == id.column) (map (λ y. y.column) (cond b (x ∷ filter (λ y. y.entry == id.entry) ids) (filter (λ y. y.entry == id.entry) ids))) ≡ true
-    past true h = or_later (x.column == id.column) _ h
+    past true h = or_second (x.column == id.column) _ h
     past false h = h
 
 -- ---- the row of each entry, changed by a function of the entry's index

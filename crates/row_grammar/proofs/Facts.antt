@@ -1,5 +1,6 @@
 -- Facts of every form: the kinds that start it, and that its values are viable prefixes.
 use Rattle.std.proofs.Common.{◌≡◌, ℕ, zero, suc, ◌<◌, ◌⊎◌, inl, inr, Bool, true, false, ◌&&◌, ◌||◌, List, [], ◌∷◌, length, refl, sym, ap, ◌∙◌, subst, arith}
+use Rattle.memory.proofs.Cases.{or_second}
 use Rattle.row_grammar.specs.Grammar.{Language, Form, word, nothing, both, either, made, many, nest, inner}
 use Rattle.row_grammar.specs.Meaning.{Reading, Prefixing, Room, any, at_most, room_of, one_less, Many, ManyPrefix, DerivesIn, PrefixIn}
 use Rattle.row_grammar.specs.Decoder.{head_in, nullable, first}
@@ -9,10 +10,6 @@ use Rattle.row_grammar.specs.Decoder.{head_in, nullable, first}
 pub or_left : (a b : Bool) → a ≡ true → (a || b) ≡ true
 or_left true b e = refl
 or_left false b e = cc
-
-pub or_right : (a b : Bool) → b ≡ true → (a || b) ≡ true
-or_right true b e = refl
-or_right false b e = e
 
 pub and_both : (a b : Bool) → a ≡ true → b ≡ true → (a && b) ≡ true
 and_both true b p q = q
@@ -42,7 +39,7 @@ module _ (L : Language) where
 
   pub head_or_right : (p q : Kind → Bool) (ts : List Token) → head_in kind q ts ≡ true → head_in kind (λ k. p k || q k) ts ≡ true
   head_or_right p q [] e = e
-  head_or_right p q (t ∷ ts) e = or_right _ _ e
+  head_or_right p q (t ∷ ts) e = or_second _ _ e
 
   pub head_and : (b : Bool) (q : Kind → Bool) (ts : List Token) → b ≡ true → head_in kind q ts ≡ true → head_in kind (λ k. b && q k) ts ≡ true
   head_and b q [] e h = h
@@ -74,7 +71,7 @@ module _ (L : Language) where
 
   either_starts_right : (f g : Kind → Bool) (m n : Bool) (ts us : List Token) → Starts g n ts us → Starts (λ k. f k || g k) (m || n) ts us
   either_starts_right f g m n ts us (inl a) = inl (head_or_right f g ts a.0, a.1)
-  either_starts_right f g m n ts us (inr a) = inr (or_right m n a.0, a.1)
+  either_starts_right f g m n ts us (inr a) = inr (or_second m n a.0, a.1)
 
   -- the start of a value followed by a viable prefix of the next
   both_begins : (f g : Kind → Bool) (m : Bool) (ts us vs : List Token) → Starts f m ts us → (vs ≡ us) ⊎ (head_in kind g us ≡ true) → (vs ≡ ts) ⊎ (head_in kind (λ k. (m && g k) || f k) ts ≡ true)

@@ -16,7 +16,7 @@ use Rattle.row_objects.proofs.Paths.{text_same, same_text, itself, joined, step,
 
 module _ {E : Type 0} (p : E → Bool) where
   -- an index is counted from the first number on
-  at_least : (es : List E) (k i : ℕ) → position_from p k es ≡ Some i → k ≤ i
+  pub at_least : (es : List E) (k i : ℕ) → position_from p k es ≡ Some i → k ≤ i
   at_least [] k i h = absurd (none_is_not i h)
   at_least (e ∷ es) k i h = go (p e) h (at_least es (k + 1) i)
     where

@@ -9,21 +9,19 @@ use command_line::{
     Format, QueryArguments, QueryText, Request, SessionArguments, VerifyArguments, read_arguments,
 };
 use diagnostics::codes_text;
-use engine::{explain, verify};
 use failure::{ProgramError, print_error, report_failure};
 use files::{Directory, read_bytes, read_text};
 use memory::Failure;
 use output::{Output, write_whole};
 use script::{answer_input, answer_text};
-use session::Core;
+use session_scripts::Core;
 use setup::{
-    Arguments, SchemaError, SetupError, explain_refusal, explain_schema, open_store, reply,
-    reply_table, store_of_schema,
+    Arguments, SchemaError, SetupError, Store, explain, explain_refusal, explain_schema,
+    open_store, reply, reply_table, store_of_schema, verify,
 };
 use std::alloc::{AllocError, Global};
 use std::process::ExitCode;
 use std::{env, io};
-use store::Store;
 
 // The store of a schema text and of the files of a folder.
 fn store_of(

@@ -14,4 +14,5 @@ mod texts;
 mod words;
 
 pub use line::{ScriptLine, read_line};
+pub use session::{Core, Event};
 pub use texts::reply_text;

@@ -1,4 +1,3 @@
 pub mod Fold
 pub mod Opens
-pub mod Outcomes
 pub mod Tables

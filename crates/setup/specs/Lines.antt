@@ -4,11 +4,9 @@ use Rattle.std.specs.Fmt.{decimal}
 use Rattle.std.specs.Io.KnownBytes.{Appends}
 use Rattle.output.specs.Taken.{Begins}
 use Rattle.value.specs.Codes.{code_of}
-use Rattle.tables.specs.declared.LoadError.{LoadError}
-use Rattle.tables.specs.declared.LoadError.TheVariants as load
+use Rattle.tables.specs.LoadErrors.{load_error_line}
 use Rattle.memory.specs.declared.failure.Failure as memory
 use Rattle.memory.specs.declared.failure.Failure.TheVariants as failure
-use Rattle.value.specs.Names.{Name}
 use Rattle.setup.specs.declared.error.SchemaError.{SchemaError}
 use Rattle.setup.specs.declared.error.SchemaError.TheVariants as schema
 use Rattle.setup.specs.declared.error.SetupError.{SetupError}
@@ -27,24 +25,10 @@ schema_line (schema.Syntax offset) = syntax_line offset
 schema_line schema.Limit = codes "schema refused 54000"
 schema_line (schema.Statement number code) = codes "schema statement " ++ decimal number ++ codes " refused " ++ code_of code
 
-abbrev pub in_row : ℕ → List ℕ
-in_row row = codes " row " ++ decimal row
-
-abbrev pub in_column : Name → List ℕ
-in_column column = codes " column " ++ column
-
--- rows count from 1; row 0 is the header
-abbrev pub data_line : Name → Name → LoadError → List ℕ
-data_line table column load.Header = codes "data " ++ table ++ codes " header"
-data_line table column (load.Reader row) = codes "data " ++ table ++ in_row row
-data_line table column (load.Cell row index) = codes "data " ++ table ++ in_row row ++ in_column column
-data_line table column (load.NotNull row index) = codes "data " ++ table ++ in_row row ++ in_column column ++ codes " null"
-data_line table column load.TooMany = codes "data " ++ table ++ codes " limit"
-
 abbrev pub error_line : {A : Type 0} → SetupError A → List ℕ
 error_line (fault.Input path) = codes "input " ++ path
 error_line (fault.Schema e) = schema_line e
-error_line (fault.Data table column e) = data_line table column e
+error_line (fault.Data table column e) = load_error_line table column e
 
 -- the line, without its end
 abbrev pub failure_line : {A : Type 0} → memory.Failure (SetupError A) → List ℕ

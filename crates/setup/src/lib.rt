@@ -13,9 +13,10 @@ mod schema;
 mod schema_explanation;
 
 pub use arguments::{Arguments, reply};
+pub use engine::{Store, explain, verify};
 pub use error::{SchemaError, SetupError};
 pub use explanation::explain_refusal;
-pub use line::{line_of, report, status_of};
+pub use line::{report, status_of};
 pub use load::{Folder, load_table, load_tables};
 pub use open::{open_store, store_of_schema};
 pub use reply_tables::reply_table;

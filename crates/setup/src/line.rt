@@ -2,13 +2,13 @@
 
 ghost use Rattle.std.specs.Prelude.{◌≡◌, ◌≢◌, ◌++◌, ◌∷◌, ◌⊎◌, [], IfOk, OnOk};
 ghost use Rattle.output.specs.Taken.{one_more};
-ghost use Rattle.setup.specs.Lines.{IsBegun, IsReported, data_line, failure_line, failure_status, error_line, error_status, in_column, in_row, memory_line, schema_line, syntax_line};
+ghost use Rattle.setup.specs.Lines.{IsBegun, IsReported, failure_line, failure_status, error_line, error_status, memory_line, schema_line, syntax_line};
 
 use crate::error::{SchemaError, SetupError};
 use memory::{Failure, Heap, push_number, push_str};
 use output::{Out, write_whole};
 use std::alloc::AllocError;
-use tables::LoadError;
+use tables::push_load_error;
 
 fn push_syntax_error<A: Heap>(line: &mut Vec<u8, A>, offset: u64) -> Result<(), AllocError>
     ensures { OnOk result (line.new.items ≡ line.old.items ++ syntax_line offset) }
@@ -32,46 +32,6 @@ fn push_schema_error<A: Heap>(line: &mut Vec<u8, A>, error: SchemaError) -> Resu
     }
 }
 
-fn push_row<A: Heap>(line: &mut Vec<u8, A>, row: u64) -> Result<(), AllocError>
-    ensures { OnOk result (line.new.items ≡ line.old.items ++ in_row row) }
-{
-    push_str(line, " row ")?;
-    push_number(line, row)
-}
-
-fn push_column<A: Heap>(line: &mut Vec<u8, A>, column: &str) -> Result<(), AllocError>
-    ensures { OnOk result (line.new.items ≡ line.old.items ++ in_column column.now) }
-{
-    push_str(line, " column ")?;
-    push_str(line, column)
-}
-
-fn push_data_error<A: Heap>(
-    line: &mut Vec<u8, A>,
-    table: &str,
-    column: &str,
-    error: LoadError,
-) -> Result<(), AllocError>
-    ensures { OnOk result (line.new.items ≡ line.old.items ++ data_line table.now column.now error) }
-{
-    push_str(line, "data ")?;
-    push_str(line, table)?;
-    match error {
-        LoadError::Header => push_str(line, " header"),
-        LoadError::Reader { row } => push_row(line, row),
-        LoadError::Cell { row, column: _ } => {
-            push_row(line, row)?;
-            push_column(line, column)
-        }
-        LoadError::NotNull { row, column: _ } => {
-            push_row(line, row)?;
-            push_column(line, column)?;
-            push_str(line, " null")
-        }
-        LoadError::TooMany => push_str(line, " limit"),
-    }
-}
-
 fn push_error<A: Heap>(line: &mut Vec<u8, A>, fault: &SetupError<A>) -> Result<(), AllocError>
     ensures { OnOk result (line.new.items ≡ line.old.items ++ error_line fault.now) }
 {
@@ -85,7 +45,7 @@ fn push_error<A: Heap>(line: &mut Vec<u8, A>, fault: &SetupError<A>) -> Result<(
             table,
             column,
             error,
-        } => push_data_error(line, table.as_str(), column.as_str(), *error),
+        } => push_load_error(line, table.as_str(), column.as_str(), *error),
     }
 }
 
@@ -101,8 +61,8 @@ fn push_failure<A: Heap>(
     }
 }
 
-/// The line of a failure, with LF.
-pub fn line_of<A: Heap>(
+// The line of a failure, with LF.
+fn line_of<A: Heap>(
     alloc: A,
     failure: &Failure<SetupError<A>>,
 ) -> Result<Vec<u8, A>, AllocError>

@@ -2,21 +2,11 @@
 use Rattle.std.proofs.Common.{◌≡◌, ℕ, zero, suc, ◌+◌, ◌≤◌, Bool, true, false, cond, List, [], ◌∷◌, map, set, get_or, find, Option, Some, None, refl, ap, ◌∙◌, arith}
 use Rattle.std.specs.List.{position_from}
 use Rattle.memory.proofs.Cases.{some_is, none_is_not, some_is_not}
+use Rattle.catalog.proofs.Positions.{some_of}
+use Rattle.row_objects.proofs.Marks.{at_least}
 use Rattle.catalog.specs.Checks.{first_changed}
 
-some_of : (i j : ℕ) → i ≡ j → ◌≡◌ {A = Option ℕ} (Some i) (Some j)
-some_of i j e = cc
-
 module _ {E : Type 0} (p : E → Bool) where
-  -- an index is counted from the first number on
-  at_least : (es : List E) (k i : ℕ) → position_from p k es ≡ Some i → k ≤ i
-  at_least [] k i h = absurd (none_is_not i h)
-  at_least (e ∷ es) k i h = go (p e) h (at_least es (k + 1) i)
-    where
-      go : (b : Bool) → cond b (Some k) (position_from p (k + 1) es) ≡ Some i → (position_from p (k + 1) es ≡ Some i → k + 1 ≤ i) → k ≤ i
-      go true h more = let q = some_is k i h in omega arith
-      go false h more = let q = more h in omega arith
-
   -- no entry, so that nothing changes and nothing is found
   pub none_from : (f : E → E) (es : List E) (k : ℕ) → position_from p k es ≡ None → (first_changed p f es ≡ es) × (find p es ≡ None)
   none_from f [] k h = (refl, refl)
@@ -37,7 +27,7 @@ module _ {E : Type 0} (p : E → Bool) where
       where
         go : (b : Bool) → cond b (Some k) (position_from p (k + 1) (map v xs)) ≡ Some (k + zero) → cond b (Some (v x)) (find p (map v xs)) ≡ Some (v x)
         go true h = refl
-        go false h = absurd (let q = at_least (map v xs) (k + 1) (k + zero) h in omega arith)
+        go false h = absurd (let q = at_least p (map v xs) (k + 1) (k + zero) h in omega arith)
     found_from (x ∷ xs) k (suc i) h = go (p (v x)) h (found_from xs (k + 1) i)
       where
         go : (b : Bool) → cond b (Some k) (position_from p (k + 1) (map v xs)) ≡ Some (k + suc i)
@@ -57,7 +47,7 @@ module _ {E : Type 0} (p : E → Bool) where
         where
           go : (b : Bool) → cond b (Some k) (position_from p (k + 1) (map v xs)) ≡ Some (k + zero) → v y ∷ map v xs ≡ cond b (f (v x) ∷ map v xs) (v x ∷ first_changed p f (map v xs))
           go true h = ap (λ e. e ∷ map v xs) is
-          go false h = absurd (let q = at_least (map v xs) (k + 1) (k + zero) h in omega arith)
+          go false h = absurd (let q = at_least p (map v xs) (k + 1) (k + zero) h in omega arith)
       set_from (x ∷ xs) k (suc i) h is = go (p (v x)) h (λ h. set_from xs (k + 1) i h is)
         where
           go : (b : Bool) → cond b (Some k) (position_from p (k + 1) (map v xs)) ≡ Some (k + suc i)

@@ -28,10 +28,6 @@ count_is cols n rows t count is = count ∙ ap (λ (v : TableRows). length v.row
 
 -- ---- no rows came
 
-pub at_err : {T E : Type 0} {P : Type 0} (r : Result T E) → P → OnErr r P
-at_err (Ok x) p = tt
-at_err (Err e) p = p
-
 no_value : {T E : Type 0} (P : Type 0) (r : Result T E) (e : E) → IsErrAnd r (λ y. y ≡ e) → OnOk r P
 no_value P (Ok x) e is = absurd is
 no_value P (Err y) e is = tt

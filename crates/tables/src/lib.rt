@@ -44,5 +44,5 @@ mod load;
 mod load_errors;
 mod table;
 
-pub use load_errors::column_name;
+pub use load_errors::{column_name, push_load_error};
 pub use table::{Table, law_no_null_text};

@@ -1,4 +1,5 @@
 pub mod Cells
+pub mod Conditions
 pub mod DatumOrder
 pub mod DigitValue
 pub mod NoUtf8

@@ -1,7 +1,7 @@
 use Rattle.std.proofs.Common.{◌++◌, ◌∙◌, ap, append_assoc}
 use Rattle.std.specs.Prelude.{codes}
 use Rattle.std.specs.Fmt.{decimal}
-use Rattle.setup.proofs.Outcomes.{on_ok}
+use Rattle.memory.proofs.Cases.{on_ok}
 use Rattle.setup.proofs.line.push_syntax_error.Goals as goal
 
 pub returns : goal.returns

@@ -1,8 +1,8 @@
 use Rattle.std.proofs.Common.{◌≡◌, ◌∙◌, Some, ap, inl, sym}
 use Rattle.std.specs.List.{slice_get}
 use Rattle.std.proofs.lemmas.Option.{slice_get-map}
+use Rattle.memory.proofs.Cases.{on_ok}
 use Rattle.setup.specs.Loads.{names_of}
-use Rattle.setup.proofs.Outcomes.{on_ok}
 use Rattle.setup.proofs.Tables.{if_err}
 use Rattle.setup.proofs.load.load_at.Goals as goal
 

@@ -1,5 +1,5 @@
 use Rattle.std.proofs.Common.{Ok, inl}
-use Rattle.setup.proofs.Outcomes.{on_ok}
+use Rattle.memory.proofs.Cases.{on_ok}
 use Rattle.setup.proofs.Tables.{fault_known, if_err, load_known}
 use Rattle.setup.proofs.load.load_named.Goals as goal
 

@@ -1,6 +1,7 @@
 use Rattle.std.proofs.Common.{◌≡◌, ◌<◌, ◌++◌, ◌∷◌, List, [], map, take, length, get_or, set, sym, ap, subst, ◌∙◌, arith}
 use Rattle.std.proofs.lemmas.List.{length-map, map-set}
 use Rattle.std.proofs.Math.Seq.{map-set_same}
+use Rattle.memory.proofs.Cases.{at_err}
 use Rattle.value.specs.Columns.{fits_type}
 use Rattle.value.specs.Datum.{Datum, datum_of}
 use Rattle.value.specs.declared.types.ColType.{ColType}
@@ -9,7 +10,6 @@ use Rattle.columns.specs.Data.{cells_of, type_of}
 use Rattle.columns.specs.Held.{HoldRows}
 use Rattle.columns.specs.Rows.{TypedRows, row_across, rows_from}
 use Rattle.columns.proofs.Growth.{item_is, length-rows, length-unfinished, one_held, one_more, rows_kept}
-use Rattle.columns.proofs.Unchanged.{at_err}
 use Rattle.columns.proofs.rows.Rows.push_cell.Goals as goal
 
 pub index_mut-requires : goal.index_mut-requires

@@ -1,5 +1,5 @@
 use Rattle.std.proofs.Common.{subst, sym, ◌∙◌}
-use Rattle.tables.proofs.Appends.{at_err}
+use Rattle.memory.proofs.Cases.{at_err}
 use Rattle.store.specs.Derived.{AreDerived}
 use Rattle.store.specs.Loads.{due_rows}
 use Rattle.store.proofs.Derivations.{first_kept}
