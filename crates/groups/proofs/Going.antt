@@ -65,8 +65,3 @@ over_unless : {X Y : Type 0} (view : X → Y) (known : Option Fault) (xs : List 
 unfolding over
 over_unless view None xs = refl
 over_unless view (Some f) xs = refl
-
-unfolding over
-gives_over view (Ok xs) due h = ap (over view) h
-gives_over view (Err (failures.Error f)) due h = ap (over view) h
-gives_over view (Err failures.OutOfMemory) due h = tt

@@ -10,7 +10,7 @@ use Rattle.std.proofs.lemmas.Simd.{zip2_splat, zip2_splat_left}
 use Rattle.value.specs.Datum.{Datum, null, int, text, bool}
 use Rattle.value.specs.Operators.{commutator}
 use Rattle.value.specs.Orders.{of_bool, test_of}
-use Rattle.value.proofs.Operators.{commuted}
+use Rattle.value.proofs.Commutators.{commuted}
 use Rattle.value.specs.declared.order.Truth.{Truth}
 use Rattle.value.specs.declared.operators.Comparison.{Comparison}
 use Rattle.value.specs.declared.operators.Comparison.TheVariants.{Equal, NotEqual, Less, LessOrEqual, Greater, GreaterOrEqual}

@@ -87,20 +87,6 @@ module _ {K T : Type 0} (kind : T → K) {A B : Type 0} (k : List A → B) (r : 
   list_go zero us x vs l h e = absurd (omega arith)
   list_go (suc n) us x vs l h e = let q : suc n - 1 ≡ n = omega arith in rw (h, e, q) (ends_cons k x (many_at kind false r p n vs))
 
-  -- ---- a run that goes on has a further value, so only the result of one or more counts
-
-  unfolding many_at
-  ends_more k' lim zero us a l h = absurd (omega arith)
-  ends_more k' lim (suc n) us a l h = rw h (go (r us))
-    where
-      next : (y : A) (o : Outcome T (List A)) → ends k (o >>= λ xs. Ok (y ∷ xs.0, xs.1)) ≡ ends k' (o >>= λ xs. Ok (y ∷ xs.0, xs.1))
-      next y (Ok q) = ap (λ (b : B). let o : Outcome T B = Ok (b, q.1) in o) (a y q.0)
-      next y (Err stop) = refl
-
-      go : (o : Outcome T A) → ends k (o >>= λ y. many_at kind lim r p n y.1 >>= λ xs. Ok (y.0 ∷ xs.0, xs.1)) ≡ ends k' (o >>= λ y. many_at kind lim r p n y.1 >>= λ xs. Ok (y.0 ∷ xs.0, xs.1))
-      go (Ok q) = next q.0 (many_at kind lim r p n q.1)
-      go (Err stop) = refl
-
 -- ---- a first value, and a run of further ones
 
 module _ {L : Language} (G : Grammar L) (w d : ℕ) {A B C : Type 0} (make : A → List B → C) (g : Form L A) (lim : Bool) (h : Form L B) (ts : List L.Token) where
