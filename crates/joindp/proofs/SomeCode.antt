@@ -82,14 +82,20 @@ module _ (at : Setting) where
       let step = both (((nat_le 1 (i + 1) && nat_le (i + 1) (length at.frame)) && not (is_among placed i)) && is_connected at placed i) true order refl in
       rw e (both ((((nat_le 1 (i + 1) && nat_le (i + 1) (length at.frame)) && not (is_among placed i)) && is_connected at placed i) && true) (are_allowed_steps at (placed ++ i ∷ []) ss) step rest)
 
-  some_steps_after : (n : ℕ) (placed : List ℕ) → length placed + n ≡ length at.frame → (ss : List CodeStep) × (length ss ≡ n) × (are_allowed_steps at placed ss ≡ true)
+  -- so many steps after those that placed the entries
+  abbrev Steps : (n : ℕ) → (placed : List ℕ) → Type 0
+  Steps n placed = (ss : List CodeStep) × (length ss ≡ n) × (are_allowed_steps at placed ss ≡ true)
+
+  one_more : (n : ℕ) (placed : List ℕ) (i : ℕ) → i < length at.frame → may_follow placed i ≡ true → Steps n (placed ++ i ∷ []) → Steps (suc n) placed
+  one_more n placed i below may (ss, many, rest) = (plain_step i ∷ ss, ap suc many, allowed placed i below may ss rest)
+
+  some_steps_after : (n : ℕ) (placed : List ℕ) → length placed + n ≡ length at.frame → Steps n placed
   some_steps_after zero placed all = ([], refl, refl)
   some_steps_after (suc n) placed all =
       let f = some_follows placed (omega arith) in
       let l = length-append placed (f.0 ∷ []) in
-      let rest = some_steps_after n (placed ++ f.0 ∷ []) (omega (arith, l, all)) in
-      (plain_step f.0 ∷ rest.0, ap suc rest.1, allowed placed f.0 f.1 f.2 rest.0 rest.2)
+      one_more n placed f.0 f.1 f.2 (some_steps_after n (placed ++ f.0 ∷ []) (omega (arith, l, all)))
 
   -- steps that a code may have where no condition is never true
-  pub some_steps : (ss : List CodeStep) × (length ss ≡ length at.frame) × (are_allowed_steps at [] ss ≡ true)
+  pub some_steps : Steps (length at.frame) []
   some_steps = some_steps_after (length at.frame) [] (zero-add (length at.frame))
