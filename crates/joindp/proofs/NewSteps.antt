@@ -13,7 +13,7 @@ use Rattle.trailcheck.specs.Admissible.{condition_at, is_allowed_access, is_some
 use Rattle.trailcheck.specs.Settings.{Setting}
 use Rattle.trailcheck.specs.Shapes.{entry_index}
 use Rattle.joindp.specs.Best.{Problem}
-use Rattle.joindp.specs.Orders.{Order, facing, merged_order, numbered, order_after, sides_held}
+use Rattle.joins.specs.Orders.{Order, facing, merged_order, numbered, order_after, sides_held}
 use Rattle.joindp.specs.Following.{equates_with, may_be_next, may_follow, may_join_by, span}
 use Rattle.joindp.specs.Search.{HasOrders, IsListed}
 

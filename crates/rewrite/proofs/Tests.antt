@@ -19,11 +19,6 @@ pub not_then : (a b : Bool) → (a ≡ true → b ≡ true) → b ≡ false → 
 not_then true b f h = absurd (both_ways b h (f refl))
 not_then false b f h = refl
 
-pub turned : (a b c : Bool) → a || (b || c) ≡ b || (a || c)
-turned true true c = refl
-turned true false c = refl
-turned false b c = refl
-
 pub equal_turned : (a b : ℕ) → (a == b) ≡ (b == a)
 equal_turned a b = go (a == b) refl
   where

@@ -1,5 +1,4 @@
 pub mod Laws
 pub mod Placing
-pub mod Plain
 pub mod Simplifying
 pub mod Trails
