@@ -7,7 +7,7 @@ use Rattle.std.specs.Cmp.Lexicographic.{slice_cmp}
 use Rattle.std.proofs.lemmas.Bool.{both_ways, eq-eqb, le-ltb, ne_eqb, not-true, not_from_false}
 use Rattle.expr.specs.declared.code.CodeStep.{CodeStep}
 use Rattle.expr.specs.Codes.{Empty, Steps, code_cmp}
-use Rattle.eval.proofs.Movables.{and_left, and_right}
+use Rattle.predicates.proofs.Movables.{and_left, and_right}
 use Rattle.predicates.proofs.Keeping.{both}
 use Rattle.trailcheck.specs.Admissible.{is_refuted, are_allowed_steps, is_admissible}
 use Rattle.joindp.specs.declared.best.Best.{Best}

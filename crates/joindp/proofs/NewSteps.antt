@@ -6,7 +6,7 @@ use Rattle.expr.specs.declared.code.Method.{Method}
 use Rattle.expr.specs.declared.code.Method.TheVariants.{Nested, Hash, Merge}
 use Rattle.expr.specs.declared.code.CodeStep.{CodeStep}
 use Rattle.expr.specs.Bound.{BoundExpr}
-use Rattle.eval.proofs.Movables.{and_left, and_right}
+use Rattle.predicates.proofs.Movables.{and_left, and_right}
 use Rattle.predicates.specs.Equalities.{column_sides}
 use Rattle.stats.specs.Card.{Entries}
 use Rattle.trailcheck.specs.Admissible.{condition_at, is_allowed_access, is_some_and}

@@ -5,7 +5,7 @@ use Rattle.std.proofs.lemmas.Bool.{cases_lt, le-leb, not_from_false, or_left, or
 use Rattle.expr.specs.declared.code.Access.TheVariants.{Full}
 use Rattle.expr.specs.declared.code.Method.TheVariants.{Nested}
 use Rattle.expr.specs.declared.code.CodeStep.{CodeStep}
-use Rattle.eval.proofs.Movables.{and_left, and_right}
+use Rattle.predicates.proofs.Movables.{and_left, and_right}
 use Rattle.predicates.proofs.Keeping.{both}
 use Rattle.trailcheck.specs.Admissible.{is_joined, is_waiting, some_waiting, is_connected, are_allowed_steps}
 use Rattle.trailcheck.specs.Entries.{is_among}

@@ -5,7 +5,7 @@ use Rattle.std.proofs.lemmas.Bool.{both_ways, cases_lt, eqb-true, eq-eqb, leb-tr
 use Rattle.std.proofs.lemmas.List.{length-map, length-reverse, reverse-append}
 use mathlib.Core.List.{reverse_aux}
 use Rattle.expr.specs.declared.code.CodeStep.{CodeStep}
-use Rattle.eval.proofs.Movables.{and_left, and_right}
+use Rattle.predicates.proofs.Movables.{and_left, and_right}
 use Rattle.predicates.proofs.Keeping.{both}
 use Rattle.trailcheck.specs.Admissible.{is_connected, is_next, is_allowed_access, is_allowed_method, is_allowed_step, are_allowed_steps}
 use Rattle.trailcheck.specs.Entries.{is_among}

@@ -9,7 +9,7 @@ use Rattle.expr.specs.declared.code.CodeStep.{CodeStep}
 use Rattle.expr.specs.Bound.{BoundExpr}
 use Rattle.expr.specs.Codes as codes
 use Rattle.expr.specs.Columns.{columns}
-use Rattle.eval.proofs.Movables.{and_left, and_right}
+use Rattle.predicates.proofs.Movables.{and_left, and_right}
 use Rattle.predicates.proofs.Keeping.{both}
 use Rattle.row_terms.specs.Terms.{Term, Raw, Guarded, Filtered, Joined, covers}
 use Rattle.row_terms.specs.Written.{filters}

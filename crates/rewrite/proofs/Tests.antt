@@ -2,7 +2,7 @@
 use Rattle.std.proofs.Common.{◌≡◌, refl, sym, ap₂, ℕ, suc, Bool, true, false, ◌&&◌, ◌||◌, not, cond, ◌==◌, List, [], ◌∷◌, length, filter, arith}
 use Rattle.std.specs.List.{list_all, list_any}
 use Rattle.std.proofs.lemmas.Bool.{or_left, or_right, or_from, both_ways, eqb-true, eq-eqb, ne_eqb, not_from_false, not-true}
-use Rattle.eval.proofs.Movables.{and_left, and_right}
+use Rattle.predicates.proofs.Movables.{and_left, and_right}
 use Rattle.predicates.proofs.Keeping.{both}
 
 -- ---- one test

@@ -1,7 +1,7 @@
 //! The rows of tables, from the files of a folder.
 
 ghost use Rattle.std.specs.Prelude.{◌≡◌, ◌<◌, ℕ, List, length, None, Option, Ok, IfErr, IfOk, OnErr, OnOk, true};
-ghost use Rattle.catalog.specs.Catalog.{is_table};
+ghost use Rattle.store.specs.Catalog.{is_table};
 ghost use Rattle.tables.specs.LoadErrors.{column_name};
 ghost use Rattle.store.specs.Database.{columns_in};
 ghost use Rattle.store.specs.Loads.{IsLoadFrom};
