@@ -5,14 +5,13 @@ ghost use Rattle.std.specs.Io.KnownBytes.{Appends};
 ghost use Rattle.output.specs.Taken.{Begins, one_more};
 ghost use Rattle.replies.specs.Reply.{no_memory};
 ghost use Rattle.replies.specs.ReplyText.{reply_text};
-ghost use Rattle.store.specs.Database.{rows_of};
+ghost use Rattle.engine.specs.Database.{rows_of};
 ghost use Rattle.engine.specs.Answer.{reply_to};
 ghost use Rattle.engine.specs.Serving.{IsWhole};
 
-use engine::serve;
+use engine::{Store, serve};
 use memory::Heap;
 use output::Out;
-use store::Store;
 
 /// The arguments of `rowplan query`.
 #[derive(Clone, Copy, Debug)]

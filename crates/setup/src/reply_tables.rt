@@ -3,15 +3,14 @@
 ghost use Rattle.std.specs.Prelude.{◌≡◌, ◌≢◌, ◌⊎◌};
 ghost use Rattle.output.specs.Taken.{one_more};
 ghost use Rattle.replies.specs.Reply.{no_memory};
-ghost use Rattle.store.specs.Database.{rows_of};
+ghost use Rattle.engine.specs.Database.{rows_of};
 ghost use Rattle.engine.specs.Answer.{reply_to};
 ghost use Rattle.tabular.specs.Writing.{BeginsTable, IsTable};
 
 use crate::arguments::Arguments;
-use engine::ask;
+use engine::{Store, ask};
 use memory::Heap;
 use output::Out;
-use store::Store;
 use tabular::write_table;
 
 /// Writes the reply to the query of the arguments, asked by their role, its rows as a table, and returns its status: 0

@@ -1,5 +1,5 @@
 use Rattle.replies.specs.View.{reply_of}
-use Rattle.store.specs.Database.{rows_of}
+use Rattle.engine.specs.Database.{rows_of}
 use Rattle.engine.specs.Answer.{reply_to}
 use Rattle.tabular.specs.Writing.{BeginsTable, IsTable}
 use Rattle.tabular.proofs.Due.{of_due}
