@@ -15,4 +15,3 @@ pub use Rattle.store.specs.Catalog
 pub use Rattle.store.specs.Checks
 pub use Rattle.store.specs.Loads
 pub use Rattle.store.specs.declared.store.StoreError
-pub use Rattle.store.specs.declared.store.StoreError.TheVariants

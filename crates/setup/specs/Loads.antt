@@ -5,7 +5,7 @@ use Rattle.memory.specs.declared.failure.Failure.TheVariants as failure
 use Rattle.tables.specs.Loading.{TableRows}
 use Rattle.value.specs.Names.{Name}
 use Rattle.tables.specs.LoadErrors.{column_name}
-use Rattle.engine.specs.TheVariants.{Data}
+use Rattle.engine.specs.StoreError.TheVariants.{Data}
 use Rattle.engine.specs.Database.{columns_in}
 use Rattle.engine.specs.Loads.{IsLoadFrom}
 use Rattle.setup.specs.declared.error.SetupError.{SetupError}
