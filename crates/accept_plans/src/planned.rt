@@ -9,7 +9,7 @@ use fixture_plans::{run_over, tables_of};
 use fixtures::{contents, sales};
 use memory::Items;
 use resolve::{Bound, bind};
-use rewrite::{place, plain_code, simplify};
+use rewrite::{place, simplify};
 use row_ast::Query;
 use row_terms::written;
 use std::alloc::{AllocError, Global};
@@ -20,44 +20,29 @@ use syntax::parse_query;
 use trailcheck::{Setting, judge};
 use tuples::{Work, World};
 
-// Each line has a role, a query or its name, the code of a plan, and the number of the combinations that it gives; `plain`
-// is the least code of full scans and nested joins.
-const ROWS: &str = "audit | ONE | plain | 1
-alice | ONE | plain | 0
-bob | ONE | plain | 1
-guest | SELECT id FROM deal | plain | 0
-audit | BOTH | plain | 1
-root | PAIR | plain | 3
+// Each line has a role, a query or its name, the code of a plan, and the number of the combinations that it gives.
+const ROWS: &str = "audit | ONE | 1 f n | 1
+alice | ONE | 1 f n | 0
+bob | ONE | 1 f n | 1
+guest | SELECT id FROM deal | 1 f n | 0
+audit | BOTH | 1 f n | 1
+root | PAIR | 1 f n, 2 f n | 3
 root | PAIR | 2 f n, 1 f n | 3
 alice | RIGHT | 2 f n, 1 f n | 3
-root | CHAIN | plain | 4
+root | CHAIN | 1 f n, 2 f n, 3 f n | 4
 root | CHAIN | 3 f n, 2 f n, 1 f n | 4
 alice | CHAIN | 2 f n, 1 f n, 3 f n | 2
 root | THREE | 2 f n, 1 f n, 3 f n | 45
-root | VALUE | plain | 2
+root | VALUE | 1 f n, 2 f n | 2
 root | VALUE | 2 f n, 1 f n | 2
-root | NEVER | plain | 0
 root | NEVER | empty | 0
-root | SELECT id FROM deal WHERE 1 = 1 AND parts = 0 | plain | 2
-root | SELECT id FROM deal WHERE id = 3 AND id = 3 | plain | 1
+root | SELECT id FROM deal WHERE 1 = 1 AND parts = 0 | 1 f n | 2
+root | SELECT id FROM deal WHERE id = 3 AND id = 3 | 1 f n | 1
 root | SELECT id FROM deal WHERE id = 3 AND NULL | empty | 0
-alice | SELECT id FROM deal WHERE NOT (id < 3 OR owner = 'bob') | plain | 1
+alice | SELECT id FROM deal WHERE NOT (id < 3 OR owner = 'bob') | 1 f n | 1
 root | SELECT a.id FROM deal a, deal b WHERE a.owner = b.owner AND a.id < b.id | 2 f n, 1 f n | 4
 root | SELECT a.id FROM deal a, deal b, deal c WHERE a.id = c.id AND 2 < c.id AND (b.id = c.id AND 1 = 1) | 3 f n, 2 f n, 1 f n | 3
 ";
-
-// The code of a row.
-fn code_of_row(
-    rt: &(impl Abort + AllocGlobal),
-    setting: &Setting<Global>,
-    text: &str,
-) -> Result<Code<Global>, AllocError> {
-    if text == "plain" {
-        plain_code(rt.alloc(), setting)
-    } else {
-        made_code(rt, text)
-    }
-}
 
 // The trail of a planner to the shape of a code.
 fn planned(
@@ -118,7 +103,7 @@ fn run_bound(
 ) -> Result<(), AllocError> {
     let ([role, _, code, want], _) = fields(line);
     let setting = made_setting(rt.alloc(), store.catalog(), role, bound, "")?;
-    let code = code_of_row(rt, &setting, code)?;
+    let code = made_code(rt, code)?;
     accepts(rt, &setting, bound, &code, 2881)?;
     let found = count(rt, store, role, &setting, bound, &code)?;
     assert!(rt; want.parse::<usize>() == Ok(found), "{line}");
@@ -191,7 +176,7 @@ fn accepts_greatest(
     };
     let setting = made_setting(rt.alloc(), store.catalog(), "root", &bound, "")?;
     assert!(rt; setting.conditions.len() == 64, "not 64 conditions");
-    let code = code_of_row(rt, &setting, code)?;
+    let code = made_code(rt, code)?;
     accepts(rt, &setting, &bound, &code, 2881)
 }
 
@@ -204,7 +189,8 @@ fn trails_of_the_greatest_query_are_accepted(rt: HostRuntime) -> Result<(), Fail
     let Ok(query) = parse_query(rt.alloc(), text.as_str()) else {
         panic!(rt; "no query");
     };
-    accepts_greatest(&rt, &store, &query, "plain")?;
+    let written = "1 f n, 2 f n, 3 f n, 4 f n, 5 f n, 6 f n, 7 f n, 8 f n";
+    accepts_greatest(&rt, &store, &query, written)?;
     let turned = "8 f n, 7 f n, 6 f n, 5 f n, 4 f n, 3 f n, 2 f n, 1 f n";
     accepts_greatest(&rt, &store, &query, turned)?;
     Ok(())

@@ -2,12 +2,12 @@
 
 use crate::verdicts::made_setting;
 use bound_plans::{named, plan_entries};
-use expr::MovableExpr;
-use fixtures::{audited, sales};
+use expr::{Code, MovableExpr};
+use fixtures::{audited, code_of, sales};
 use memory::Items;
 use plan_texts::{Plan, write_plan};
 use resolve::{Bound, bind};
-use rewrite::{place, plain_code, simplify};
+use rewrite::{place, simplify};
 use row_ast::{Expr, Query};
 use scope::Entry;
 use std::alloc::{AllocError, AllocGlobal, Global};
@@ -16,20 +16,20 @@ use std::test::Fail;
 use store::Store;
 use syntax::parse_query;
 
-// A role and a query, with ` | ` between them.
+// A role, the code of a plan and a query, with ` | ` between them.
 const QUERIES: &str = "\
-audit | SELECT id FROM deal WHERE id = 3
-alice | SELECT id FROM deal WHERE id = 3
-guest | SELECT id FROM deal
-root | SELECT deal.id FROM deal, region WHERE deal.id = 1
-root | SELECT r.id FROM deal d JOIN region r ON d.region = r.id WHERE d.owner IN ('it''s', 'bob') AND d.region = 2
-root | SELECT a.id FROM deal a, deal b, deal c WHERE a.id = c.id AND 2 < c.id AND (b.id = c.id AND 1 = 1)
-alice | SELECT id FROM deal WHERE NOT (id < 3 OR owner = 'bob')
-bob | SELECT id FROM deal WHERE owner NOT IN ('é', 'x') OR amount NOT BETWEEN -5 AND parts
-root | SELECT id FROM deal WHERE CASE WHEN owner = CURRENT_USER THEN id IS NULL WHEN parts > 0 THEN FALSE ELSE region IS NOT NULL END
-root | SELECT id FROM deal WHERE CASE WHEN owner = 'x' THEN id END = 1
-root | SELECT id FROM deal WHERE NOT CASE WHEN id = 1 THEN NULL END = NULL
-root | SELECT deal.id FROM deal, region WHERE 1 = 2
+audit | 1 f n | SELECT id FROM deal WHERE id = 3
+alice | 1 f n | SELECT id FROM deal WHERE id = 3
+guest | 1 f n | SELECT id FROM deal
+root | 1 f n, 2 f n | SELECT deal.id FROM deal, region WHERE deal.id = 1
+root | 1 f n, 2 f n | SELECT r.id FROM deal d JOIN region r ON d.region = r.id WHERE d.owner IN ('it''s', 'bob') AND d.region = 2
+root | 1 f n, 3 f n, 2 f n | SELECT a.id FROM deal a, deal b, deal c WHERE a.id = c.id AND 2 < c.id AND (b.id = c.id AND 1 = 1)
+alice | 1 f n | SELECT id FROM deal WHERE NOT (id < 3 OR owner = 'bob')
+bob | 1 f n | SELECT id FROM deal WHERE owner NOT IN ('é', 'x') OR amount NOT BETWEEN -5 AND parts
+root | 1 f n | SELECT id FROM deal WHERE CASE WHEN owner = CURRENT_USER THEN id IS NULL WHEN parts > 0 THEN FALSE ELSE region IS NOT NULL END
+root | 1 f n | SELECT id FROM deal WHERE CASE WHEN owner = 'x' THEN id END = 1
+root | 1 f n | SELECT id FROM deal WHERE NOT CASE WHEN id = 1 THEN NULL END = NULL
+root | empty | SELECT deal.id FROM deal, region WHERE 1 = 2
 ";
 
 // The conditions as trees, with their columns named.
@@ -45,16 +45,16 @@ fn filters(
     Ok(filters)
 }
 
-// The text of the plan of the plain code.
+// The text of the plan of a code.
 fn plan_text(
     alloc: Global,
     store: &Store<Global>,
     role: &str,
+    code: Code<Global>,
     bound: &Bound<'_, Global>,
 ) -> Result<Vec<u8>, AllocError> {
     let entries = bound.entries.as_slice();
     let setting = made_setting(alloc, store.catalog(), role, bound, "")?;
-    let code = plain_code(alloc, &setting)?;
     let trail = place(alloc, &setting, simplify(alloc, &bound.query)?.trail, &code)?;
     let plan = Plan {
         cost: 0,
@@ -70,13 +70,17 @@ fn is_accepted(
     rt: &(impl Abort + AllocGlobal),
     store: &Store<Global>,
     role: &str,
+    code: &str,
     text: &str,
     query: &Query<Global>,
 ) -> Result<(), AllocError> {
+    let Some(code) = code_of(rt.alloc(), code)? else {
+        panic!(rt; "{text}: no code");
+    };
     let Ok(bound) = bind(rt.alloc(), store.catalog(), query) else {
         panic!(rt; "{text}: not bound");
     };
-    let plan = plan_text(rt.alloc(), store, role, &bound)?;
+    let plan = plan_text(rt.alloc(), store, role, code, &bound)?;
     let (status, out) = audited(rt.alloc(), store, role, text, plan.as_slice());
     assert_eq!(rt;
         std::str::from_utf8(out.inner.as_slice()),
@@ -92,9 +96,10 @@ fn plans_of_the_planner_are_accepted_as_texts(rt: HostRuntime) -> Result<(), Fai
     let store = sales(rt.alloc())?;
     assert!(rt; !QUERIES.is_empty());
     for row in QUERIES.lines() {
-        let (role, text) = row.split_once(" | ").unwrap_or(("", row));
+        let (role, rest) = row.split_once(" | ").unwrap_or(("", row));
+        let (code, text) = rest.split_once(" | ").unwrap_or(("", rest));
         match parse_query(rt.alloc(), text) {
-            Ok(query) => is_accepted(&rt, &store, role, text, &query)?,
+            Ok(query) => is_accepted(&rt, &store, role, code, text, &query)?,
             Err(_) => panic!(rt; "{text}: no query"),
         }
     }

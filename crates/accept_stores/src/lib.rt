@@ -1,8 +1,10 @@
 //! Tests of stores that go through the whole program: opened from a schema text and files, loaded, asked with writers that
-//! fail, with memory that is refused, and what is said of refused texts; and calls that take no memory. docs/ACCEPTANCE.md lists
-//! them.
+//! fail, with memory that is refused, and what is said of refused texts; calls that take no memory; and rows in aligned columns.
+//! docs/ACCEPTANCE.md lists them.
 #![tactic(auto)]
 
+#[cfg(test)]
+mod aligned_columns;
 #[cfg(test)]
 mod explanations;
 #[cfg(test)]

@@ -13,11 +13,11 @@ use Rattle.tuples.specs.Guards.{Guard}
 use Rattle.stats.specs.Statistics.{Stats}
 use Rattle.algebra.specs.PlanningList.{planning_list}
 use Rattle.algebra.specs.Steps.{Step}
-use Rattle.rewrite.specs.Placing.{placing}
-use Rattle.rewrite.specs.Simplifying.{simplifying}
+use Rattle.planning.specs.Placing.{placing}
+use Rattle.planning.specs.Simplifying.{simplifying}
 use Rattle.trailcheck.specs.Settings.{Setting}
-use Rattle.joindp.specs.Best.{Problem, estimates}
-use Rattle.joindp.specs.Cost.{cost}
+use Rattle.planning.specs.LeastCode.{Problem, estimates}
+use Rattle.planning.specs.Cost.{cost}
 use Rattle.planning.specs.Best.{best}
 use Rattle.planning.specs.LastSort.{last_sort}
 use Rattle.planning.specs.Plans as planning

@@ -10,3 +10,8 @@ pub mod Serving
 pub mod Settings
 pub mod View
 pub use Rattle.analysis.specs.Analysis
+pub use Rattle.store.specs.Database
+pub use Rattle.store.specs.Catalog
+pub use Rattle.store.specs.Checks
+pub use Rattle.store.specs.Loads
+pub use Rattle.store.specs.declared.store.StoreError

@@ -19,7 +19,7 @@ use Rattle.joindp.specs.declared.candidates.MergeOrder.{MergeOrder}
 use Rattle.joindp.specs.Best.{Problem, estimates}
 use Rattle.joindp.specs.Candidates.{AreCandidates, Asks, IsCandidate, asked, sorting_for}
 use Rattle.joindp.specs.Cost.{Estimates, access_cost, join_cost, step_cost_of}
-use Rattle.joindp.specs.Orders.{Order, facing, is_ordered_by, merge_sorting, merged_order, numbered, order_after, order_of, sides, sides_held, sorting_unless}
+use Rattle.joins.specs.Orders.{Order, facing, is_ordered_by, merge_sorting, merged_order, numbered, order_after, order_of, sides, sides_held, sorting_unless}
 use Rattle.joindp.specs.Following.{equates_with, may_follow, may_join_by, span}
 use Rattle.joindp.specs.Search.{After, AreSizes, cost_of_step, entry_count, next, search, set_of}
 use Rattle.joindp.specs.Walks.{IsBestFrom, IsBestOf, IsPick, Plan, with_first}

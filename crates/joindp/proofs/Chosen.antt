@@ -1,5 +1,5 @@
 -- The best plan of the search is the least code.
-use Rattle.std.proofs.Common.{◌≡◌, ◌∙◌, refl, sym, ap, ℕ, ◌<◌, ◌≤◌, inl, inr, true, false, not, ◌&&◌, ◌==◌, List, [], ◌∷◌, length, cond, Option, Some, None, arith, eqb-true}
+use Rattle.std.proofs.Common.{◌≡◌, ◌∙◌, refl, sym, ap, ℕ, ◌<◌, ◌≤◌, inl, inr, true, false, not, ◌&&◌, ◌==◌, List, [], ◌∷◌, length, Option, Some, None, arith, eqb-true}
 use Rattle.std.specs.declared.cmp.Ordering.TheVariants.{Less, Equal, Greater}
 use Rattle.std.specs.Option.{IsSome}
 use Rattle.std.specs.Ordering.{nat_cmp, ordering_then}
@@ -7,17 +7,16 @@ use Rattle.std.specs.Cmp.Lexicographic.{slice_cmp}
 use Rattle.std.proofs.lemmas.Bool.{both_ways, eq-eqb, le-ltb, ne_eqb, not-true, not_from_false}
 use Rattle.expr.specs.declared.code.CodeStep.{CodeStep}
 use Rattle.expr.specs.Codes.{Empty, Steps, code_cmp}
-use Rattle.eval.proofs.Movables.{and_left, and_right}
+use Rattle.predicates.proofs.Movables.{and_left, and_right}
 use Rattle.predicates.proofs.Keeping.{both}
 use Rattle.trailcheck.specs.Admissible.{is_refuted, are_allowed_steps, is_admissible}
-use Rattle.rewrite.specs.Plain.{plain_code, plain_steps}
-use Rattle.rewrite.proofs.PlainCodes.{plain_is_admissible}
 use Rattle.joindp.specs.declared.best.Best.{Best}
 use Rattle.joindp.specs.Best.{Problem, estimates, plan_cmp, IsLeast}
 use Rattle.joindp.specs.Cost.{cost}
 use Rattle.joindp.specs.Search.{Start, entry_count, plan_of, search}
 use Rattle.joindp.specs.Walks.{IsNoLater, IsNoWorse, Plan, numbers, IsPath, path_cost, IsBestFrom}
 use Rattle.joindp.proofs.Paths.{path_of, steps_of, cost_of_all}
+use Rattle.joindp.proofs.SomeCode.{some_steps}
 
 -- ---- two ways to say that no plan comes before another
 
@@ -52,8 +51,8 @@ module _ (p : Problem) (few : entry_count p ≤ 12) (open' : is_refuted p.settin
   -- there is a plan
   some_path : ((t : List CodeStep) → IsPath (search p) Start t → ⊥) → ⊥
   some_path none =
-      let e : plain_code p.setting ≡ Steps (plain_steps p.setting (length p.setting.frame) []) = ap (λ b. cond b Empty (Steps (plain_steps p.setting (length p.setting.frame) []))) open' in
-      none (plain_steps p.setting (length p.setting.frame) []) (steps_path (plain_steps p.setting (length p.setting.frame) []) (sym (ap (is_admissible p.setting) e) ∙ plain_is_admissible p.setting))
+      let some = some_steps p.setting in
+      none some.0 (path_of p few some.0 some.2 some.1)
 
   pub some_plan : {A : Type 0} (plan : Option (Best A)) → IsBestFrom (search p) Start (plan_of plan) → IsSome plan
   some_plan None best = absurd (some_path best)

@@ -18,10 +18,10 @@ use Rattle.stats.specs.declared.selection.Selection as declared
 use Rattle.trailcheck.specs.Admissible.{are_allowed_steps, is_admissible, is_allowed_access, is_allowed_method, is_allowed_step, is_connected, is_next, is_refuted}
 use Rattle.trailcheck.specs.Entries.{is_among}
 use Rattle.trailcheck.specs.Settings.{Setting}
-use Rattle.rewrite.proofs.Distinct.{among_more}
+use Rattle.trailcheck.proofs.Placed.{among_more}
 use Rattle.trailcheck.specs.Shapes.{entry_index}
 use Rattle.joindp.specs.Cost.{Estimates, cost_after, entry_size, factor_held, last_sorting, size, step_cost, step_cost_of}
-use Rattle.joindp.specs.Orders.{Order, is_ordered_by, numbered, order_after, sorting_unless}
+use Rattle.joins.specs.Orders.{Order, is_ordered_by, numbered, order_after, sorting_unless}
 use Rattle.joindp.proofs.OneBit.{or_false}
 
 -- ---- bits

@@ -1,7 +1,7 @@
 -- The listed steps that may follow a set of placed entries are all that may.
-use Rattle.std.proofs.Common.{◌≡◌, ℕ, zero, suc, ◌+◌, ◌-◌, ◌<◌, ◌≤◌, Bool, true, false, cond, ◌&&◌, ◌==◌, nat_le, List, [], ◌∷◌, ◌++◌, length, map, filter, Option, Some, None, slice_get, refl, sym, ap, ◌∙◌, subst, arith, ◌⊎◌, inl, inr}
-use Rattle.std.specs.List.{flat_map, list_any, range_with_len}
-use Rattle.std.proofs.lemmas.Bool.{and_from, and_parts, cases_eq, eq-eqb, eqb-true, le-leb, leb-true, or_cases, or_left, or_right}
+use Rattle.std.proofs.Common.{◌≡◌, ℕ, zero, suc, ◌+◌, ◌-◌, ◌<◌, ◌≤◌, Bool, true, ◌&&◌, nat_le, List, length, filter, Option, Some, None, slice_get, refl, ap, ◌∙◌, subst, arith, ◌⊎◌, inl, inr}
+use Rattle.std.specs.List.{flat_map, range_with_len}
+use Rattle.std.proofs.lemmas.Bool.{and_from, and_parts, le-leb, leb-true}
 use Rattle.std.proofs.lemmas.Option.{slice_get_within}
 use Rattle.expr.specs.declared.code.Access.{Access}
 use Rattle.expr.specs.declared.code.Access.TheVariants.{Full, Index, Range}
@@ -15,136 +15,30 @@ use Rattle.trailcheck.specs.Settings.{Setting}
 use Rattle.trailcheck.specs.Shapes.{entry_index}
 use Rattle.joindp.specs.Following.{accesses, all_numbers, by_index, columns_indexed, equates_with, following, is_equality, joins_on, may_be_next, may_follow, may_join_by, methods, parts_of_index, step_of, steps_by, steps_to}
 use Rattle.joindp.specs.Walks.{IsOneOf}
-
--- ---- elements of lists
-
--- the element is one of the list
-abbrev pub IsIn : {X : Type 0} → List X → X → Type 0
-IsIn [] x = ⊥
-IsIn (y ∷ ys) x = (y ≡ x) ⊎ IsIn ys x
-
-module _ {X : Type 0} where
-  in_left : (xs ys : List X) (x : X) → IsIn xs x → IsIn (xs ++ ys) x
-  in_left [] ys x h = absurd h
-  in_left (z ∷ zs) ys x (inl e) = inl e
-  in_left (z ∷ zs) ys x (inr h) = inr (in_left zs ys x h)
-
-  in_right : (xs ys : List X) (x : X) → IsIn ys x → IsIn (xs ++ ys) x
-  in_right [] ys x h = h
-  in_right (z ∷ zs) ys x h = inr (in_right zs ys x h)
-
-  from_append : (xs ys : List X) (x : X) → IsIn (xs ++ ys) x → IsIn xs x ⊎ IsIn ys x
-  from_append [] ys x h = inr h
-  from_append (z ∷ zs) ys x (inl e) = inl (inl e)
-  from_append (z ∷ zs) ys x (inr h) = at (from_append zs ys x h)
-    where
-      at : IsIn zs x ⊎ IsIn ys x → IsIn (z ∷ zs) x ⊎ IsIn ys x
-      at (inl a) = inl (inr a)
-      at (inr b) = inr b
-
-  in_filter : (p : X → Bool) (xs : List X) (x : X) → IsIn xs x → p x ≡ true → IsIn (filter p xs) x
-  in_filter p [] x h passes = h
-  in_filter p (y ∷ ys) x h passes = at (p y) refl h (λ k. in_filter p ys x k passes)
-    where
-      at : (b : Bool) → p y ≡ b → (y ≡ x) ⊎ IsIn ys x → (IsIn ys x → IsIn (filter p ys) x) → IsIn (cond b (y ∷ filter p ys) (filter p ys)) x
-      at true e (inl same) rest = inl same
-      at true e (inr there) rest = inr (rest there)
-      at false e (inl same) rest = let no : false ≡ true = sym e ∙ ap p same ∙ passes in absurd (cc)
-      at false e (inr there) rest = rest there
-
-  from_filter : (p : X → Bool) (xs : List X) (x : X) → IsIn (filter p xs) x → IsIn xs x × (p x ≡ true)
-  from_filter p [] x h = absurd h
-  from_filter p (y ∷ ys) x h = at (p y) refl h (from_filter p ys x)
-    where
-      at : (b : Bool) → p y ≡ b → IsIn (cond b (y ∷ filter p ys) (filter p ys)) x → (IsIn (filter p ys) x → IsIn ys x × (p x ≡ true)) → ((y ≡ x) ⊎ IsIn ys x) × (p x ≡ true)
-      at true e (inl same) rest = (inl same, ap p (sym same) ∙ e)
-      at true e (inr there) rest = let k = rest there in (inr k.0, k.1)
-      at false e there rest = let k = rest there in (inr k.0, k.1)
-
-module _ {X Y : Type 0} where
-  in_map : (f : X → Y) (xs : List X) (x : X) → IsIn xs x → IsIn (map f xs) (f x)
-  in_map f [] x h = h
-  in_map f (y ∷ ys) x (inl e) = inl (ap f e)
-  in_map f (y ∷ ys) x (inr h) = inr (in_map f ys x h)
-
-  from_map : (f : X → Y) (xs : List X) (y : Y) → IsIn (map f xs) y → (x : X) × IsIn xs x × (f x ≡ y)
-  from_map f [] y h = absurd h
-  from_map f (x ∷ xs) y (inl e) = (x, inl refl, e)
-  from_map f (x ∷ xs) y (inr h) = let k = from_map f xs y h in (k.0, inr k.1, k.2)
-
-  in_flat_map : (f : X → List Y) (xs : List X) (x : X) (y : Y) → IsIn xs x → IsIn (f x) y → IsIn (flat_map f xs) y
-  in_flat_map f [] x y h k = absurd h
-  in_flat_map f (z ∷ zs) x y (inl e) k = in_left (f z) (flat_map f zs) y (subst (λ w. IsIn (f w) y) (sym e) k)
-  in_flat_map f (z ∷ zs) x y (inr h) k = in_right (f z) (flat_map f zs) y (in_flat_map f zs x y h k)
-
-  from_flat_map : (f : X → List Y) (xs : List X) (y : Y) → IsIn (flat_map f xs) y → (x : X) × IsIn xs x × IsIn (f x) y
-  from_flat_map f [] y h = absurd h
-  from_flat_map f (x ∷ xs) y h = at (from_append (f x) (flat_map f xs) y h) (from_flat_map f xs y)
-    where
-      at : IsIn (f x) y ⊎ IsIn (flat_map f xs) y → (IsIn (flat_map f xs) y → (z : X) × IsIn xs z × IsIn (f z) y) → (z : X) × IsIn (x ∷ xs) z × IsIn (f z) y
-      at (inl here) rest = (x, inl refl, here)
-      at (inr there) rest = let k = rest there in (k.0, inr k.1, k.2)
-
-in_range : (a n i : ℕ) → a ≤ i → i < a + n → IsIn (range_with_len a n) i
-in_range a zero i from below = absurd (omega arith)
-in_range a (suc n) i from below = at (cases_eq a i) (λ other. in_range (a + 1) n i other (omega arith))
-  where
-    at : (a ≡ i) ⊎ (a ≡ i → ⊥) → (a + 1 ≤ i → IsIn (range_with_len (a + 1) n) i) → (a ≡ i) ⊎ IsIn (range_with_len (a + 1) n) i
-    at (inl same) rest = inl same
-    at (inr other) rest = inr (rest (omega arith))
-
-from_range : (a n i : ℕ) → IsIn (range_with_len a n) i → (a ≤ i) × (i < a + n)
-from_range a zero i h = absurd h
-from_range a (suc n) i (inl same) = (omega arith, omega arith)
-from_range a (suc n) i (inr there) = let k = from_range (a + 1) n i there in (omega (arith, k.0), omega (arith, k.1))
-
--- a number that some element of a list equals is one of the list
-in_any : (xs : List ℕ) (x : ℕ) → list_any (λ c. c == x) xs ≡ true → IsIn xs x
-in_any [] x h = absurd (cc)
-in_any (y ∷ ys) x h = at (or_cases (y == x) (list_any (λ c. c == x) ys) h) (in_any ys x)
-  where
-    at : ((y == x) ≡ true) ⊎ (list_any (λ c. c == x) ys ≡ true) → (list_any (λ c. c == x) ys ≡ true → IsIn ys x) → (y ≡ x) ⊎ IsIn ys x
-    at (inl here) rest = inl (eqb-true y x here)
-    at (inr there) rest = inr (rest there)
-
-from_any : (xs : List ℕ) (x : ℕ) → IsIn xs x → list_any (λ c. c == x) xs ≡ true
-from_any [] x h = absurd h
-from_any (y ∷ ys) x (inl same) = or_left (y == x) (list_any (λ c. c == x) ys) (eq-eqb y x same)
-from_any (y ∷ ys) x (inr there) = or_right (y == x) (list_any (λ c. c == x) ys) (from_any ys x there)
-
--- a step that is in the list is one of it
-one_of : (steps : List CodeStep) (s : CodeStep) → IsIn steps s → IsOneOf steps s
-one_of [] s h = h
-one_of (d ∷ ds) s (inl same) = inl same
-one_of (d ∷ ds) s (inr there) = inr (one_of ds s there)
-
-from_one_of : (steps : List CodeStep) (s : CodeStep) → IsOneOf steps s → IsIn steps s
-from_one_of [] s h = h
-from_one_of (d ∷ ds) s (inl same) = inl same
-from_one_of (d ∷ ds) s (inr there) = inr (from_one_of ds s there)
+use Rattle.joindp.proofs.Elements.{from_any, from_filter, from_flat_map, from_map, from_range, in_any, in_filter, in_flat_map, in_map, in_range}
 
 module _ (at : Setting) where
   -- a number under which there is a condition
-  numbered : (test : BoundExpr → Bool) (number : ℕ) → is_some_and test (condition_at at number) ≡ true → IsIn (all_numbers at) number
+  pub numbered : (test : BoundExpr → Bool) (number : ℕ) → is_some_and test (condition_at at number) ≡ true → IsOneOf (all_numbers at) number
   numbered test zero h = absurd (cc)
   numbered test (suc k) h = go (slice_get at.conditions k) refl h
     where
-      go : (o : Option BoundExpr) → slice_get at.conditions k ≡ o → is_some_and test o ≡ true → IsIn (range_with_len 1 (length at.conditions)) (suc k)
+      go : (o : Option BoundExpr) → slice_get at.conditions k ≡ o → is_some_and test o ≡ true → IsOneOf (range_with_len 1 (length at.conditions)) (suc k)
       go None e passes = absurd (cc)
       go (Some x) e passes = let within = slice_get_within at.conditions k x e in in_range 1 (length at.conditions) (suc k) (omega arith) (omega arith)
 
   -- ---- accesses
 
   module _ (entry : ℕ) where
-    in_columns : (column : ℕ) (o : Option (List ℕ)) → is_listed column o ≡ true → IsIn (columns_indexed o) column
+    in_columns : (column : ℕ) (o : Option (List ℕ)) → is_listed column o ≡ true → IsOneOf (columns_indexed o) column
     in_columns column None h = absurd (cc)
     in_columns column (Some columns) h = in_any columns column h
 
-    from_columns : (column : ℕ) (o : Option (List ℕ)) → IsIn (columns_indexed o) column → is_listed column o ≡ true
+    from_columns : (column : ℕ) (o : Option (List ℕ)) → IsOneOf (columns_indexed o) column → is_listed column o ≡ true
     from_columns column None h = absurd h
     from_columns column (Some columns) h = from_any columns column h
 
-    all_accesses : (a : Access) → is_allowed_access at entry a ≡ true → IsIn (accesses at entry) a
+    all_accesses : (a : Access) → is_allowed_access at entry a ≡ true → IsOneOf (accesses at entry) a
     all_accesses Full h = inl refl
     all_accesses (Index column) h =
         inr (in_flat_map (by_index at entry) (columns_indexed (slice_get at.indexed entry)) column (Index column) (in_columns column (slice_get at.indexed entry) h) (inl refl))
@@ -154,55 +48,55 @@ module _ (at : Setting) where
         let number = in_filter test (all_numbers at) bound (numbered (bounds entry column) bound parts.1) parts.1 in
         inr (in_flat_map (by_index at entry) (columns_indexed (slice_get at.indexed entry)) column (Range column bound) (in_columns column (slice_get at.indexed entry) parts.0) (inr (in_map (λ (n : ℕ). Range column n) (filter test (all_numbers at)) bound number)))
 
-    allowed : (a : Access) → IsIn (accesses at entry) a → is_allowed_access at entry a ≡ true
+    allowed : (a : Access) → IsOneOf (accesses at entry) a → is_allowed_access at entry a ≡ true
     allowed a (inl same) = subst (λ x. is_allowed_access at entry x ≡ true) same refl
     allowed a (inr there) = go (from_flat_map (by_index at entry) (columns_indexed (slice_get at.indexed entry)) a there)
       where
-        part : (column : ℕ) → is_indexed at entry column ≡ true → (n : ℕ) × IsIn (filter (λ number. is_some_and (bounds entry column) (condition_at at number)) (all_numbers at)) n × (Range column n ≡ a) → is_allowed_access at entry a ≡ true
+        part : (column : ℕ) → is_indexed at entry column ≡ true → (n : ℕ) × IsOneOf (filter (λ number. is_some_and (bounds entry column) (condition_at at number)) (all_numbers at)) n × (Range column n ≡ a) → is_allowed_access at entry a ≡ true
         part column listed (n, passing, same) =
             let k = from_filter (λ (number : ℕ). is_some_and (bounds entry column) (condition_at at number)) (all_numbers at) n passing in
             subst (λ x. is_allowed_access at entry x ≡ true) same (and_from (is_indexed at entry column) (is_some_and (bounds entry column) (condition_at at n)) listed k.1)
 
-        by : (column : ℕ) → is_indexed at entry column ≡ true → (Index column ≡ a) ⊎ IsIn (parts_of_index at entry column) a → is_allowed_access at entry a ≡ true
+        by : (column : ℕ) → is_indexed at entry column ≡ true → (Index column ≡ a) ⊎ IsOneOf (parts_of_index at entry column) a → is_allowed_access at entry a ≡ true
         by column listed (inl same) = subst (λ x. is_allowed_access at entry x ≡ true) same listed
         by column listed (inr h) = part column listed (from_map (λ (n : ℕ). Range column n) (filter (λ number. is_some_and (bounds entry column) (condition_at at number)) (all_numbers at)) a h)
 
-        go : (column : ℕ) × IsIn (columns_indexed (slice_get at.indexed entry)) column × IsIn (by_index at entry column) a → is_allowed_access at entry a ≡ true
+        go : (column : ℕ) × IsOneOf (columns_indexed (slice_get at.indexed entry)) column × IsOneOf (by_index at entry column) a → is_allowed_access at entry a ≡ true
         go (column, listed, h) = by column (from_columns column (slice_get at.indexed entry) listed) h
 
   -- ---- methods
 
   module _ (placed : Entries) (entry : ℕ) where
-    in_joins : (number : ℕ) (m : Method) → IsIn (joins_on number) m → is_equality at placed entry number ≡ true → IsIn (flat_map joins_on (filter (is_equality at placed entry) (all_numbers at))) m
+    in_joins : (number : ℕ) (m : Method) → IsOneOf (joins_on number) m → is_equality at placed entry number ≡ true → IsOneOf (flat_map joins_on (filter (is_equality at placed entry) (all_numbers at))) m
     in_joins number m h passes =
         in_flat_map joins_on (filter (is_equality at placed entry) (all_numbers at)) number m (in_filter (is_equality at placed entry) (all_numbers at) number (numbered (equates_with placed entry) number passes) passes) h
 
-    all_methods : (m : Method) → may_join_by at placed entry m ≡ true → IsIn (methods at placed entry) m
+    all_methods : (m : Method) → may_join_by at placed entry m ≡ true → IsOneOf (methods at placed entry) m
     all_methods Nested h = inl refl
     all_methods (Hash conjunct) h = inr (in_joins conjunct (Hash conjunct) (inl refl) h)
     all_methods (Merge conjunct) h = inr (in_joins conjunct (Merge conjunct) (inr (inl refl)) h)
 
-    may_join : (m : Method) → IsIn (methods at placed entry) m → may_join_by at placed entry m ≡ true
+    may_join : (m : Method) → IsOneOf (methods at placed entry) m → may_join_by at placed entry m ≡ true
     may_join m (inl same) = subst (λ x. may_join_by at placed entry x ≡ true) same refl
     may_join m (inr there) = go (from_flat_map joins_on (filter (is_equality at placed entry) (all_numbers at)) m there)
       where
-        by : (number : ℕ) → is_equality at placed entry number ≡ true → IsIn (joins_on number) m → may_join_by at placed entry m ≡ true
+        by : (number : ℕ) → is_equality at placed entry number ≡ true → IsOneOf (joins_on number) m → may_join_by at placed entry m ≡ true
         by number passes (inl same) = subst (λ x. may_join_by at placed entry x ≡ true) same passes
         by number passes (inr (inl same)) = subst (λ x. may_join_by at placed entry x ≡ true) same passes
         by number passes (inr (inr h)) = absurd h
 
-        go : (number : ℕ) × IsIn (filter (is_equality at placed entry) (all_numbers at)) number × IsIn (joins_on number) m → may_join_by at placed entry m ≡ true
+        go : (number : ℕ) × IsOneOf (filter (is_equality at placed entry) (all_numbers at)) number × IsOneOf (joins_on number) m → may_join_by at placed entry m ≡ true
         go (number, passing, h) = by number (from_filter (is_equality at placed entry) (all_numbers at) number passing).1 h
 
   -- ---- steps
 
   module _ (placed : Entries) where
-    step_listed : (s : CodeStep) → 1 ≤ s.entry → s.entry ≤ length at.frame → may_be_next at placed (entry_index s) ≡ true → is_allowed_access at (entry_index s) s.access ≡ true → may_join_by at placed (entry_index s) s.method ≡ true → IsIn (following at placed) s
+    step_listed : (s : CodeStep) → 1 ≤ s.entry → s.entry ≤ length at.frame → may_be_next at placed (entry_index s) ≡ true → is_allowed_access at (entry_index s) s.access ≡ true → may_join_by at placed (entry_index s) s.method ≡ true → IsOneOf (following at placed) s
     step_listed s from within next access method =
         let i : ℕ = entry_index s in
         let number : i + 1 ≡ s.entry = omega arith in
         let same : step_of i s.access s.method ≡ s = ap (λ (n : ℕ). let t : CodeStep = record { entry = n; access = s.access; method = s.method } in t) number in
-        let by = subst (IsIn (steps_by at placed i s.access)) same (in_map (step_of i s.access) (methods at placed i) s.method (all_methods placed i s.method method)) in
+        let by = subst (IsOneOf (steps_by at placed i s.access)) same (in_map (step_of i s.access) (methods at placed i) s.method (all_methods placed i s.method method)) in
         let to = in_flat_map (steps_by at placed i) (accesses at i) s.access s (all_accesses i s.access access) by in
         in_flat_map (steps_to at placed) (filter (may_be_next at placed) (range_with_len 0 (length at.frame))) i s
         (in_filter (may_be_next at placed) (range_with_len 0 (length at.frame)) i (in_range 0 (length at.frame) i (omega arith) (omega arith)) next) to
@@ -222,18 +116,18 @@ all_followed at placed s h =
     let place = and_parts within (may_be_next at placed i) whole.0 in
     let range = and_parts (nat_le 1 s.entry) (nat_le s.entry (length at.frame)) place.0 in
     let way = and_parts (is_allowed_access at i s.access) (may_join_by at placed i s.method) whole.1 in
-    one_of (following at placed) s (step_listed at placed s (leb-true 1 s.entry range.0) (leb-true s.entry (length at.frame) range.1) place.1 way.0 way.1)
+    step_listed at placed s (leb-true 1 s.entry range.0) (leb-true s.entry (length at.frame) range.1) place.1 way.0 way.1
 
 pub followed : (at : Setting) (placed : Entries) (s : CodeStep) → IsOneOf (following at placed) s → may_follow at placed s ≡ true
-followed at placed s h = entries (from_flat_map (steps_to at placed) (filter (may_be_next at placed) (range_with_len 0 (length at.frame))) s (from_one_of (following at placed) s h))
+followed at placed s h = entries (from_flat_map (steps_to at placed) (filter (may_be_next at placed) (range_with_len 0 (length at.frame))) s h)
   where
-    ways : (i : ℕ) → i < length at.frame → may_be_next at placed i ≡ true → (a : Access) → is_allowed_access at i a ≡ true → (m : Method) × IsIn (methods at placed i) m × (step_of i a m ≡ s) → may_follow at placed s ≡ true
+    ways : (i : ℕ) → i < length at.frame → may_be_next at placed i ≡ true → (a : Access) → is_allowed_access at i a ≡ true → (m : Method) × IsOneOf (methods at placed i) m × (step_of i a m ≡ s) → may_follow at placed s ≡ true
     ways i within next a access (m, listed, same) = subst (λ x. may_follow at placed x ≡ true) same (step_follows at placed i a m within next access (may_join at placed i m listed))
 
-    reads : (i : ℕ) → i < length at.frame → may_be_next at placed i ≡ true → (a : Access) × IsIn (accesses at i) a × IsIn (steps_by at placed i a) s → may_follow at placed s ≡ true
+    reads : (i : ℕ) → i < length at.frame → may_be_next at placed i ≡ true → (a : Access) × IsOneOf (accesses at i) a × IsOneOf (steps_by at placed i a) s → may_follow at placed s ≡ true
     reads i within next (a, listed, there) = ways i within next a (allowed at i a listed) (from_map (step_of i a) (methods at placed i) s there)
 
-    entries : (i : ℕ) × IsIn (filter (may_be_next at placed) (range_with_len 0 (length at.frame))) i × IsIn (steps_to at placed i) s → may_follow at placed s ≡ true
+    entries : (i : ℕ) × IsOneOf (filter (may_be_next at placed) (range_with_len 0 (length at.frame))) i × IsOneOf (steps_to at placed i) s → may_follow at placed s ≡ true
     entries (i, listed, there) =
         let k = from_filter (may_be_next at placed) (range_with_len 0 (length at.frame)) i listed in
         let r = from_range 0 (length at.frame) i k.0 in

@@ -8,7 +8,7 @@ use Rattle.expr.specs.declared.code.Method.TheVariants.{Nested, Hash, Merge}
 use Rattle.expr.specs.declared.code.CodeStep.{CodeStep}
 use Rattle.expr.specs.Bound.{BoundExpr}
 use Rattle.expr.specs.Codes.{Code, Empty, Steps}
-use Rattle.tuples.specs.Guards.{Guard}
+use Rattle.trailcheck.specs.Guards.{Guard}
 use Rattle.trailcheck.specs.Admissible.{are_allowed_steps, bounds, condition_at, equates, is_admissible, is_allowed_access, is_allowed_method, is_allowed_step, is_connected, is_indexed, is_joined, is_next, is_refuted, is_some_and, is_waiting}
 use Rattle.trailcheck.specs.Entries.{is_among}
 use Rattle.trailcheck.specs.Settings.{Setting}

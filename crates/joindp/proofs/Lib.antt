@@ -2,6 +2,7 @@ pub mod Asked
 pub mod Bests
 pub mod Chosen
 pub mod Costs
+pub mod Elements
 pub mod Followed
 pub mod Guards
 pub mod Improved
@@ -14,3 +15,4 @@ pub mod PlacedSets
 pub mod Reached
 pub mod Rows
 pub mod Sized
+pub mod SomeCode

@@ -11,7 +11,7 @@ use Rattle.expr.specs.Bound.{BoundExpr}
 use Rattle.predicates.specs.Equalities.{column_sides}
 use Rattle.trailcheck.specs.Admissible.{bounds, condition_at, is_allowed_access, is_indexed, is_listed, is_some_and}
 use Rattle.joindp.specs.Best.{Problem}
-use Rattle.joindp.specs.Orders.{Order, facing, order_of, sides, sides_held}
+use Rattle.joins.specs.Orders.{Order, facing, order_of, sides, sides_held}
 use Rattle.joindp.specs.Search.{AreKept, HasIndexes, HasOrders, HasSides, IsListed}
 
 -- what follows from both, where a call succeeds

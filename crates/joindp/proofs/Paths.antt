@@ -3,14 +3,14 @@ use Rattle.std.proofs.Common.{◌≡◌, ◌∙◌, refl, sym, ap, ap₂, ℕ, �
 use mathlib.Core.Path.{fun_ext}
 use Rattle.std.proofs.lemmas.Bool.{eq-eqb}
 use Rattle.expr.specs.declared.code.CodeStep.{CodeStep}
-use Rattle.eval.proofs.Movables.{and_left, and_right}
+use Rattle.predicates.proofs.Movables.{and_left, and_right}
 use Rattle.predicates.proofs.Keeping.{both}
 use Rattle.stats.specs.Card.{Entries}
 use Rattle.trailcheck.specs.Admissible.{is_allowed_step, are_allowed_steps}
 use Rattle.trailcheck.specs.Shapes.{entry_index}
 use Rattle.joindp.specs.Best.{Problem, estimates}
 use Rattle.joindp.specs.Cost.{access_cost, cost_after, step_cost, steps_cost}
-use Rattle.joindp.specs.Orders.{Order, order_after, order_of}
+use Rattle.joins.specs.Orders.{Order, order_after, order_of}
 use Rattle.joindp.specs.Following.{may_follow}
 use Rattle.joindp.specs.Search.{After, Start, entry_count, search, set_of}
 use Rattle.joindp.specs.Walks.{IsPath, path_cost}

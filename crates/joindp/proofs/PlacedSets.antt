@@ -1,16 +1,17 @@
 -- A list of placed entries and the set of them: the same steps may follow both.
-use Rattle.std.proofs.Common.{◌≡◌, ◌∙◌, refl, sym, ap, subst, ℕ, zero, suc, ◌+◌, ◌-◌, ◌^◌, ◌<◌, ◌≤◌, Bool, true, false, ◌&&◌, ◌||◌, not, ◌==◌, nat_lt, nat_le, List, [], ◌∷◌, ◌++◌, length, reverse, Option, Some, None, arith, length-append, zero-add}
+use Rattle.std.proofs.Common.{◌≡◌, ◌∙◌, refl, sym, ap, ap₂, subst, ℕ, ◌+◌, ◌-◌, ◌^◌, ◌<◌, ◌≤◌, ◌⊎◌, inl, inr, Bool, true, false, ◌&&◌, ◌||◌, not, ◌==◌, nat_eq, nat_le, List, [], ◌∷◌, ◌++◌, length, Option, Some, None, arith, length-append, zero-add}
 use mathlib.Core.Path.{fun_ext}
 use Rattle.std.specs.Int.{bit_at}
-use Rattle.std.specs.List.{list_all, range_with_len}
-use Rattle.std.proofs.lemmas.Bool.{lt-ltb, ltb-true}
+use Rattle.std.specs.List.{AllByRecursion, IsDistinct, list_any}
+use Rattle.std.proofs.lemmas.Bool.{eqb-true, lt-ltb, or_cases, or_parts}
+use Rattle.std.proofs.lemmas.Cmp.{nat_eq_equiv}
+use Rattle.std.proofs.lemmas.Map.Keys.{IsDistinct-cons}
+use Rattle.std.proofs.lemmas.Map.Steps.{le-length_from_below, length-le_from_distinct_below}
 use Rattle.expr.specs.declared.bound.ColumnId.{ColumnId}
 use Rattle.expr.specs.declared.code.Method.{Method}
 use Rattle.expr.specs.declared.code.Method.TheVariants.{Nested, Hash, Merge}
 use Rattle.expr.specs.declared.code.CodeStep.{CodeStep}
 use Rattle.expr.specs.Bound.{BoundExpr}
-use Rattle.eval.proofs.Movables.{and_left, and_right}
-use Rattle.predicates.proofs.Keeping.{both}
 use Rattle.predicates.specs.Equalities.{column_sides}
 use Rattle.stats.specs.Card.{Entries}
 use Rattle.std.proofs.lemmas.Nat.{pow_pos}
@@ -19,8 +20,7 @@ use Rattle.trailcheck.specs.Admissible.{is_some_and, are_across, equates, condit
 use Rattle.trailcheck.specs.Entries.{is_among}
 use Rattle.trailcheck.specs.Settings.{Setting}
 use Rattle.trailcheck.specs.Shapes.{entry_index}
-use Rattle.rewrite.proofs.Distinct.{Distinct, among_more, each_has, from_count, from_has}
-use Rattle.rewrite.proofs.PlainCodes.{fits, range_count, range_distinct}
+use Rattle.trailcheck.proofs.Placed.{among_more}
 use Rattle.joindp.specs.Following.{span, equates_with, may_join_by, may_be_next, may_follow}
 use Rattle.joindp.specs.Search.{set_of}
 use Rattle.joindp.proofs.OneBit.{no_bit, one_more_bit}
@@ -56,6 +56,47 @@ same_steps at placed s =
 pub same_steps_of : (at : Setting) (placed : List ℕ) (entries : Entries) → ((i : ℕ) → is_among placed i ≡ entries i) → (s : CodeStep) → is_allowed_step at placed s ≡ may_follow at entries s
 same_steps_of at placed entries same s = same_steps at placed s ∙ ap (λ (e : Entries). may_follow at e s) (fun_ext same)
 
+-- ---- lists of numbers of which none is there twice
+
+turned : (js : List ℕ) (k : ℕ) → list_any (nat_eq k) js ≡ is_among js k
+turned [] k = refl
+turned (j ∷ js) k = ap₂ (λ a b. a || b) (nat_eq_equiv.symm k j) (turned js k)
+
+-- where each number below n is there, there are as many
+pub many_where_all : (n : ℕ) (js : List ℕ) → ((k : ℕ) → k < n → is_among js k ≡ true) → n ≤ length js
+many_where_all n js each = le-length_from_below js n (λ k below. turned js k ∙ each k below)
+
+-- numbers below n are no more
+few_below : (n : ℕ) (js : List ℕ) → IsDistinct nat_eq js → ((k : ℕ) → is_among js k ≡ true → k < n) → length js ≤ n
+few_below n js distinct below = length-le_from_distinct_below js n distinct (λ k there. below k (sym (turned js k) ∙ there))
+
+none_distinct : IsDistinct nat_eq []
+unfolding IsDistinct
+none_distinct = tt
+
+-- one more that is not there
+distinct_more : (i : ℕ) (js : List ℕ) → is_among js i ≡ false → IsDistinct nat_eq js → IsDistinct nat_eq (i ∷ js)
+distinct_more i js new distinct = IsDistinct-cons nat_eq i js (others js new) distinct
+  where
+    others : (ks : List ℕ) → is_among ks i ≡ false → AllByRecursion (λ k. nat_eq i k ≡ false) ks
+    others [] e = tt
+    others (k ∷ ks) e = let parts = or_parts (k == i) (is_among ks i) e in (nat_eq_equiv.symm i k ∙ parts.0, others ks parts.1)
+
+below_more : (n i : ℕ) (js : List ℕ) → i < n → ((k : ℕ) → is_among js k ≡ true → k < n) → (k : ℕ) → is_among (i ∷ js) k ≡ true → k < n
+below_more n i js first others k there = go (or_cases (i == k) (is_among js k) there)
+  where
+    go : ((i == k) ≡ true) ⊎ (is_among js k ≡ true) → k < n
+    go (inl same) = let e = eqb-true i k same in omega (arith, e, first)
+    go (inr among) = others k among
+
+-- as many as there are numbers below n are all of them
+each_there : (n : ℕ) (js : List ℕ) → IsDistinct nat_eq js → ((k : ℕ) → is_among js k ≡ true → k < n) → length js ≡ n → (k : ℕ) → k < n → is_among js k ≡ true
+each_there n js distinct below full k within = go (is_among js k) refl
+  where
+    go : (b : Bool) → is_among js k ≡ b → is_among js k ≡ true
+    go true e = e
+    go false e = let more = few_below n (k ∷ js) (distinct_more k js e distinct) (below_more n k js within below) in absurd (omega (arith, more, full))
+
 -- ---- a list of placed entries and the bits of their set
 
 -- the bits are those of the entries of the list; js are these, each once
@@ -64,8 +105,8 @@ pub record IsPlaced (n : ℕ) (placed : List ℕ) (set : ℕ) : Type 0 where
   pub long : length js ≡ length placed
   pub same : (k : ℕ) → is_among placed k ≡ is_among js k
   pub bits : (k : ℕ) → is_among placed k ≡ set_of set k
-  pub distinct : Distinct js
-  pub below : list_all (λ i. nat_lt i n) js ≡ true
+  pub distinct : IsDistinct nat_eq js
+  pub below : (k : ℕ) → is_among js k ≡ true → k < n
   pub within : set < 2 ^ n
 
 -- a list with one entry more
@@ -75,36 +116,24 @@ placed_more n placed set i few h below new = record {
   long = let l = length-append placed (i ∷ []) in omega (arith, l, h.long);
   same = λ k. among_more placed i k ∙ ap (λ b. (i == k) || b) (h.same k);
   bits = λ k. among_more placed i k ∙ ap (λ b. (i == k) || b) (h.bits k) ∙ sym (one_more_bit set i k (omega arith) new);
-  distinct = (sym (h.same i) ∙ h.bits i ∙ new, h.distinct);
-  below = both (nat_lt i n) (list_all (λ j. nat_lt j n) h.js) (lt-ltb i n below) h.below;
+  distinct = distinct_more i h.js (sym (h.same i) ∙ h.bits i ∙ new) h.distinct;
+  below = below_more n i h.js below h.below;
   within = set_within n set i h.within below new;
 }
 
 -- no entry
 placed_none : (n : ℕ) → IsPlaced n [] 0
-placed_none n = record { js = []; long = refl; same = λ k. refl; bits = λ k. sym (no_bit k); distinct = tt; below = refl; within = pow_pos n }
+placed_none n = record { js = []; long = refl; same = λ k. refl; bits = λ k. sym (no_bit k); distinct = none_distinct; below = λ k m. absurd (cc); within = pow_pos n }
 
 -- the first entry
 pub placed_first : (n i : ℕ) → n ≤ 64 → i < n → IsPlaced n (i ∷ []) (2 ^ i)
 placed_first n i few below = subst (IsPlaced n (i ∷ [])) (zero-add (2 ^ i)) (placed_more n [] 0 i few (placed_none n) below (no_bit i))
 
-all_in_range : (n : ℕ) (js : List ℕ) → list_all (λ i. nat_lt i n) js ≡ true → list_all (is_among (reverse (range_with_len 0 n))) js ≡ true
-all_in_range n [] h = refl
-all_in_range n (j ∷ js) h =
-    both (is_among (reverse (range_with_len 0 n)) j) (list_all (is_among (reverse (range_with_len 0 n))) js) (from_has n j (ltb-true j n (and_left (nat_lt j n) (list_all (λ i. nat_lt i n) js) h)))
-    (all_in_range n js (and_right (nat_lt j n) (list_all (λ i. nat_lt i n) js) h))
-
-all_of_range : (n : ℕ) (js : List ℕ) → ((k : ℕ) → k < n → is_among js k ≡ true) → (a m : ℕ) → a + m ≤ n → list_all (is_among js) (range_with_len a m) ≡ true
-all_of_range n js h a zero within = refl
-all_of_range n js h a (suc m) within = both (is_among js a) (list_all (is_among js) (range_with_len (a + 1) m)) (h a (omega arith)) (all_of_range n js h (a + 1) m (omega arith))
-
 module _ (n : ℕ) (placed : List ℕ) (set : ℕ) (h : IsPlaced n placed set) where
   -- where as many are placed as there are, all bits are set
   pub all_placed : length placed ≡ n → set + 1 ≡ 2 ^ n
   all_placed full =
-      let l = from_count n in
-      let long : length h.js ≡ length (reverse (range_with_len 0 n)) = omega (arith, l, full, h.long) in
-      let each : (k : ℕ) → k < n → set_of set k ≡ true = λ k below. sym (h.bits k) ∙ h.same k ∙ each_has h.js (reverse (range_with_len 0 n)) long h.distinct (all_in_range n h.js h.below) k (from_has n k below) in
+      let each : (k : ℕ) → k < n → set_of set k ≡ true = λ k below. sym (h.bits k) ∙ h.same k ∙ each_there n h.js h.distinct h.below (h.long ∙ full) k below in
       let e = all_bits_set n set h.within each in
       let p = pow_pos n in
       omega (arith, e, p)
@@ -114,8 +143,6 @@ module _ (n : ℕ) (placed : List ℕ) (set : ℕ) (h : IsPlaced n placed set) w
   as_many_placed whole =
       let all : set ≡ 2 ^ n - 1 = omega arith in
       let each : (k : ℕ) → k < n → is_among h.js k ≡ true = λ k below. sym (h.same k) ∙ h.bits k ∙ ap (λ m. bit_at m k == 1) all ∙ bits_of_all n k ∙ lt-ltb k n below in
-      let a = fits (range_with_len 0 n) h.js (range_distinct 0 n) (all_of_range n h.js each 0 n (omega arith)) in
-      let b = fits h.js (reverse (range_with_len 0 n)) h.distinct (all_in_range n h.js h.below) in
-      let c = from_count n in
-      let d = range_count 0 n in
-      omega (arith, a, b, c, d, h.long)
+      let a = many_where_all n h.js each in
+      let b = few_below n h.js h.distinct h.below in
+      omega (arith, a, b, h.long)

@@ -12,14 +12,14 @@ use Rattle.expr.specs.declared.code.Method.{Method}
 use Rattle.expr.specs.declared.code.Method.TheVariants.{Nested, Hash, Merge}
 use Rattle.expr.specs.declared.code.CodeStep.{CodeStep}
 use Rattle.expr.specs.Bound.{BoundExpr}
-use Rattle.eval.proofs.Movables.{and_left, and_right}
+use Rattle.predicates.proofs.Movables.{and_left, and_right}
 use Rattle.predicates.proofs.Keeping.{both}
 use Rattle.predicates.specs.Equalities.{column_sides}
 use Rattle.stats.specs.Card.{Entries}
 use Rattle.trailcheck.specs.Admissible.{is_some_and}
 use Rattle.trailcheck.specs.Shapes.{entry_index}
 use Rattle.joindp.specs.Best.{Problem}
-use Rattle.joindp.specs.Orders.{Order, facing, merged_order, numbered, order_after, order_of, sides_held}
+use Rattle.joins.specs.Orders.{Order, facing, merged_order, numbered, order_after, order_of, sides_held}
 use Rattle.joindp.specs.Following.{equates_with, may_be_next, may_follow, may_join_by, span}
 use Rattle.joindp.specs.Search.{AreNexts, entry_count, is_last, is_order_of, is_reached, set_of}
 use Rattle.joindp.proofs.NewSteps.{is_new, same_number}

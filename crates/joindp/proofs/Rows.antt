@@ -11,7 +11,7 @@ use Rattle.stats.proofs.EntrySets.{bits_of_all}
 use Rattle.trailcheck.specs.Shapes.{entry_index}
 use Rattle.joindp.specs.declared.best.Best.{Best}
 use Rattle.joindp.specs.Best.{Problem}
-use Rattle.joindp.specs.Orders.{Order}
+use Rattle.joins.specs.Orders.{Order}
 use Rattle.joindp.specs.Following.{may_follow}
 use Rattle.joindp.specs.Search.{After, IsRow, IsTable, Start, entry_count, is_reached, last_cost, search, set_of}
 use Rattle.joindp.specs.Walks.{IsBestFrom, Plan}

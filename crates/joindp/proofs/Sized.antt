@@ -10,7 +10,7 @@ use Rattle.stats.proofs.EntrySets.{set_within}
 use Rattle.trailcheck.specs.Shapes.{entry_index}
 use Rattle.joindp.specs.Best.{Problem, estimates}
 use Rattle.joindp.specs.Cost.{entry_size, size, step_cost, step_cost_of}
-use Rattle.joindp.specs.Orders.{Order}
+use Rattle.joins.specs.Orders.{Order}
 use Rattle.joindp.specs.Following.{may_follow}
 use Rattle.joindp.specs.Search.{AreSizes, IsSmall, entry_count, set_of}
 use Rattle.joindp.specs.Walks.{Plan}

@@ -7,7 +7,7 @@ use Rattle.joindp.specs.declared.candidates.Candidate.{Candidate}
 use Rattle.joindp.specs.declared.candidates.MergeOrder.{MergeOrder}
 use Rattle.joindp.specs.Best.{Problem}
 use Rattle.joindp.specs.Cost.{Estimates, step_cost_of}
-use Rattle.joindp.specs.Orders.{Order, is_ordered_by, order_after}
+use Rattle.joins.specs.Orders.{Order, is_ordered_by, order_after}
 use Rattle.joindp.specs.Following.{following}
 use Rattle.joindp.specs.Search.{After, cost_of_step, set_of}
 use Rattle.joindp.specs.Walks.{Plan}

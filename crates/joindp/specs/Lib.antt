@@ -2,7 +2,6 @@ pub mod Best
 pub mod Candidates
 pub mod Cost
 pub mod Following
-pub mod Orders
 pub mod Search
 pub mod View
 pub mod Walks

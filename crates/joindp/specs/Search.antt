@@ -13,7 +13,7 @@ use Rattle.trailcheck.specs.Shapes.{entry_index}
 use Rattle.joindp.specs.declared.best.Best.{Best}
 use Rattle.joindp.specs.Best.{Problem, estimates}
 use Rattle.joindp.specs.Cost.{access_cost, last_sorting, size, step_cost}
-use Rattle.joindp.specs.Orders.{Order, order_after, order_of, sides}
+use Rattle.joins.specs.Orders.{Order, order_after, order_of, sides}
 use Rattle.joindp.specs.Following.{accesses, may_be_next, may_follow}
 use Rattle.joindp.specs.Walks.{Walk, Plan, IsBestFrom}
 

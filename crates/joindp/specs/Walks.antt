@@ -34,10 +34,10 @@ abbrev pub with_first : ℕ → CodeStep → Option Plan → Option Plan
 with_first n c None = None
 with_first n c (Some q) = Some (n + q.0, c ∷ q.1)
 
--- the step is one of the list
-abbrev pub IsOneOf : List CodeStep → CodeStep → Type 0
-IsOneOf [] c = ⊥
-IsOneOf (d ∷ ds) c = (d ≡ c) ⊎ IsOneOf ds c
+-- the element is one of the list
+abbrev pub IsOneOf : {X : Type 0} → List X → X → Type 0
+IsOneOf [] x = ⊥
+IsOneOf (y ∷ ys) x = (y ≡ x) ⊎ IsOneOf ys x
 
 module _ (w : Walk) where
   -- the steps lead from a state to the end

@@ -6,7 +6,7 @@ ghost use Rattle.joindp.specs.Best.{estimates};
 ghost use Rattle.joindp.specs.Candidates as spec;
 ghost use Rattle.joindp.specs.Candidates.{AreCandidates, Asks, IsCandidate};
 ghost use Rattle.joindp.specs.Cost as cost_spec;
-ghost use Rattle.joindp.specs.Orders.{Order};
+ghost use Rattle.joins.specs.Orders.{Order};
 ghost use Rattle.joindp.specs.Following.{may_follow};
 ghost use Rattle.joindp.specs.Search.{HasOrders, entry_count, set_of};
 ghost use Rattle.joindp.specs.View.{problem_of};
@@ -14,12 +14,11 @@ ghost use Rattle.joindp.specs.View.{problem_of};
 use crate::costing::step_cost;
 use crate::following::following;
 use crate::inputs::Inputs;
-use crate::ordering::{is_ordered_by, sides};
 use crate::orders::order_index;
 use crate::reaching::bit_of;
 use expr::{CodeStep, ColumnId, Method};
 use memory::{Heap, Items};
-use joins::sort_steps;
+use joins::{is_ordered_by, sides, sort_steps};
 use stats::EntrySet;
 use std::alloc::AllocError;
 use trailcheck::entry_index;
@@ -95,7 +94,8 @@ fn merge_order<A: Heap>(
     let Method::Merge { conjunct } = step.method else {
         return None;
     };
-    let (column, _) = sides(inputs.problem.setting, entry_index(step), conjunct)?;
+    let conditions = inputs.problem.setting.conditions.as_slice();
+    let (column, _) = sides(conditions, entry_index(step), conjunct)?;
     Some(MergeOrder {
         column,
         index: order_index(inputs.orders, Some(column)),

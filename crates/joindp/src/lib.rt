@@ -7,7 +7,6 @@ mod costing;
 mod following;
 mod inputs;
 mod laws;
-mod ordering;
 mod orders;
 mod problem;
 mod reaching;
@@ -15,6 +14,5 @@ mod searching;
 
 pub use costing::cost;
 pub use laws::law_guards_play_no_part;
-pub use ordering::{is_ordered_by, order_after, order_of, sides};
 pub use problem::{MAX_ENTRIES, Problem};
 pub use searching::search;

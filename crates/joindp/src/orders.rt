@@ -6,9 +6,9 @@ ghost use Rattle.predicates.specs.Equalities as equalities;
 ghost use Rattle.joindp.specs.Search.{AreKept, HasIndexes, HasOrders, HasSides, IsListed};
 ghost use Rattle.joindp.specs.View.{problem_of};
 
-use crate::ordering::order_of;
 use crate::problem::Problem;
 use expr::{Access, ColumnId, MovableExpr};
+use joins::order_of;
 use memory::{Heap, Items};
 use predicates::column_sides;
 use std::alloc::AllocError;

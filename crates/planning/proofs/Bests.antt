@@ -6,7 +6,6 @@ use Rattle.std.specs.Ordering.{nat_cmp, ordering_reverse, ordering_then}
 use Rattle.std.proofs.lemmas.Bool.{and_parts, both_ways, eqb-true, leb-true, not-true}
 use Rattle.std.proofs.lemmas.Cmp.{nat_cmp_total, nat_list_cmp_total, on_total, then_total}
 use Rattle.std.proofs.lemmas.Map.Lookups.{exact_bytes}
-use Rattle.std.proofs.lemmas.Option.{slice_get_within}
 use Rattle.expr.specs.declared.code.Access.{Access}
 use Rattle.expr.specs.declared.code.Access.TheVariants.{Full, Index, Range}
 use Rattle.expr.specs.declared.code.Method.{Method}
@@ -21,54 +20,47 @@ use Rattle.trailcheck.specs.Settings.{Setting}
 use Rattle.trailcheck.specs.Shapes.{entry_index}
 use Rattle.joindp.specs.Best.{Problem, estimates}
 use Rattle.joindp.specs.Cost.{cost}
-use Rattle.joindp.proofs.Followed.{IsIn}
+use Rattle.joindp.specs.Walks.{IsOneOf}
+use Rattle.joindp.proofs.Followed.{numbered}
+use Rattle.joindp.proofs.Elements.{from_filter, in_any, in_filter, in_flat_map, in_map, in_range, in_slice}
 use Rattle.planning.specs.Best.{LeastIsBest, accesses, accesses_by, best, by_cost, codes, condition_numbers, entry_numbers, lists_of, methods, step_of, steps}
-use Rattle.planning.proofs.Members.{in_any, in_filter, in_flat_map, in_lists, in_map, in_range, in_slice, least_found, passes_filter}
+use Rattle.planning.proofs.Members.{in_lists, least_found}
 use Rattle.planning.proofs.Numbers.{same_steps}
 
 -- ---- every code that a plan may have is listed
 
 module _ (at : Setting) where
-  -- a number under which there is a condition
-  condition_in : (test : BoundExpr → Bool) (number : ℕ) → is_some_and test (condition_at at number) ≡ true → IsIn (condition_numbers at) number
-  condition_in test zero h = absurd (cc)
-  condition_in test (suc k) h = go (slice_get at.conditions k) refl h
-    where
-      go : (o : Option BoundExpr) → slice_get at.conditions k ≡ o → is_some_and test o ≡ true → IsIn (condition_numbers at) (suc k)
-      go None e passes = absurd (cc)
-      go (Some x) e passes = let within = slice_get_within at.conditions k x e in in_range 1 (length at.conditions) (suc k) (omega arith) (omega arith)
-
-  columns_of : (column : ℕ) (o : Option (List ℕ)) → is_listed column o ≡ true → (columns : List ℕ) × (o ≡ Some columns) × IsIn columns column
+  columns_of : (column : ℕ) (o : Option (List ℕ)) → is_listed column o ≡ true → (columns : List ℕ) × (o ≡ Some columns) × IsOneOf columns column
   columns_of column None h = absurd (cc)
   columns_of column (Some columns) h = (columns, refl, in_any columns column h)
 
   -- an access by an index on a column of the entry
-  indexed_in : (entry column : ℕ) → is_indexed at entry column ≡ true → (access : Access) → IsIn (accesses_by at column) access → IsIn (accesses at) access
+  indexed_in : (entry column : ℕ) → is_indexed at entry column ≡ true → (access : Access) → IsOneOf (accesses_by at column) access → IsOneOf (accesses at) access
   indexed_in entry column h access k =
       let c = columns_of column (slice_get at.indexed entry) h in
       inr (in_flat_map (λ columns. flat_map (accesses_by at) columns) at.indexed c.0 access (in_slice at.indexed entry c.0 c.1) (in_flat_map (accesses_by at) c.0 column access c.2 k))
 
-  access_in : (entry : ℕ) (access : Access) → is_allowed_access at entry access ≡ true → IsIn (accesses at) access
+  access_in : (entry : ℕ) (access : Access) → is_allowed_access at entry access ≡ true → IsOneOf (accesses at) access
   access_in entry Full h = inl refl
   access_in entry (Index column) h = indexed_in entry column h (Index column) (inl refl)
   access_in entry (Range column bound) h =
       let parts = and_parts (is_indexed at entry column) (is_some_and (bounds entry column) (condition_at at bound)) h in
-      indexed_in entry column parts.0 (Range column bound) (inr (in_map (Range column) (condition_numbers at) bound (condition_in (bounds entry column) bound parts.1)))
+      indexed_in entry column parts.0 (Range column bound) (inr (in_map (Range column) (condition_numbers at) bound (numbered at (bounds entry column) bound parts.1)))
 
-  joining_in : (number : ℕ) (method : Method) → IsIn (condition_numbers at) number → IsIn (Hash number ∷ Merge number ∷ []) method → IsIn (methods at) method
+  joining_in : (number : ℕ) (method : Method) → IsOneOf (condition_numbers at) number → IsOneOf (Hash number ∷ Merge number ∷ []) method → IsOneOf (methods at) method
   joining_in number method h k = inr (in_flat_map (λ (n : ℕ). Hash n ∷ Merge n ∷ []) (condition_numbers at) number method h k)
 
-  method_in : (placed : List ℕ) (entry : ℕ) (method : Method) → is_allowed_method at placed entry method ≡ true → IsIn (methods at) method
+  method_in : (placed : List ℕ) (entry : ℕ) (method : Method) → is_allowed_method at placed entry method ≡ true → IsOneOf (methods at) method
   method_in placed entry Nested h = inl refl
-  method_in placed entry (Hash conjunct) h = joining_in conjunct (Hash conjunct) (condition_in (equates placed entry) conjunct h) (inl refl)
-  method_in placed entry (Merge conjunct) h = joining_in conjunct (Merge conjunct) (condition_in (equates placed entry) conjunct h) (inr (inl refl))
+  method_in placed entry (Hash conjunct) h = joining_in conjunct (Hash conjunct) (numbered at (equates placed entry) conjunct h) (inl refl)
+  method_in placed entry (Merge conjunct) h = joining_in conjunct (Merge conjunct) (numbered at (equates placed entry) conjunct h) (inr (inl refl))
 
-  step_listed : (s : CodeStep) → IsIn (entry_numbers at) s.entry → IsIn (accesses at) s.access → IsIn (methods at) s.method → IsIn (steps at) s
+  step_listed : (s : CodeStep) → IsOneOf (entry_numbers at) s.entry → IsOneOf (accesses at) s.access → IsOneOf (methods at) s.method → IsOneOf (steps at) s
   step_listed s entry access method =
       in_flat_map (λ (e : ℕ). flat_map (λ (a : Access). map (step_of e a) (methods at)) (accesses at)) (entry_numbers at) s.entry s entry
       (in_flat_map (λ (a : Access). map (step_of s.entry a) (methods at)) (accesses at) s.access s access (in_map (step_of s.entry s.access) (methods at) s.method method))
 
-  step_in : (placed : List ℕ) (s : CodeStep) → is_allowed_step at placed s ≡ true → IsIn (steps at) s
+  step_in : (placed : List ℕ) (s : CodeStep) → is_allowed_step at placed s ≡ true → IsOneOf (steps at) s
   step_in placed s h =
       let i : ℕ = entry_index s in
       let whole = and_parts (is_next at placed s && is_connected at placed i) (is_allowed_access at i s.access && is_allowed_method at placed i s.method) h in
@@ -79,13 +71,13 @@ module _ (at : Setting) where
       let last : s.entry ≤ length at.frame = leb-true s.entry (length at.frame) range.1 in
       step_listed s (in_range 1 (length at.frame) s.entry (leb-true 1 s.entry range.0) (omega arith)) (access_in i s.access way.0) (method_in placed i s.method way.1)
 
-  steps_in : (placed : List ℕ) (ss : List CodeStep) → are_allowed_steps at placed ss ≡ true → Each (IsIn (steps at)) ss
+  steps_in : (placed : List ℕ) (ss : List CodeStep) → are_allowed_steps at placed ss ≡ true → Each (IsOneOf (steps at)) ss
   steps_in placed [] h = tt
   steps_in placed (s ∷ ss) h =
       let parts = and_parts (is_allowed_step at placed s) (are_allowed_steps at (placed ++ entry_index s ∷ []) ss) h in
       (step_in placed s parts.0, steps_in (placed ++ entry_index s ∷ []) ss parts.1)
 
-  listed : (code : Code) → is_admissible at code ≡ true → IsIn (Empty ∷ map Steps (lists_of (length at.frame) (steps at))) code
+  listed : (code : Code) → is_admissible at code ≡ true → IsOneOf (Empty ∷ map Steps (lists_of (length at.frame) (steps at))) code
   listed Empty h = inl refl
   listed (Steps ss) h =
       let rest = (and_parts (not (is_refuted at)) ((length ss == length at.frame) && are_allowed_steps at [] ss) h).1 in
@@ -93,7 +85,7 @@ module _ (at : Setting) where
       let many = eqb-true (length ss) (length at.frame) parts.0 in
       inr (in_map Steps (lists_of (length at.frame) (steps at)) ss (in_lists (length at.frame) (steps at) ss many (steps_in [] ss parts.1)))
 
-  code_in : (code : Code) → is_admissible at code ≡ true → IsIn (codes at) code
+  code_in : (code : Code) → is_admissible at code ≡ true → IsOneOf (codes at) code
   code_in code h = in_filter (is_admissible at) (Empty ∷ map Steps (lists_of (length at.frame) (steps at))) code (listed code h) h
 
   -- ---- codes that a plan may have, with the same numbers, are the same
@@ -130,5 +122,6 @@ pub least_is_best : LeastIsBest
 unfolding best
 least_is_best p code may least =
     let at : Setting = p.setting in
-    let may_be : (other : Code) → IsIn (codes at) other → is_admissible at other ≡ true = passes_filter (is_admissible at) (Empty ∷ map Steps (lists_of (length at.frame) (steps at))) in
+    let may_be : (other : Code) → IsOneOf (codes at) other → is_admissible at other ≡ true =
+    λ other h. (from_filter (is_admissible at) (Empty ∷ map Steps (lists_of (length at.frame) (steps at))) other h).1 in
     least_found (by_cost p) (turned p) code (codes at) (code_in at code may) (λ other h. least other (may_be other h)) (λ other h e. same_code at other code (may_be other h) may (same_numbers p other code e))

@@ -2,7 +2,7 @@
 use Rattle.std.specs.Prelude.{◌≡◌, ◌≤◌, ℕ, true, List, ◌++◌, length, Some}
 use Rattle.expr.specs.BoundQuery.{BoundQuery}
 use Rattle.expr.specs.Codes.{Code}
-use Rattle.row_terms.specs.Written.{written}
+use Rattle.rewrite.specs.Written.{written}
 use Rattle.algebra.specs.Steps.{Step}
 use Rattle.trailcheck.specs.Admissible.{is_admissible}
 use Rattle.trailcheck.specs.Verdicts.{verdict}

@@ -4,37 +4,41 @@ ghost use Rattle.std.specs.Prelude.{◌≡◌, map, None, Some};
 ghost use Rattle.expr.specs.View.{code_of};
 ghost use Rattle.stats.specs.Statistics.{Stats};
 ghost use Rattle.joindp.specs.Best.{Problem};
+ghost use Rattle.joins.specs.Orders as orders;
 ghost use Rattle.trailcheck.specs.View.{setting_of};
 ghost use Rattle.planning.specs.LastSort as spec;
 
-use expr::{Code, CodeStep, ColumnId};
-use joindp::{is_ordered_by, order_after, order_of};
+use expr::{Code, CodeStep, ColumnId, MovableExpr};
+use joins::{is_ordered_by, order_after, order_of};
 use memory::Heap;
 use trailcheck::{Setting, entry_index};
 
 // An order, after further steps.
 fn order_after_all<A: Heap>(
-    setting: &Setting<A>,
+    conditions: &[MovableExpr<A>],
     order: Option<ColumnId>,
     steps: &[CodeStep],
 ) -> Option<ColumnId>
-    ensures { result ≡ spec.order_after_all (setting_of setting.now).conditions order steps.now }
+    ensures { result ≡ orders.order_after_all conditions.now order steps.now }
 {
     let mut known = order;
     for step in steps {
-        known = order_after(setting, entry_index(*step), known, step.method);
+        known = order_after(conditions, entry_index(*step), known, step.method);
     }
     known
 }
 
-// The order of the combinations after all steps.
-fn steps_order<A: Heap>(setting: &Setting<A>, steps: &[CodeStep]) -> Option<ColumnId>
-    ensures { result ≡ spec.steps_order (setting_of setting.now).conditions steps.now }
+// The order of the combinations of all steps.
+fn steps_order<A: Heap>(
+    conditions: &[MovableExpr<A>],
+    steps: &[CodeStep],
+) -> Option<ColumnId>
+    ensures { result ≡ orders.steps_order conditions.now steps.now }
 {
     match steps {
         [first, joins @ ..] => {
             let order = order_of(entry_index(*first), first.access);
-            order_after_all(setting, order, joins)
+            order_after_all(conditions, order, joins)
         }
         [] => None,
     }
@@ -60,6 +64,9 @@ pub(crate) fn last_sort<A: Heap>(
 {
     match code {
         Code::Empty => None,
-        Code::Steps(steps) => unless_ordered(steps_order(setting, steps.as_slice()), wanted),
+        Code::Steps(steps) => {
+            let order = steps_order(setting.conditions.as_slice(), steps.as_slice());
+            unless_ordered(order, wanted)
+        }
     }
 }

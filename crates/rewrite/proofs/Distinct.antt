@@ -5,15 +5,16 @@ use Rattle.std.proofs.lemmas.Bool.{both_ways, cases_lt, eqb-true, eq-eqb, leb-tr
 use Rattle.std.proofs.lemmas.List.{length-map, length-reverse, reverse-append}
 use mathlib.Core.List.{reverse_aux}
 use Rattle.expr.specs.declared.code.CodeStep.{CodeStep}
-use Rattle.eval.proofs.Movables.{and_left, and_right}
+use Rattle.predicates.proofs.Movables.{and_left, and_right}
 use Rattle.predicates.proofs.Keeping.{both}
 use Rattle.trailcheck.specs.Admissible.{is_connected, is_next, is_allowed_access, is_allowed_method, is_allowed_step, are_allowed_steps}
 use Rattle.trailcheck.specs.Entries.{is_among}
 use Rattle.trailcheck.specs.Settings.{Setting}
 use Rattle.trailcheck.specs.Shapes.{entry_index}
 use Rattle.trailcheck.proofs.Numbers.{numbers_more}
+use Rattle.trailcheck.proofs.Placed.{among_more}
 use Rattle.rewrite.specs.Placing.{without, code_entries, from_entries}
-use Rattle.rewrite.proofs.Tests.{all_follow, equal_turned, turned}
+use Rattle.rewrite.proofs.Tests.{all_follow, equal_turned}
 
 -- none is there twice
 abbrev pub Distinct : List ℕ → Type 0
@@ -81,10 +82,6 @@ from_has (suc n) k h = ap (λ l. is_among l k) (from_next n) ∙ go (cases_lt k 
     go (inr more) rest = or_left (n == k) (is_among (reverse (range_with_len 0 n)) k) (let e : n ≡ k = omega arith in eq-eqb n k e)
 
 -- ---- the entries of a code
-
-pub among_more : (placed : List ℕ) (i k : ℕ) → is_among (placed ++ i ∷ []) k ≡ (i == k) || is_among placed k
-among_more [] i k = refl
-among_more (j ∷ placed) i k = ap (λ m. (j == k) || m) (among_more placed i k) ∙ turned (j == k) (i == k) (is_among placed k)
 
 -- each step has an entry that is there, and that has no place yet
 abbrev pub AreNew : ℕ → List ℕ → List CodeStep → Type 0

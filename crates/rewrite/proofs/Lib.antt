@@ -9,7 +9,6 @@ pub mod Limited
 pub mod Opened
 pub mod Ordering
 pub mod Places
-pub mod PlainCodes
 pub mod SameCombinations
 pub mod Settled
 pub mod SimplifiedKnown

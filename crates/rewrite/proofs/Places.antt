@@ -1,7 +1,7 @@
 -- The steps that place the conditions lead to the shape.
 use Rattle.std.proofs.Common.{◌≡◌, ◌∙◌, sym, ap, true, ◌&&◌, not, ◌==◌, List, [], ◌∷◌, ◌++◌, length, Ok}
 use Rattle.std.proofs.lemmas.Bool.{eqb-true}
-use Rattle.eval.proofs.Movables.{and_left, and_right}
+use Rattle.predicates.proofs.Movables.{and_left, and_right}
 use Rattle.expr.specs.declared.code.CodeStep.{CodeStep}
 use Rattle.expr.specs.Codes as codes
 use Rattle.row_terms.specs.Written.{joins, filters}

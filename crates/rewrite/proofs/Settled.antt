@@ -9,7 +9,7 @@ use Rattle.expr.specs.declared.code.CodeStep.{CodeStep}
 use Rattle.expr.specs.Bound.{BoundExpr}
 use Rattle.expr.specs.Codes as codes
 use Rattle.expr.specs.Columns.{columns}
-use Rattle.eval.proofs.Movables.{and_left, and_right}
+use Rattle.predicates.proofs.Movables.{and_left, and_right}
 use Rattle.predicates.proofs.Keeping.{both}
 use Rattle.row_terms.specs.Terms.{Term, Raw, Guarded, Filtered, Joined, covers}
 use Rattle.row_terms.specs.Written.{filters}
@@ -19,7 +19,8 @@ use Rattle.trailcheck.specs.Entries.{is_among, names_entry, names_some, names_wi
 use Rattle.trailcheck.specs.Settings.{Setting}
 use Rattle.trailcheck.specs.Shapes.{entry_index, under_guard, scan, with_entry, joined_on, shape}
 use Rattle.rewrite.specs.Placing.{goes_deeper, passes, sunk, settled, all_settled}
-use Rattle.rewrite.proofs.Distinct.{AreNew, among_more, placed_after}
+use Rattle.trailcheck.proofs.Placed.{among_more}
+use Rattle.rewrite.proofs.Distinct.{AreNew, placed_after}
 use Rattle.rewrite.proofs.Opened.{under}
 use Rattle.rewrite.proofs.Tests.{all_alike, all_follow, all_some, equal_turned, if_first, if_other, kept_pass, none_passes, not_then, some_passes, some_there}
 

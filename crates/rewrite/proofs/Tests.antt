@@ -2,7 +2,7 @@
 use Rattle.std.proofs.Common.{◌≡◌, refl, sym, ap₂, ℕ, suc, Bool, true, false, ◌&&◌, ◌||◌, not, cond, ◌==◌, List, [], ◌∷◌, length, filter, arith}
 use Rattle.std.specs.List.{list_all, list_any}
 use Rattle.std.proofs.lemmas.Bool.{or_left, or_right, or_from, both_ways, eqb-true, eq-eqb, ne_eqb, not_from_false, not-true}
-use Rattle.eval.proofs.Movables.{and_left, and_right}
+use Rattle.predicates.proofs.Movables.{and_left, and_right}
 use Rattle.predicates.proofs.Keeping.{both}
 
 -- ---- one test
@@ -18,11 +18,6 @@ if_first false b h e = absurd (both_ways b e h)
 pub not_then : (a b : Bool) → (a ≡ true → b ≡ true) → b ≡ false → a ≡ false
 not_then true b f h = absurd (both_ways b h (f refl))
 not_then false b f h = refl
-
-pub turned : (a b c : Bool) → a || (b || c) ≡ b || (a || c)
-turned true true c = refl
-turned true false c = refl
-turned false b c = refl
 
 pub equal_turned : (a b : ℕ) → (a == b) ≡ (b == a)
 equal_turned a b = go (a == b) refl

@@ -1,5 +1,5 @@
 pub mod Laws
 pub mod Placing
-pub mod Plain
 pub mod Simplifying
 pub mod Trails
+pub use Rattle.row_terms.specs.Written

@@ -1,7 +1,6 @@
 //! Laws of the trails of a planner.
 
 ghost use Rattle.rewrite.specs.Laws.{PlacesEach, PlansAreAccepted, PlansAreShort, ShapesMeanSame, SimplifiesEach};
-ghost use Rattle.rewrite.specs.Plain.{IsPlainCode, PlainIsAdmissible, PlainIsLeast};
 
 use predicates::law_offsets_keep_value;
 
@@ -22,13 +21,6 @@ pub fn law_shapes_mean_same()
 {
     law_offsets_keep_value();
 }
-
-/// A plan may have the plain code, which has full scans and nested joins alone, and no other such code comes before it.
-pub fn law_plain_code_is_least()
-    ensures admissible { PlainIsAdmissible }
-    ensures plain { IsPlainCode }
-    ensures least { PlainIsLeast }
-{}
 
 /// The checker accepts the steps that `simplify` and then `place` make, of every query within the limits and every admissible
 /// code: at most 2,881 steps.

@@ -3,7 +3,7 @@ use Rattle.std.specs.Prelude.{◌≡◌, ◌≢◌, ◌⊎◌, ⊤, ℕ, List, [
 use Rattle.value.specs.Names.{Name}
 use Rattle.tables.specs.declared.LoadError.TheVariants as error
 use Rattle.replies.specs.Reply as engine
-use Rattle.store.specs.Database.{rows_of}
+use Rattle.engine.specs.Database.{rows_of}
 use Rattle.engine.specs.Answer.{reply_to}
 use Rattle.sessions.specs.State.{State}
 use Rattle.sessions.specs.Reply.{Reply, Data, Engine, no_memory}

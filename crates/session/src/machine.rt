@@ -12,11 +12,11 @@ ghost use Rattle.session.specs.View.{event_of};
 
 use crate::asking::answer;
 use crate::event::Event;
+use engine::Store;
 use memory::{Heap, Text};
 use sessions::{Reply, Sessions, refused_by};
 use std::alloc::{AllocError, AllocFailed};
 use std::marker::Model;
-use store::Store;
 use value::Refusal;
 
 /// A store with the sessions that are open.

@@ -3,4 +3,4 @@ pub mod Reply
 pub mod State
 pub mod Taking
 pub mod View
-pub use Rattle.expr.specs.declared.movable_expr.MovableExpr
+pub use Rattle.store.specs.MovableExpr

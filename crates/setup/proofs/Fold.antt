@@ -6,7 +6,7 @@ use Rattle.value.specs.declared.refusal.Refusal.{Refusal}
 use Rattle.value.specs.declared.refusal.Refusal.TheVariants as code
 use Rattle.memory.specs.Gives.{IsFailure}
 use Rattle.row_ast.specs.Statements.{Statement}
-use Rattle.store.specs.Database.{Database, changed_database}
+use Rattle.engine.specs.Database.{Database, changed_database}
 use Rattle.setup.specs.Schema.{StopsAfter, applied, applied_from, numbered, refused_by, root}
 use Rattle.memory.specs.Results.{and_then}
 use Rattle.setup.specs.declared.error.SchemaError.{SchemaError}

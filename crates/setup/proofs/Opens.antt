@@ -3,7 +3,7 @@ use Rattle.std.proofs.Common.{ℕ, List}
 use Rattle.memory.specs.Gives.{IsFailure}
 use Rattle.memory.specs.declared.failure.Failure.{Failure}
 use Rattle.memory.specs.declared.failure.Failure.TheVariants.{Error, OutOfMemory}
-use Rattle.store.specs.Database.{at_start}
+use Rattle.engine.specs.Database.{at_start}
 use Rattle.setup.specs.Schema.{schema_applied}
 use Rattle.setup.specs.Opening.{IsOfSchema, schema_fault}
 use Rattle.setup.specs.declared.error.SchemaError.{SchemaError}

@@ -10,10 +10,10 @@ use Rattle.tables.specs.Loading.{TableRows, Fields}
 use Rattle.memory.specs.declared.failure.Failure as memory
 use Rattle.memory.specs.declared.failure.Failure.TheVariants as failure
 use Rattle.value.specs.Names.{Name}
-use Rattle.store.specs.declared.store.StoreError.{StoreError}
-use Rattle.catalog.specs.Checks.{first_changed}
-use Rattle.store.specs.Database.{is_named}
-use Rattle.store.specs.Loads.{IsLoad, IsLoadFrom, with_rows}
+use Rattle.engine.specs.StoreError.{StoreError}
+use Rattle.engine.specs.Checks.{first_changed}
+use Rattle.engine.specs.Database.{is_named}
+use Rattle.engine.specs.Loads.{IsLoad, IsLoadFrom, with_rows}
 use Rattle.setup.specs.Loads.{AreLoaded, IsErrorOf, IsRowFault, Knows, names_of}
 use Rattle.setup.specs.declared.error.SetupError.{SetupError}
 use Rattle.setup.specs.declared.error.SetupError.TheVariants as fault

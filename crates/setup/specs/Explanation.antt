@@ -3,7 +3,7 @@ use Rattle.std.specs.Prelude.{◌⊎◌, ℕ, List, [], ◌∷◌, ◌++◌, Opt
 use Rattle.std.specs.Io.KnownBytes.{Appends}
 use Rattle.output.specs.Taken.{Begins}
 use Rattle.value.specs.Names.{Name}
-use Rattle.catalog.specs.Catalog.{Catalog}
+use Rattle.engine.specs.Catalog.{Catalog}
 use Rattle.replies.specs.Reply.{Reply, Refused}
 use Rattle.value.specs.declared.refusal.Refusal.TheVariants as code
 use Rattle.diagnostics.specs.Diagnosis.{hint}

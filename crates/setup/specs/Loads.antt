@@ -5,9 +5,9 @@ use Rattle.memory.specs.declared.failure.Failure.TheVariants as failure
 use Rattle.tables.specs.Loading.{TableRows}
 use Rattle.value.specs.Names.{Name}
 use Rattle.tables.specs.LoadErrors.{column_name}
-use Rattle.store.specs.declared.store.StoreError.TheVariants.{Data}
-use Rattle.store.specs.Database.{columns_in}
-use Rattle.store.specs.Loads.{IsLoadFrom}
+use Rattle.engine.specs.StoreError.TheVariants.{Data}
+use Rattle.engine.specs.Database.{columns_in}
+use Rattle.engine.specs.Loads.{IsLoadFrom}
 use Rattle.setup.specs.declared.error.SetupError.{SetupError}
 use Rattle.setup.specs.declared.error.SetupError.TheVariants as fault
 

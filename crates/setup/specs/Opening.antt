@@ -4,7 +4,7 @@ use Rattle.tables.specs.Loading.{TableRows}
 use Rattle.memory.specs.declared.failure.Failure as memory
 use Rattle.memory.specs.declared.failure.Failure.TheVariants as failure
 use Rattle.value.specs.Names.{Name}
-use Rattle.store.specs.Database.{Database, at_start}
+use Rattle.engine.specs.Database.{Database, at_start}
 use Rattle.setup.specs.Schema.{schema_applied}
 use Rattle.setup.specs.Loads.{AreLoaded, StopsAtTable, names_of}
 use Rattle.setup.specs.declared.error.SchemaError.{SchemaError}

@@ -10,7 +10,7 @@ use Rattle.row_ast.specs.Statements.{Statement}
 use Rattle.syntax.specs.Parsing.{parsed_schema}
 use Rattle.syntax.specs.declared.error.ParseError.{ParseError}
 use Rattle.syntax.specs.declared.error.ParseError.TheVariants as parsing
-use Rattle.store.specs.Database.{Database, changed_database}
+use Rattle.engine.specs.Database.{Database, changed_database}
 use Rattle.setup.specs.declared.error.SchemaError.{SchemaError}
 use Rattle.setup.specs.declared.error.SchemaError.TheVariants as errors
 

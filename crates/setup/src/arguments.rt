@@ -3,13 +3,12 @@
 ghost use Rattle.output.specs.Sent.{IsSent};
 ghost use Rattle.replies.specs.Reply.{no_memory, reply_status};
 ghost use Rattle.replies.specs.ReplyText.{reply_text};
-ghost use Rattle.store.specs.Database.{rows_of};
+ghost use Rattle.engine.specs.Database.{rows_of};
 ghost use Rattle.engine.specs.Answer.{reply_to};
 
-use engine::serve;
+use engine::{Store, serve};
 use memory::Heap;
 use output::Out;
-use store::Store;
 
 /// The arguments of `rowplan query`.
 #[derive(Clone, Copy, Debug)]

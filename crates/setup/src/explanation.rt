@@ -6,11 +6,10 @@ ghost use Rattle.setup.specs.Explanation.{IsBegun, IsExplained, explanation};
 
 use crate::arguments::Arguments;
 use diagnostics::hint;
-use engine::refusal;
+use engine::{Store, refusal};
 use memory::Heap;
 use output::{Out, write_whole};
 use std::alloc::AllocError;
-use store::Store;
 
 fn hint_for<A: Heap>(
     alloc: A,

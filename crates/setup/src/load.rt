@@ -1,17 +1,17 @@
 //! The rows of tables, from the files of a folder.
 
 ghost use Rattle.std.specs.Prelude.{◌≡◌, ◌<◌, ℕ, List, length, None, Option, Ok, IfErr, IfOk, OnErr, OnOk, true};
-ghost use Rattle.catalog.specs.Catalog.{is_table};
+ghost use Rattle.engine.specs.Catalog.{is_table};
 ghost use Rattle.tables.specs.LoadErrors.{column_name};
-ghost use Rattle.store.specs.Database.{columns_in};
-ghost use Rattle.store.specs.Loads.{IsLoadFrom};
+ghost use Rattle.engine.specs.Database.{columns_in};
+ghost use Rattle.engine.specs.Loads.{IsLoadFrom};
 ghost use Rattle.setup.specs.Loads.{AreLoaded, IsErrorAt, IsErrorOf, IsLoadedAt, IsOfFile, IsRowFault, Knows, StopsAtTable, names_of};
 
 use crate::error::SetupError;
+use engine::Store;
 use memory::{Failure, Heap, Text};
 use std::alloc::AllocError;
 use std::io::Read;
-use store::Store;
 use tables::{LoadError, column_name};
 
 /// The files of tables.

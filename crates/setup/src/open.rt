@@ -1,15 +1,15 @@
 //! A store from a schema text and the files of its tables.
 
 ghost use Rattle.std.specs.Prelude.{◌≡◌, IfErr, IfOk, Ok};
-ghost use Rattle.store.specs.Database.{at_start};
+ghost use Rattle.engine.specs.Database.{at_start};
 ghost use Rattle.setup.specs.Opening.{IsOfSchema, IsOpened, IsNotOpened, schema_fault};
 ghost use Rattle.setup.specs.Schema.{schema_applied};
 
 use crate::error::{SchemaError, SetupError};
 use crate::load::{Folder, load_tables};
 use crate::schema::apply_schema;
+use engine::Store;
 use memory::{Failure, Heap};
-use store::Store;
 
 // The failure of a schema text that is not applied.
 fn schema_fault<A: Heap>(failure: Failure<SchemaError>) -> Failure<SetupError<A>>

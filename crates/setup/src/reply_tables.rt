@@ -4,14 +4,13 @@ ghost use Rattle.output.specs.Sent.{IsSent};
 ghost use Rattle.replies.specs.Reply.{no_memory, reply_status};
 ghost use Rattle.replies.specs.ReplyText.{reply_text};
 ghost use Rattle.tabular.specs.ReplyTables.{reply_table};
-ghost use Rattle.store.specs.Database.{rows_of};
+ghost use Rattle.engine.specs.Database.{rows_of};
 ghost use Rattle.engine.specs.Answer.{reply_to};
 
 use crate::arguments::Arguments;
-use engine::ask;
+use engine::{Store, ask};
 use memory::Heap;
 use output::Out;
-use store::Store;
 use tabular::write_table;
 
 /// Writes the reply to the query of the arguments, asked by their role, its rows as a table, and returns its status: 0

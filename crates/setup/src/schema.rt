@@ -7,9 +7,9 @@ ghost use Rattle.syntax.specs.Parsing.{parsed_schema};
 ghost use Rattle.setup.specs.Schema.{IsStep, StopsAfter, StopsAfterFront, applied, refused_by, schema_applied};
 
 use crate::error::SchemaError;
+use engine::Store;
 use memory::{Failure, Heap};
 use row_ast::Statement;
-use store::Store;
 use syntax::{ParseError, parse_schema};
 use value::Refusal;
 

@@ -6,3 +6,5 @@ pub mod Statements
 pub mod View
 pub use Rattle.expr.specs.declared.movable_expr.MovableExpr
 pub use Rattle.tables.specs.Loading
+pub use Rattle.catalog.specs.Catalog
+pub use Rattle.catalog.specs.Checks

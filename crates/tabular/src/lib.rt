@@ -5,8 +5,6 @@ mod answer;
 mod cells;
 mod columns;
 mod lines;
-#[cfg(test)]
-mod tests;
 mod writing;
 
 pub use answer::reply_table;

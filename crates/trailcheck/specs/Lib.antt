@@ -7,3 +7,6 @@ pub mod Settings
 pub mod Shapes
 pub mod Verdicts
 pub mod View
+pub use Rattle.algebra.specs.Rules
+pub use Rattle.tuples.specs.Guards
+pub use Rattle.tuples.specs.View as TuplesView

@@ -1,7 +1,7 @@
 use Rattle.std.proofs.Common.{◌≤◌, length, ap, arith}
 use Rattle.std.proofs.lemmas.List.{length-map}
 use Rattle.expr.specs.View.{code_of}
-use Rattle.tuples.specs.View.{guard_of}
+use Rattle.trailcheck.specs.TuplesView.{guard_of}
 use Rattle.trailcheck.specs.View.{setting_of}
 use Rattle.joindp.proofs.Costs.{admissible_below}
 use Rattle.joindp.proofs.costing.cost.Goals as goal

@@ -1,8 +1,9 @@
-use Rattle.std.proofs.Common.{refl, arith}
+use Rattle.std.proofs.Common.{◌∙◌, ap, get_or, refl, arith}
 use Rattle.expr.specs.declared.code.Access.TheVariants.{Full}
 use Rattle.expr.specs.declared.code.CodeStep.{CodeStep}
 use Rattle.expr.specs.declared.code.Method.TheVariants.{Nested}
 use Rattle.stats.specs.View.{members}
+use Rattle.joins.specs.Orders.{order_after}
 use Rattle.joindp.specs.Best.{estimates}
 use Rattle.joindp.specs.Cost as spec
 use Rattle.joindp.specs.View.{problem_of}
@@ -30,7 +31,8 @@ loop-step-preserved g c =
     record {
       part = λ placed same.
           part_more at steps k no_step c.loop-step-test.true entry c.entry_index-entry.ensures (members c.loop-step.placed) (members c.with-placed.result) c.loop-step.order c.order_after-order.result c.size.result c.size-rows.result c.step_cost-total.result
-          c.loop-step.total _ (spec.cost_after at placed c.args.first steps) c.with-placed.ensures.members c.size.ensures.value rows c.step_cost-total.ensures.value refl c.order_after-order.ensures (c.loop-step.invariant.part placed same);
+          c.loop-step.total _ (spec.cost_after at placed c.args.first steps) c.with-placed.ensures.members c.size.ensures.value rows c.step_cost-total.ensures.value refl
+          (c.order_after-order.ensures ∙ ap (λ cs. order_after cs entry c.loop-step.order (get_or steps k no_step).method) c.as_slice-conditions.ensures) (c.loop-step.invariant.part placed same);
       below = rest_below steps k no_step c.loop-step-test.true c.loop-step.invariant.below;
       small = omega (arith, c.step_cost-total.ensures.small, c.loop-step.invariant.small);
     }

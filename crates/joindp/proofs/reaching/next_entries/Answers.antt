@@ -1,6 +1,6 @@
 use Rattle.std.proofs.Common.{◌≡◌, ◌∙◌, ◌&&◌, ◌||◌, ◌==◌, nat_lt, ap, arith}
 use Rattle.std.proofs.lemmas.List.{length-map}
-use Rattle.tuples.specs.View.{guard_of}
+use Rattle.trailcheck.specs.TuplesView.{guard_of}
 use Rattle.stats.specs.View.{members}
 use Rattle.joindp.specs.Following.{may_be_next}
 use Rattle.joindp.specs.Search.{entry_count}

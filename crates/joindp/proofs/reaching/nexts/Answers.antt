@@ -1,6 +1,6 @@
 use Rattle.std.proofs.Common.{◌≡◌, ◌∙◌, ◌^◌, ◌&&◌, ℕ, [], ◌∷◌, true, nat_lt, ap, subst, sym, length-append, arith}
 use Rattle.std.proofs.lemmas.List.{length-map}
-use Rattle.tuples.specs.View.{guard_of}
+use Rattle.trailcheck.specs.TuplesView.{guard_of}
 use Rattle.joindp.specs.Following.{may_be_next}
 use Rattle.joindp.specs.Search.{entry_count, is_reached, set_of}
 use Rattle.joindp.specs.View.{problem_of}

@@ -1,7 +1,7 @@
 use Rattle.std.proofs.Common.{◌∙◌, ◌++◌, [], ◌∷◌, map, arith, ap, ap₂, sym}
 use Rattle.std.specs.List.{range_with_len}
 use Rattle.std.proofs.lemmas.List.{length-map, map-append}
-use Rattle.tuples.specs.View.{guard_of}
+use Rattle.trailcheck.specs.TuplesView.{guard_of}
 use Rattle.trailcheck.specs.View.{setting_of}
 use Rattle.trailcheck.proofs.Numbers.{numbers_more}
 use Rattle.joindp.specs.Following.{accesses}

@@ -3,7 +3,7 @@ use Rattle.std.specs.List.{slice_get}
 use Rattle.std.proofs.lemmas.Nat.{pow_pos}
 use Rattle.trailcheck.specs.Shapes.{entry_index}
 use Rattle.joindp.specs.Candidates.{index_after}
-use Rattle.joindp.specs.Orders.{order_after}
+use Rattle.joins.specs.Orders.{order_after}
 use Rattle.joindp.specs.Search.{After, entry_count, is_order_of, plan_of, search, set_of}
 use Rattle.joindp.specs.View.{problem_of}
 use Rattle.joindp.specs.Walks.{IsBestFrom}

@@ -1,5 +1,5 @@
 use Rattle.std.proofs.Common.{◌≡◌, ◌∙◌, ◌^◌, ◌≤◌, ap, sym, subst, arith, true, false, Some}
-use Rattle.joindp.specs.Orders.{order_of}
+use Rattle.joins.specs.Orders.{order_of}
 use Rattle.joindp.specs.Search.{After, entry_count, is_order_of, plan_of, search}
 use Rattle.joindp.specs.View.{problem_of}
 use Rattle.joindp.specs.Walks.{IsBestFrom}

@@ -1,6 +1,6 @@
 use Rattle.std.proofs.Common.{◌≡◌, ◌∙◌, ◌-◌, ◌^◌, [], ◌∷◌, None, Some, true, length, length-append, arith, subst, sym}
 use Rattle.std.specs.List.{slice_get}
-use Rattle.joindp.specs.Orders.{Order}
+use Rattle.joins.specs.Orders.{Order}
 use Rattle.joindp.specs.Search.{After, IsSmall, entry_count, is_order_of, plan_of, search}
 use Rattle.joindp.specs.View.{problem_of}
 use Rattle.joindp.specs.Walks.{IsBestFrom}

@@ -1,7 +1,7 @@
 use Rattle.std.proofs.Common.{◌≡◌, ◌-◌, ◌^◌, ◌<◌, ℕ, Option, Some, true, length, slice_index_or}
 use Rattle.std.specs.List.{slice_get}
 use Rattle.joindp.specs.declared.best.Best.{Best}
-use Rattle.joindp.specs.Orders.{Order}
+use Rattle.joins.specs.Orders.{Order}
 use Rattle.joindp.specs.Search.{After, IsSmall, entry_count, is_order_of, plan_of, search}
 use Rattle.joindp.specs.View.{problem_of}
 use Rattle.joindp.specs.Walks.{IsBestFrom}

@@ -1,6 +1,6 @@
 use Rattle.std.proofs.Common.{◌≡◌, ◌∙◌, ◌^◌, ◌≤◌, [], ◌∷◌, length-append, ap, arith}
 use Rattle.std.proofs.lemmas.List.{length-map}
-use Rattle.tuples.specs.View.{guard_of}
+use Rattle.trailcheck.specs.TuplesView.{guard_of}
 use Rattle.joindp.specs.Best.{estimates}
 use Rattle.joindp.specs.Cost.{size}
 use Rattle.joindp.specs.Search.{entry_count, set_of}

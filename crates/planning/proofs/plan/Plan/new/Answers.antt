@@ -2,8 +2,8 @@ use Rattle.std.proofs.Common.{◌≡◌, ◌≤◌, ◌∙◌, ◌++◌, true, a
 use Rattle.std.proofs.lemmas.List.{length-map}
 use Rattle.expr.specs.View.{bound_query_of, code_of}
 use Rattle.stats.specs.View.{stats_of}
-use Rattle.tuples.specs.View.{guard_of}
-use Rattle.row_terms.specs.Written.{written}
+use Rattle.trailcheck.specs.TuplesView.{guard_of}
+use Rattle.rewrite.specs.Written.{written}
 use Rattle.trailcheck.specs.Admissible.{is_admissible}
 use Rattle.trailcheck.specs.Verdicts.{verdict}
 use Rattle.trailcheck.specs.View.{setting_of}

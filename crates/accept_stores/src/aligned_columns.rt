@@ -1,10 +1,10 @@
-//! Tables against those of psql 15 with `\pset null '\\N'`.
+//! The rows of a reply as a table, against those of psql 15 with `\pset null '\\N'`.
 
-use crate::{reply_table, shown};
 use memory::{Items, Text};
 use replies::Reply;
 use std::alloc::{AllocError, Global};
 use std::process::Abort;
+use tabular::{reply_table, shown};
 use value::{Refusal, Value};
 
 fn texts(alloc: Global, words: &[&str]) -> Result<Items<Text<Global>, Global>, AllocError> {
