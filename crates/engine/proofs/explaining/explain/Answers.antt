@@ -1,5 +1,6 @@
 use Rattle.std.proofs.Common.{◌∙◌, refl, subst}
 use Rattle.output.proofs.Sending.{line_sent, text_sent}
+use Rattle.engine.specs.Explained.{explained, known}
 use Rattle.engine.specs.Known.{statistics_in}
 use Rattle.engine.specs.Serving.{IsExplained}
 use Rattle.engine.proofs.ExplainedTexts.{only_memory, same_explained}
@@ -8,7 +9,9 @@ use Rattle.engine.proofs.explaining.explain.Goals as goal
 pub returns-in-Ok-clause-sent : goal.returns-in-Ok-clause-sent
 returns-in-Ok-clause-sent g c =
     let s = c.send.ensures in
-    text_sent s.whole s.failed s.fine s.beginning (c.deref.ensures.value ∙ c.in-Ok.ensures.0) c.in-Ok.ensures.1 (only_memory _)
+    let cat = c.args.store.now.catalog in
+    let due = explained cat (known cat c.args.role.now (statistics_in c.args.store.now)) c.args.role.now c.args.text.now in
+    text_sent s.whole s.failed s.fine s.beginning (c.deref.ensures.value ∙ c.in-Ok.ensures.0) c.in-Ok.ensures.1 (only_memory due)
 
 pub returns-in-Ok-clause-hidden : goal.returns-in-Ok-clause-hidden
 returns-in-Ok-clause-hidden g c = λ other same enough good.

@@ -2,5 +2,5 @@ use Rattle.tabular.specs.ReplyTables.{reply_table}
 use Rattle.engine.proofs.Due.{due_sent}
 use Rattle.setup.proofs.reply_tables.reply_table.Goals as goal
 
-pub returns-clause-sent : goal.returns-clause-sent
-returns-clause-sent g c = due_sent reply_table _ _ c.ask-reply.ensures c.write_table.ensures.sent
+pub returns : goal.returns
+returns g c = record { sent = due_sent reply_table _ _ c.ask-reply.ensures c.write_table.ensures.sent }
