@@ -20,7 +20,7 @@ use Rattle.row_objects.specs.ColumnNames.{column_index}
 use Rattle.row_objects.specs.Objects.{Index, Table}
 use Rattle.row_objects.specs.TableChanges.{with_index, with_last, with_row_security}
 use Rattle.row_objects.specs.TableDefs.{new_table}
-use Rattle.scope.specs.declared.error.BindError.{BindError}
+use Rattle.catalog.specs.BindError.{BindError}
 use Rattle.catalog.specs.Catalog.{Catalog, table_named}
 use Rattle.catalog.specs.Checks.{first_changed, unless}
 use Rattle.catalog.specs.Changes.{IsChange, after, changed}
