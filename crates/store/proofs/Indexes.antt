@@ -36,7 +36,7 @@ use Rattle.store.specs.Statements.{new_index_of}
 use Rattle.store.specs.View.{stored_of}
 use Rattle.store.specs.declared.stored.Stored.{Stored}
 use Rattle.store.proofs.Derivations.{entry_of}
-use Rattle.store.proofs.Places.{found_at, none_from}
+use Rattle.store.proofs.Places.{found_at, none_from, set_at}
 
 accepted : (o : Option Refusal) (due new : Catalog) → unless o due ≡ Ok new → due ≡ new
 accepted (Some why) due new e = absurd (cc)
@@ -102,6 +102,26 @@ of_entry t = (t.name, t.columns, of_table t)
 
 abbrev pub of_stored : {A : Type 0} → Stored A → Summary
 of_stored t = (t.name, t.contents.columns, kept_columns t.indexes.items)
+
+-- with an index on the column of that name, if there is one
+abbrev with_column : Name → Summary → Summary
+with_column column s = (s.0, s.1, with_last s.2 (option_map column_number (column_index s.1 column)))
+
+indexed_entry : (name column : Name) (t : Table) → of_entry (with_index name column t) ≡ with_column column (of_entry t)
+indexed_entry name column t = go (column_index t.columns column)
+  where
+    go : (o : Option ℕ) → ◌≡◌ {A = Summary} (t.name, t.columns, indexed_columns (with_last t.indexes (option_map (λ index. let i : Index = record { name = name; column = index } in i) o))) (t.name, t.columns, with_last (of_table t) (option_map column_number o))
+    go None = refl
+    go (Some k) = ap (λ (l : List ℕ). let s : Summary = (t.name, t.columns, l) in s) (map-append (λ (i : Index). column_number i.column) t.indexes (record { name = name; column = k } ∷ []))
+
+entries_changed : (p : Summary → Bool) (f : Summary → Summary) (g : Table → Table) → ((t : Table) → of_entry (g t) ≡ f (of_entry t)) → (cs : List Table) → map of_entry (first_changed (λ t. p (of_entry t)) g cs) ≡ first_changed p f (map of_entry cs)
+entries_changed p f g same [] = refl
+entries_changed p f g same (c ∷ cs) = go (p (of_entry c)) (entries_changed p f g same cs)
+  where
+    go : (b : Bool) → map of_entry (first_changed (λ t. p (of_entry t)) g cs) ≡ first_changed p f (map of_entry cs)
+        → map of_entry (cond b (g c ∷ cs) (c ∷ first_changed (λ t. p (of_entry t)) g cs)) ≡ cond b (f (of_entry c) ∷ map of_entry cs) (of_entry c ∷ first_changed p f (map of_entry cs))
+    go true more = ap (λ s. s ∷ map of_entry cs) (same c)
+    go false more = ap (λ l. of_entry c ∷ l) more
 
 three : (a a' : Name) (b b' : List Column) (c c' : List ℕ) → a ≡ a' → b ≡ b' → c ≡ c' → ◌≡◌ {A = Summary} (a, b, c) (a', b', c')
 three a a' b b' c c' p q r = rw (p, q, r) refl
@@ -181,6 +201,10 @@ module _ {A : Type 0} where
       ap₂ ◌∷◌ (three _ _ _ _ _ _ (ap (λ (x : Name × List Column). x.0) first) (ap (λ (x : Name × List Column). x.1) first) (first_pair _ _ _ _ b))
       (same_summaries ts cs (other_pairs _ _ _ _ a) (other_pairs _ _ _ _ b))
 
+  kept_of : (ts : List (Stored A)) → map (λ (s : Summary). s.2) (map of_stored ts) ≡ map (λ t. kept_columns t.indexes.items) ts
+  kept_of [] = refl
+  kept_of (t ∷ ts) = ap (λ l. kept_columns t.indexes.items ∷ l) (kept_of ts)
+
   module _ (ts : List (Stored A)) (cat : Catalog) (agrees : contents_columns (map (λ t. stored_of t) ts) ≡ table_columns cat) (indexed : map (λ t. kept_columns t.indexes.items) ts ≡ table_indexes cat)
       (table : Name) (i : ℕ) (at : position_from (λ t. bytes_eq table t.name) 0 cat.tables ≡ Some i) (d : Stored A) where
     abbrev is_named : Summary → Bool
@@ -197,6 +221,24 @@ module _ {A : Type 0} where
     indexes_found t h =
         let both : Some (of_stored (get_or ts i d)) ≡ Some (of_entry t) = sym (found_at is_named of_stored d ts i place) ∙ ap (find is_named) same ∙ found_entry is_named cat.tables ∙ ap (option_map of_entry) h in
         ap (λ (s : Summary). s.2) (some_same _ _ both)
+
+    module _ (column : Name) (y : Stored A) (same_name : y.name ≡ (get_or ts i d).name) (same_contents : y.contents ≡ (get_or ts i d).contents)
+        (made : kept_columns y.indexes.items ≡ with_last (kept_columns (get_or ts i d).indexes.items) (option_map column_number (column_index (get_or ts i d).contents.columns column))) where
+      of_new : of_stored y ≡ with_column column (of_stored (get_or ts i d))
+      of_new = three _ _ _ _ _ _ same_name (ap (λ (t : TableRows). t.columns) same_contents) made
+
+      changed_entries : (name : Name) → map of_stored (set ts i y) ≡ map of_entry (first_changed (λ t. bytes_eq table t.name) (with_index name column) cat.tables)
+      changed_entries name =
+          set_at is_named of_stored d (with_column column) y ts i place of_new
+          ∙ ap (first_changed is_named (with_column column)) same
+          ∙ sym (entries_changed is_named (with_column column) (with_index name column) (indexed_entry name column) cat.tables)
+
+      pub indexes_made : (new : Catalog) (actor : Name) (s : Statement) → new_index_of s ≡ Some (table, column) → changed cat actor s ≡ Ok new → map (λ t. kept_columns t.indexes.items) (set ts i y) ≡ table_indexes new
+      indexes_made new actor s is e =
+          let it = created s table column is in
+          let due : after cat actor (CreateIndex it.0 table column) ≡ after cat actor s = ap (after cat actor) (sym it.1) in
+          sym (kept_of (set ts i y)) ∙ ap (map (λ (x : Summary). x.2)) (changed_entries it.0) ∙ entries_of (first_changed (λ t. bytes_eq table t.name) (with_index it.0 column) cat.tables)
+          ∙ ap table_indexes due ∙ ap table_indexes (accepted _ _ new e)
 
 -- ---- contents that are the same but for their indexes
 
