@@ -1,4 +1,5 @@
 pub mod Building
+pub mod Errors
 pub mod Program
 pub mod Requests
 pub mod View

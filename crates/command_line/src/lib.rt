@@ -8,4 +8,4 @@ mod program;
 pub use arguments::{
     Format, QueryArguments, QueryText, Request, SessionArguments, VerifyArguments, read_arguments,
 };
-pub use error::CommandLineError;
+pub use error::{CommandLineError, unread_words};

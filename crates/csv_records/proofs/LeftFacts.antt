@@ -3,12 +3,11 @@ use Rattle.std.proofs.Common.{ℕ, zero, suc, ◌≡◌, ◌≢◌, ◌+◌, ◌
 use Rattle.std.specs.Prelude.{MatchOption, unwrap_or}
 use Rattle.csv.specs.Machine.{Read, next_record, step, is_end, fields_after, field_after, ends_at_end}
 use Rattle.csv.specs.Reading.{ReadRecord, ReadsNext, NextIs, has_failed, pending_of, source_of, records_from, records_next, default_config}
+use Rattle.csv.specs.declared.error.Error.{Error}
 use Rattle.csv.specs.declared.reader.Reader.{Reader}
 use Rattle.csv.specs.declared.parser.Config.{Config}
 use Rattle.csv.specs.declared.parser.State.{State}
 use Rattle.csv.specs.declared.parser.State.TheVariants as st
-use Rattle.memory.specs.declared.failure.Failure.{Failure}
-use Rattle.csv_records.specs.declared.RecordError.{RecordError}
 use Rattle.csv_records.specs.declared.Records.TheInside.{Inside}
 use Rattle.csv_records.specs.Left.{FirstHasOther, Fits_length, TakesFirst, IsPlain, KeepsFailure, TailIsLeft, records_after}
 
@@ -108,7 +107,7 @@ fits (Some m) n same = sym same
 -- a reader that has not failed is plain
 pub plain_unfailed : {R : Type 0} (a : Inside R) → KeepsFailure a → ¬ (has_failed a.inner ≡ true) → IsPlain a.inner
 plain_unfailed a keeps other = plain_of a.failure a.inner keeps other where
-  plain_of : {R : Type 0} (failure : Option (Failure RecordError)) (r : Reader R) → MatchOption failure ((has_failed r ≡ false) × IsPlain r) (λ why. has_failed r ≡ true) → ¬ (has_failed r ≡ true) → IsPlain r
+  plain_of : {R : Type 0} (failure : Option Error) (r : Reader R) → MatchOption failure ((has_failed r ≡ false) × IsPlain r) (λ why. has_failed r ≡ true) → ¬ (has_failed r ≡ true) → IsPlain r
   plain_of None r (fresh, plain) other = plain
   plain_of (Some why) r failed other = absurd (other failed)
 
@@ -116,6 +115,6 @@ plain_unfailed a keeps other = plain_of a.failure a.inner keeps other where
 pub gives_none : {R : Type 0} (rem : R → Option (List ℕ)) (a : Inside R) (b : Reader R) (fields : List (List ℕ)) → KeepsFailure a → (IsPlain a.inner → ReadRecord rem a.inner b false fields)
     → TakesFirst (option_map (records_after a.inner.state) (source_of rem a.inner)) (option_map (records_after b.state) (source_of rem b)) false fields
 gives_none rem a b fields keeps reads = none_of a.failure keeps where
-  none_of : (failure : Option (Failure RecordError)) → MatchOption failure ((has_failed a.inner ≡ false) × IsPlain a.inner) (λ why. has_failed a.inner ≡ true) → TakesFirst (option_map (records_after a.inner.state) (source_of rem a.inner)) (option_map (records_after b.state) (source_of rem b)) false fields
+  none_of : (failure : Option Error) → MatchOption failure ((has_failed a.inner ≡ false) × IsPlain a.inner) (λ why. has_failed a.inner ≡ true) → TakesFirst (option_map (records_after a.inner.state) (source_of rem a.inner)) (option_map (records_after b.state) (source_of rem b)) false fields
   none_of None (fresh, plain) = gives_record rem a.inner b false fields plain (reads plain)
   none_of (Some why) failed = rw failed tt

@@ -3,7 +3,7 @@ use Rattle.std.specs.Prelude.{ℕ, ◌≡◌, ◌≢◌, ◌+◌, ◌-◌, ◌^�
 use Rattle.csv.specs.declared.error.ErrorKind.{ErrorKind}
 use Rattle.csv.specs.declared.error.ErrorKind.TheVariants as kind
 use Rattle.csv.specs.declared.reader.Reader.{Reader}
-use Rattle.csv.specs.Reading.{Ready, has_failed, source_of, records, records_from, strip_bom, default_config}
+use Rattle.csv.specs.Reading.{Ready, error_kind, has_failed, source_of, records, records_from, strip_bom, default_config}
 use Rattle.csv.specs.declared.parser.State.{State}
 use Rattle.csv.specs.declared.reader.Trim.TheVariants as trim
 use Rattle.csv_records.specs.declared.RecordError.{RecordError}
@@ -28,17 +28,13 @@ pub record Left : Type 0 where
 abbrev pub records_after : State → List ℕ → List (List (List ℕ))
 records_after s xs = records_from default_config (length xs + 1) s xs
 
--- the records that a reader has left
-abbrev pub left_of : {R : Type 0} → (R → Option (List ℕ)) → Inside R → Left
-left_of remaining a = record { records = option_map (records_after a.inner.state) (source_of remaining a.inner); expected = a.expected; given = a.given; failure = a.failure }
-
 -- the reader takes commas and double quotes, keeps spaces, has no header row, and takes records of any length
 abbrev pub IsPlain : {R : Type 0} → Reader R → Type 0
 IsPlain a = (a.config ≡ default_config) × (a.trim ≡ trim.None) × (a.flexible ≡ true) × Ready a
 
--- a failure is kept of a reader that failed, and none of one that did not, which is plain
+-- an error is kept of a reader that failed, and none of one that did not, which is plain
 abbrev pub KeepsFailure : {R : Type 0} → Inside R → Type 0
-KeepsFailure a = MatchOption a.failure ((has_failed a.inner ≡ false) × IsPlain a.inner) (λ why. has_failed a.inner ≡ true)
+KeepsFailure a = MatchOption a.failure ((has_failed a.inner ≡ false) × IsPlain a.inner) (λ error. has_failed a.inner ≡ true)
 
 -- the failure of a read: out of memory, or else the reader underneath
 abbrev pub reason_of : ErrorKind → Failure RecordError
@@ -48,6 +44,15 @@ reason_of (kind.UnequalLengths pos expected len) = Error Failed
 reason_of (kind.Utf8 pos err) = Error Failed
 reason_of (kind.Serialize text) = Error Failed
 reason_of (kind.Deserialize pos err) = Error Failed
+
+-- the records that a reader has left, and the failure of the error of csv that it keeps
+abbrev pub left_of : {R : Type 0} → (R → Option (List ℕ)) → Inside R → Left
+left_of remaining a = record {
+  records = option_map (records_after a.inner.state) (source_of remaining a.inner);
+  expected = a.expected;
+  given = a.given;
+  failure = option_map (λ e. reason_of (error_kind e)) a.failure;
+}
 
 -- the failure that is kept after an error: a record of another length is none
 abbrev pub failure_after : Failure RecordError → Option (Failure RecordError)

@@ -46,20 +46,40 @@ pub fn report_failure(rt: &HostRuntime, failure: &Failure<SetupError<Global>>) -
     report(rt.alloc(), failure, &mut out)
 }
 
+// The message of a word that is no UTF-8, as clap has it.
+const INVALID_UTF8: &str = "\
+error: invalid UTF-8 was detected in one or more arguments
+
+Usage: rowplan <COMMAND>
+
+For more information, try '--help'.
+";
+
+// Prints the error of the command line, help to standard output and all else to standard error.
+fn print_command_line(rt: &HostRuntime, error: &CommandLineError) {
+    match error {
+        CommandLineError::Help(text) => {
+            let _ = print!(rt; "{text}");
+        }
+        CommandLineError::Usage(text) => {
+            let _ = eprint!(rt; "{text}");
+        }
+        CommandLineError::InvalidUtf8 => {
+            let _ = eprint!(rt; "{INVALID_UTF8}");
+        }
+        CommandLineError::OutOfMemory => {
+            report_failure(rt, &Failure::OutOfMemory);
+        }
+    }
+}
+
 /// Prints the error that stopped the program, help to standard output and all else to standard error, and returns the
 /// exit status.
 pub fn print_error(rt: &HostRuntime, error: &ProgramError) -> u8 {
     match error {
-        ProgramError::CommandLine(CommandLineError::Help(text)) => {
-            let _ = print!(rt; "{text}");
-            0
-        }
-        ProgramError::CommandLine(CommandLineError::Usage(text)) => {
-            let _ = eprint!(rt; "{text}");
-            2
-        }
-        ProgramError::CommandLine(CommandLineError::OutOfMemory) => {
-            report_failure(rt, &Failure::OutOfMemory)
+        ProgramError::CommandLine(error) => {
+            print_command_line(rt, error);
+            error.status()
         }
         ProgramError::Setup(failure) => report_failure(rt, failure),
         ProgramError::Line(number) => {

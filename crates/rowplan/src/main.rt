@@ -7,6 +7,7 @@ mod script;
 
 use command_line::{
     Format, QueryArguments, QueryText, Request, SessionArguments, VerifyArguments, read_arguments,
+    unread_words,
 };
 use diagnostics::codes_text;
 use failure::{ProgramError, print_error, report_failure};
@@ -185,15 +186,11 @@ fn codes(rt: &HostRuntime, alloc: Global) -> Result<u8, AllocError> {
 }
 
 // The words of the command line, of which the first is the program's name.
-fn command_words(rt: &HostRuntime, alloc: Global) -> Result<Vec<String>, AllocError> {
-    let Ok(args) = env::args(rt) else {
-        return Err(AllocError);
-    };
-    let mut words = Vec::new(alloc);
-    for word in args {
-        words.push(word)?;
+fn command_words(rt: &HostRuntime, alloc: Global) -> Result<Vec<String>, ProgramError> {
+    match env::args(rt) {
+        Ok(words) => Ok(words.collect(alloc)?),
+        Err(error) => Err(ProgramError::CommandLine(unread_words(error.kind()))),
     }
-    Ok(words)
 }
 
 fn texts_of<'a>(alloc: Global, words: &'a [String]) -> Result<Vec<&'a str>, AllocError> {

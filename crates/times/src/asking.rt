@@ -13,17 +13,17 @@ const MOST_TABLES: u64 = 8;
 /// The most rows of a table, and the most times.
 const MOST: u64 = 1_000_000;
 
-// What is asked: the rows of the query, or its plan.
+// The rows of the query, or its plan.
 #[derive(Clone, Copy, Debug)]
 enum Wanted {
     Rows,
     Plan,
 }
 
-// What is asked of which tables, and how often.
+// The tables, and how often their query is asked.
 #[derive(Clone, Copy, Debug)]
 struct Arguments {
-    // What is asked.
+    // Its rows or its plan.
     wanted: Wanted,
     // How many tables there are.
     tables: u64,

@@ -30,7 +30,7 @@ fn read_arguments(words: &[String]) -> Option<Arguments> {
     }
 }
 
-// What the join gives that the arguments say, over tables of as many rows as they say. Without a join the tables alone are made.
+// The counts of the join that the arguments say, over tables of as many rows as they say. Without a join the tables alone are made.
 fn counted(alloc: Global, arguments: Arguments) -> Result<Counts, Stop> {
     let a = table_a(alloc, arguments.rows)?;
     let b = table_b(alloc, arguments.rows)?;

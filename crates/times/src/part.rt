@@ -1,4 +1,4 @@
-//! The parts of the engine whose work is timed.
+//! The parts of the engine that are timed.
 
 use crate::asking::asked_line;
 use crate::join_run::run_line;
@@ -7,7 +7,7 @@ use crate::stop::Stop;
 use std::alloc::Global;
 
 /// A part of the engine.
-#[derive(Clone, Copy, Debug, PartialEq, Eq)]
+#[derive(Clone, Copy, Debug)]
 pub(crate) enum Part {
     /// The search for the least code of a query.
     Plan,
@@ -28,7 +28,7 @@ impl Part {
         }
     }
 
-    /// Does the work that the words say, and returns a line with numbers of what came of it.
+    /// Does the work that the words say, and returns a line of its results in numbers.
     pub fn work(self, alloc: Global, words: &[String]) -> Result<String, Stop> {
         match self {
             Part::Plan => search_line(alloc, words),

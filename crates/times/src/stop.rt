@@ -1,9 +1,9 @@
-//! What stops the program.
+//! The errors that stop the program.
 
 use std::alloc::AllocError;
 use std::io;
 
-/// What stops the program.
+/// An error that stops the program.
 #[derive(Drop)]
 pub(crate) enum Stop {
     /// The words of the command line say nothing to do.
