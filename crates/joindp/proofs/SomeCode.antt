@@ -57,10 +57,10 @@ module _ (at : Setting) where
       alone : some_waiting at placed ≡ false → ((i : ℕ) → i < length at.frame → is_among placed i ≡ true) ⊎ ((i : ℕ) × (i < length at.frame) × (is_among placed i ≡ false)) → (i : ℕ) × (i < length at.frame) × (may_follow placed i ≡ true)
       alone e (inl all) = let m = many_where_all (length at.frame) placed all in absurd (omega (arith, m, fewer))
       alone e (inr f) = (
-          f.0,
-          f.1,
-          both (not (is_among placed f.0)) (is_connected at placed f.0) (not_from_false (is_among placed f.0) f.2) (or_right (is_joined at placed f.0) (not (some_waiting at placed)) (not_from_false (some_waiting at placed) e)),
-        )
+        f.0,
+        f.1,
+        both (not (is_among placed f.0)) (is_connected at placed f.0) (not_from_false (is_among placed f.0) f.2) (or_right (is_joined at placed f.0) (not (some_waiting at placed)) (not_from_false (some_waiting at placed) e)),
+      )
 
       go : (b : Bool) → some_waiting at placed ≡ b → (i : ℕ) × (i < length at.frame) × (may_follow placed i ≡ true)
       go true e =

@@ -29,10 +29,7 @@ fn order_after_all<A: Heap>(
 }
 
 // The order of the combinations of all steps.
-fn steps_order<A: Heap>(
-    conditions: &[MovableExpr<A>],
-    steps: &[CodeStep],
-) -> Option<ColumnId>
+fn steps_order<A: Heap>(conditions: &[MovableExpr<A>], steps: &[CodeStep]) -> Option<ColumnId>
     ensures { result ≡ orders.steps_order conditions.now steps.now }
 {
     match steps {

@@ -9,6 +9,8 @@ mod settling;
 mod simplifying;
 mod steps;
 
-pub use laws::{law_places_each, law_plans_are_accepted, law_shapes_mean_same, law_simplifies_each};
+pub use laws::{
+    law_places_each, law_plans_are_accepted, law_shapes_mean_same, law_simplifies_each,
+};
 pub use placing::place;
 pub use simplifying::{Simplified, simplify};
