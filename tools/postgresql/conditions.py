@@ -195,8 +195,9 @@ class Translator:
             word = "IS NOT NULL" if negates else "IS NULL"
             return Said(f"{closed(said)} {word}", "boolean", "boolean", "", said.levels + said.is_operation, True)
         yes, no = ("FALSE", "TRUE") if negates else ("TRUE", "FALSE")
-        condition = said.text if node.word == "TRUE" else f"NOT {closed(said)}"
-        return Said(f"CASE WHEN {condition} THEN {yes} ELSE {no} END", "boolean", "boolean", "", said.levels + 3, True)
+        is_true = node.word == "TRUE"
+        condition, levels = (said.text, 1) if is_true else (f"NOT {closed(said)}", 2 + said.is_operation)
+        return Said(f"CASE WHEN {condition} THEN {yes} ELSE {no} END", "boolean", "boolean", "", said.levels + levels, True)
 
     def say_compare(self, node):
         return self.compared(node.word, *[self.say(it) for it in node.operands])
@@ -213,7 +214,7 @@ class Translator:
         left, right = [self.say(it) for it in node.operands]
         same = self.compared("=", left, right).text
         text = f"CASE WHEN {same} THEN FALSE WHEN {closed(left)} IS NULL AND {closed(right)} IS NULL THEN FALSE ELSE TRUE END"
-        return Said(text, "boolean", "boolean", "", max(left.levels, right.levels) + 2, True)
+        return Said(text, "boolean", "boolean", "", max(it.levels + it.is_operation for it in (left, right)) + 1, True)
 
     def say_any(self, node):
         return self.listed(node, "=", "IN", "OR")
@@ -263,7 +264,7 @@ def choice(whens, results, other):
         raise Unsaid("a choice between values of types that are not the same here")
     kind = kinds.pop() if kinds else "null"
     arms = " ".join(f"WHEN {when.text} THEN {closed(result)}" for when, result in zip(whens, results))
-    levels = max(it.levels + it.is_operation for it in (*whens, *results, other)) + 1
+    levels = max([*(it.levels for it in whens), *(it.levels + it.is_operation for it in (*results, other))]) + 1
     order = "loose" if any(it.order == "loose" for it in (*results, other)) else "plain"
     typed = next((it.type for it in (*results, other) if it.kind == kind), "")
     if kind == "bigint":

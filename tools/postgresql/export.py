@@ -1,7 +1,7 @@
 """What of a database is exported, and what is left out, from its facts (facts.sql)."""
 import dataclasses
 
-from access import NOTHING, PUBLIC, Cluster, Plan, Table, granted, readable, right_there
+from access import NOTHING, PUBLIC, Cluster, Plan, Table, readable, right_there
 from conditions import Translator, rowplan_type
 from expressions import Unsaid
 from names import has_control, is_name, plain, shown, why_no_name
@@ -186,13 +186,13 @@ class Export:
             if losers and not readers - denied:
                 self.bad[table.name] = f"policy {policy}: {why}"
                 return
-            into = self.lost if losers else self.notes
-            into.append(f"policy {policy} of table {table.name}: {why}; {self.people(losers) if losers else 'nobody'} loses its rights on it")
+            into, whom = (self.lost, f"no right on the table for {self.people(losers)}") if losers else (self.notes, "no role here goes by it")
+            into.append(f"policy {policy} of table {table.name}: {why}; {whom}")
         for role, why in self.plan.denied[table.name].items():
-            self.lost.append(f"role {self.people([role])} has no right on table {table.name}: {why}")
+            self.lost.append(f"role {self.people([role])}: no right on table {table.name}, since {why}")
         for role in self.plan.exported:
             if there[role] == NOTHING and readable(self.cluster, table, role):
-                self.lost.append(f"role {self.people([role])} has no right on table {table.name}: what it reads of it is left out")
+                self.lost.append(f"role {self.people([role])}: no right on table {table.name}, since the columns that it reads are left out")
         if self.plan.written[table.name].owner is None and self.cluster.names[table.owner] != "root":
             self.notes.append(f"table {table.name}: it belongs to root here and not to {self.people([table.owner])}, which changes no right")
 

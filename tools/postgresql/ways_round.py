@@ -1,17 +1,21 @@
 """What an export does not cover: ways by which a role may read more than the rights on its tables say."""
-from access import PUBLIC, reached
+from access import PUBLIC, readable, reached
 from names import shown
 
 
-def ways_round(facts, cluster, tables, exported):
-    """A line for each way round; tables are the numbers of the tables of the schema."""
-    return [
+def ways_round(export):
+    """A line for each way round."""
+    facts, cluster = export.facts, export.cluster
+    tables = {it["table"]: it["name"] for it in facts["tables"] or []}
+    found = [
         *views(facts, cluster, tables),
         *functions(facts, cluster),
         *schemas(facts),
-        *roles(cluster, exported),
+        *roles(cluster, export.roles),
+        *others(export),
         *memberships(facts, cluster),
     ]
+    return [*dict.fromkeys(found)]
 
 
 def people(cluster, numbers):
@@ -59,13 +63,27 @@ def roles(cluster, exported):
         if it["is_predefined"]:
             continue
         if it["is_superuser"] and number not in exported:
-            yield f"role {name} is a superuser and sees every row; it is not in the folder"
+            yield f"role {name} is a superuser and sees every row; --role takes it along"
         elif it["bypasses"] and number not in exported:
-            yield f"role {name} has BYPASSRLS; it is not in the folder"
+            yield f"role {name} has BYPASSRLS; --role takes it along"
         if it["creates_roles"] and not it["is_superuser"]:
             yield f"role {name} has CREATEROLE: it may give roles to itself and to others"
         if it["replicates"] and not it["is_superuser"]:
             yield f"role {name} has REPLICATION: it may read all data as it is written"
+
+
+def others(export):
+    """Roles that nothing names, and that read some table because all roles do."""
+    cluster = export.cluster
+    found = [
+        shown(it["name"])
+        for number, it in sorted(cluster.roles.items(), key=lambda it: it[1]["name"])
+        if number not in export.roles and not it["is_predefined"] and not cluster.bypasses(number)
+        if any(readable(cluster, table, number) for table in export.tables)
+    ]
+    if found:
+        some = ", ".join(found[:8]) + ", .." * (len(found) > 8)
+        yield f"{len(found)} role{'s read' if len(found) > 1 else ' reads'} what is granted to PUBLIC alone: {some}; --role takes one along"
 
 
 def memberships(facts, cluster):
