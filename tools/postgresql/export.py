@@ -90,11 +90,11 @@ class Export:
             here = rowplan_type(it, self.options.as_text)
             of = f"column {shown(it['name'])} of table {fact['name']}"
             if not is_name(it["name"]):
-                self.notes.append(f"{of}: {why_no_name(it['name'])}")
+                self.lost.append(f"{of}: {why_no_name(it['name'])}")
             elif not here:
-                self.notes.append(f"{of}: no type for {plain(it['written'])}")
+                self.lost.append(f"{of}: no type for {plain(it['written'])}")
             elif here == "text" and self.facts["server"]["encoding"] == "SQL_ASCII":
-                self.notes.append(f"{of}: the database says no encoding of its texts (SQL_ASCII)")
+                self.lost.append(f"{of}: the database says no encoding of its texts (SQL_ASCII)")
             else:
                 found.append({**it, "here": here})
                 self.note_of(of, found[-1])
