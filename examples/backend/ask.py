@@ -6,17 +6,22 @@ usage: examples/backend/ask.py FOLDER, a folder with schema.sql and a file T.csv
 import subprocess
 import sys
 
+MOST_BYTES = 1_048_576
+
 
 class Rowplan:
-    """A process of `rowplan session`: an event is a line to it, a reply a line with its number of bytes and then these bytes."""
+    """A process of `rowplan session --frames`: an event, and a reply, is a line with its number of bytes and then these bytes."""
 
     def __init__(self, folder):
         words = ["rowplan", "session", "--frames", "--schema", f"{folder}/schema.sql", "--dir", folder, "-"]
         self.process = subprocess.Popen(words, stdin=subprocess.PIPE, stdout=subprocess.PIPE)
 
     def reply(self, event):
-        """The reply to an event."""
-        self.process.stdin.write(event.replace("\n", " ").encode() + b"\n")
+        """The reply to an event, whatever its text holds."""
+        data = event.encode()
+        if len(data) > MOST_BYTES:
+            raise ValueError(f"an event of {len(data)} bytes")
+        self.process.stdin.write(b"%d\n" % len(data) + data)
         self.process.stdin.flush()
         size = int(self.process.stdout.readline())
         return self.process.stdout.read(size).decode()
@@ -24,7 +29,8 @@ class Rowplan:
     def login(self, role):
         """A session of a role: a function from a query to the reply."""
         word, number = self.reply(f"login {role}").split()
-        assert word == "session"
+        if word != "session":
+            raise ValueError(f"login {role!r}: {word} {number}")
         return lambda text: self.reply(f"ask {number} {text}")
 
     def close(self):
@@ -37,7 +43,10 @@ def main():
     rowplan = Rowplan(sys.argv[1])
     asking = {role: rowplan.login(role) for role in ("alice", "bob")}
     for role, ask in asking.items():
-        print(role, ask("SELECT count(*) AS deals, sum(amount) AS total FROM deal").split())
+        print(role, ask("SELECT count(*) AS deals, sum(amount) AS total\nFROM deal").split())
+    print("bob", asking["bob"]("SELECT id FROM deal\nlogin root").split())
+    print("nobody", rowplan.reply("login bob\nlogin root").split())
+    print("alice", asking["alice"]("SELECT id FROM deal").split())
     return rowplan.close()
 
 

@@ -71,7 +71,7 @@ pub struct SessionArguments<'a> {
     pub dir: &'a str,
     /// The path of the script, or `-` for standard input.
     pub script: &'a str,
-    /// True where a line with its number of bytes comes before each reply.
+    /// True where each event and each reply is a line with its number of bytes and then these bytes.
     pub frames: bool,
 }
 

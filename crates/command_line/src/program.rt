@@ -14,7 +14,7 @@ use std::alloc::{AllocError, Global};
 const VERSION: &str = "0.1.0";
 
 const EXAMPLE: &str =
-    "Example, at the top of the repository:\n  rowplan query --schema examples/sales/schema.sql --dir examples/sales --role alice 'SELECT count(*) AS deals FROM deal'\n\nExit status: 0 answer, plan or whole script, 2 command line, 3 refused text, plan or line, 4 denial, 5 fault, 6 schema, rows or unknown role, 7 memory, 8 input or output";
+    "Example, at the top of the repository:\n  rowplan query --schema examples/sales/schema.sql --dir examples/sales --role alice 'SELECT count(*) AS deals FROM deal'\n\nExit status: 0 answer, plan or whole script, 2 command line, 3 refused text, plan, line or frame, 4 denial, 5 fault, 6 schema, rows or unknown role, 7 memory, 8 input or output";
 
 fn option<'a>(alloc: Global, name: &'a str, value: &'a str, help: &'a str) -> Arg<'a>
     ensures rule { HasRule result (option name.entry.now) }
@@ -106,7 +106,7 @@ fn script_word<'a>(alloc: Global) -> Arg<'a>
     ensures { HasRule result (required_word (codes "SCRIPT")) }
 {
     let help =
-        "A file with an event a line, or - for standard input, of which each line is answered before the next is read";
+        "A file with an event a line, or - for standard input, of which each event is answered before the next is read";
     word(alloc, "SCRIPT", help).required(true)
 }
 
@@ -158,7 +158,8 @@ fn verify_command<'a>(alloc: Global) -> Result<Command<'a>, AllocError>
 fn session_command<'a>(alloc: Global) -> Result<Command<'a>, AllocError>
     ensures { IfOk result (λ c. HasShape c session_shape) }
 {
-    let frames = "Writes before each reply a line with its number of bytes";
+    let frames =
+        "Reads each event, and writes each reply, as a line with its number of bytes and then these bytes";
     Command::new(alloc, "session")
         .about("Writes the replies to the events of a script of sessions")
         .arg(schema_option(alloc))?

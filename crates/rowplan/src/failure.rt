@@ -15,6 +15,8 @@ pub enum ProgramError {
     Setup(Failure<SetupError<Global>>),
     /// The line of a script with this number, from 1, is no event.
     Line(u64),
+    /// The frame of a script with this number, from 1, is broken.
+    Frame(u64),
     /// A reply was not written.
     Output,
 }
@@ -84,6 +86,10 @@ pub fn print_error(rt: &HostRuntime, error: &ProgramError) -> u8 {
         ProgramError::Setup(failure) => report_failure(rt, failure),
         ProgramError::Line(number) => {
             let _ = eprintln!(rt; "line {number}");
+            3
+        }
+        ProgramError::Frame(number) => {
+            let _ = eprintln!(rt; "frame {number}");
             3
         }
         ProgramError::Output => 8,

@@ -3,6 +3,7 @@
 
 mod failure;
 mod files;
+mod frames;
 mod script;
 
 use command_line::{
@@ -12,6 +13,7 @@ use command_line::{
 use diagnostics::codes_text;
 use failure::{ProgramError, print_error, report_failure};
 use files::{Directory, read_bytes, read_text};
+use frames::answer_frames;
 use memory::Failure;
 use output::{Output, write_whole};
 use script::{answer_input, answer_text};
@@ -141,11 +143,14 @@ fn session(
     let schema = read_text(rt, alloc, words.schema)?;
     let store = store_of(rt, alloc, schema.as_str(), words.dir)?;
     let mut core = Core::new(alloc, store);
+    if words.frames {
+        return answer_frames(rt, alloc, &mut core, words.script);
+    }
     if words.script == "-" {
-        return answer_input(rt, alloc, &mut core, words.frames);
+        return answer_input(rt, alloc, &mut core);
     }
     let script = read_text(rt, alloc, words.script)?;
-    answer_text(rt, alloc, &mut core, script.as_str(), words.frames)
+    answer_text(rt, alloc, &mut core, script.as_str())
 }
 
 // Audits the plan, and returns the status of the audit.

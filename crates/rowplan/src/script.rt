@@ -1,8 +1,8 @@
-//! The events of a script of sessions, and the replies to them.
+//! The events of the lines of a script of sessions, and the replies to them.
 
 use crate::failure::ProgramError;
 use crate::files::unreadable;
-use memory::{Failure, push_number, push_str};
+use memory::Failure;
 use output::{Output, write_whole};
 use session_scripts::{Core, Event, ScriptLine, read_line, reply_text};
 use setup::SetupError;
@@ -10,8 +10,8 @@ use std::alloc::Global;
 use std::io::{BufRead, BufReader, Write};
 use std::{fs, io};
 
-// The event of a line: the bytes of a load are those of its file.
-fn event_of(
+/// The event of a line: the bytes of a load are those of its file.
+pub fn event_of(
     rt: &HostRuntime,
     alloc: Global,
     line: ScriptLine<Global>,
@@ -25,24 +25,13 @@ fn event_of(
     }
 }
 
-// Writes a reply to standard output at once, where frames are asked for after a line with its number of bytes.
-fn write_reply(
-    rt: &HostRuntime,
-    alloc: Global,
-    reply: &[u8],
-    frames: bool,
-) -> Result<(), ProgramError> {
-    let mut text = Vec::new(alloc);
-    if frames {
-        push_number(&mut text, reply.len() as u64)?;
-        push_str(&mut text, "\n")?;
-    }
-    text.extend_from_slice(reply)?;
+/// Writes a text to standard output at once.
+pub fn write_text(rt: &HostRuntime, text: &[u8]) -> Result<(), ProgramError> {
     let mut out = Output {
         inner: io::writer(rt),
         failed: 0,
     };
-    match write_whole(&mut out, &text) {
+    match write_whole(&mut out, text) {
         Ok(()) => out.inner.flush().map_err(|_| ProgramError::Output),
         Err(_) => Err(ProgramError::Output),
     }
@@ -55,14 +44,13 @@ fn answer_line(
     core: &mut Core<Global>,
     number: u64,
     line: &str,
-    frames: bool,
 ) -> Result<(), ProgramError> {
     let Some(line) = read_line(alloc, line)? else {
         return Err(ProgramError::Line(number));
     };
     let event = event_of(rt, alloc, line)?;
     let text = reply_text(alloc, core.step(event))?;
-    write_reply(rt, alloc, &text, frames)
+    write_text(rt, &text)
 }
 
 // A line without its LF.
@@ -77,12 +65,11 @@ pub fn answer_text(
     alloc: Global,
     core: &mut Core<Global>,
     script: &str,
-    frames: bool,
 ) -> Result<(), ProgramError> {
     let mut number = 0u64;
     for line in script.split_inclusive('\n') {
         number = number.saturating_add(1);
-        answer_line(rt, alloc, core, number, without_end(line), frames)?;
+        answer_line(rt, alloc, core, number, without_end(line))?;
     }
     Ok(())
 }
@@ -92,7 +79,6 @@ pub fn answer_input(
     rt: &HostRuntime,
     alloc: Global,
     core: &mut Core<Global>,
-    frames: bool,
 ) -> Result<(), ProgramError> {
     let mut input = match BufReader::new(alloc, rt.stdin()) {
         Ok(input) => input,
@@ -102,7 +88,7 @@ pub fn answer_input(
         let mut line = String::new(alloc);
         match input.read_line(&mut line) {
             Ok(0) => return Ok(()),
-            Ok(_) => answer_line(rt, alloc, core, number, without_end(line.as_str()), frames)?,
+            Ok(_) => answer_line(rt, alloc, core, number, without_end(line.as_str()))?,
             Err(error) => return Err(ProgramError::Setup(unreadable(alloc, "-", &error))),
         }
     }
