@@ -141,6 +141,7 @@ class Plan:
         # the groups of a role come before it
         self.exported = sorted(exported, key=lambda it: (len(cluster.belongs[it]), cluster.names[it]))
         self.alone, self.denied = set(), {it.name: {} for it in tables}
+        self.there = {(it.name, role): right_there(cluster, it, role) for it in tables for role in self.exported}
         self.written, self.lost = {}, {}
         while self.step():
             pass
@@ -149,7 +150,7 @@ class Plan:
         """What a role is to read of a table here."""
         if role in self.denied[table.name]:
             return NOTHING
-        found = right_there(self.cluster, table, role)
+        found = self.there[table.name, role]
         return NOTHING if found.policies & table.unsaid.keys() else found
 
     def step(self):
