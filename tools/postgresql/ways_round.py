@@ -11,7 +11,7 @@ def ways_round(export):
         *views(facts, cluster, tables),
         *functions(facts, cluster),
         *schemas(facts),
-        *roles(cluster, export.roles),
+        *roles(export),
         *others(export),
         *memberships(facts, cluster),
     ]
@@ -56,16 +56,17 @@ def schemas(facts):
         yield f"schema {shown(it['name'])} has {it['tables']} table{'s' * (it['tables'] > 1)}"
 
 
-def roles(cluster, exported):
+def roles(export):
     """Roles that read or get more than what is granted to them."""
-    for number, it in sorted(cluster.roles.items(), key=lambda it: it[1]["name"]):
+    for number, it in sorted(export.cluster.roles.items(), key=lambda it: it[1]["name"]):
         name = shown(it["name"])
         if it["is_predefined"]:
             continue
-        if it["is_superuser"] and number not in exported:
-            yield f"role {name} is a superuser and sees every row; --role takes it along"
-        elif it["bypasses"] and number not in exported:
-            yield f"role {name} has BYPASSRLS; --role takes it along"
+        how = "" if export.why_no_role(number, it) else "; --role takes it along"
+        if it["is_superuser"] and number not in export.roles:
+            yield f"role {name} is a superuser and sees every row{how}"
+        elif it["bypasses"] and number not in export.roles:
+            yield f"role {name} has BYPASSRLS{how}"
         if it["creates_roles"] and not it["is_superuser"]:
             yield f"role {name} has CREATEROLE: it may give roles to itself and to others"
         if it["replicates"] and not it["is_superuser"]:
@@ -83,7 +84,7 @@ def others(export):
     ]
     if found:
         some = ", ".join(found[:8]) + ", .." * (len(found) > 8)
-        yield f"{len(found)} role{'s read' if len(found) > 1 else ' reads'} what is granted to PUBLIC alone: {some}; --role takes one along"
+        yield f"{len(found)} role{'s read' if len(found) > 1 else ' reads'} what is granted to PUBLIC alone: {some}"
 
 
 def memberships(facts, cluster):
