@@ -40,6 +40,7 @@ class Export:
             self.plan = Plan(self.cluster, self.tables, self.roles)
             for table in self.tables:
                 self.judge_rights(table)
+            self.notes = self.columns_to_know() + self.notes
         return len(self.bad) == known
 
     def asked_tables(self):
@@ -92,20 +93,26 @@ class Export:
             if not is_name(it["name"]):
                 self.lost.append(f"{of}: {why_no_name(it['name'])}")
             elif not here:
-                self.lost.append(f"{of}: no type for {plain(it['written'])}")
+                self.lost.append(f"{of}: no type for {plain(it['written'])}; --as-text takes it as text")
             elif here == "text" and self.facts["server"]["encoding"] == "SQL_ASCII":
                 self.lost.append(f"{of}: the database says no encoding of its texts (SQL_ASCII)")
             else:
                 found.append({**it, "here": here})
-                self.note_of(of, found[-1])
         return found
 
-    def note_of(self, of, column):
-        """Says where values of a column compare otherwise than in PostgreSQL."""
-        if column["here"] == "text" and rowplan_type(column, set()) != "text":
-            self.notes.append(f"{of}: {plain(column['written'])} is text here, in the order of its bytes and without arithmetic")
-        elif column["here"] == "text" and not column["is_deterministic"]:
-            self.notes.append(f"{of}: its collation is not deterministic; here texts are equal where their bytes are")
+    def columns_to_know(self):
+        """Says of which columns the values compare otherwise than in PostgreSQL, a line for each type."""
+        found = {}
+        for table in self.tables:
+            for it in self.columns[table.name]:
+                if it["here"] == "text" and rowplan_type(it, set()) != "text":
+                    what = f"{plain(it['written'])} is text here, in the order of its bytes and without arithmetic"
+                elif it["here"] == "text" and not it["is_deterministic"]:
+                    what = "a collation is not deterministic; here texts are equal where their bytes are"
+                else:
+                    continue
+                found.setdefault(what, []).append(f"{table.name}.{it['name']}")
+        return [f"{what}: {', '.join(columns)}" for what, columns in sorted(found.items())]
 
     def judge_policies(self, fact, table):
         """Says the policies of a table, or why not; those that cannot be said are told once the rights are known."""
