@@ -70,8 +70,8 @@ class Table:
 # Conditions without a condition inside, one a line: what the grammar of rowplan says in full; and what it has not, or not in
 # these words, or with another meaning. Columns: n and m numbers, t and u texts under one collation, c a text in the order of its
 # bytes, d a date, k a uuid, f a text under a collation by which other texts are equal, x one of another type; b and e are columns
-# that are true or false, or comparisons. Literals: i, j (not less than i) and h numbers, s and r texts, role a role's name. o is a
-# table.
+# that are true or false, or comparisons. Literals: i, j (not less than i) and h are numbers, s and r texts, role is the name of a
+# role. o is a table that was made before.
 SAID = """
 {n} {order} {i}
 {i} {order} {n}
@@ -311,7 +311,8 @@ class Database:
     def make_table(self, name):
         """A table with rows."""
         if self.chance(0.08, "names"):
-            name = self.random.choice(("order", name.upper(), f"{name} of all"))
+            reserved = ("order", "group", "user", "end")[len(self.tables)]
+            name = self.random.choice((reserved, name.upper(), f"{name} of all"))
         table = Table(name, self.make_columns())
         needed = [it.name == "id" or self.chance(0.05) for it in table.columns]
         fields = [f"{identifier(it.name)} {it.type}{' NOT NULL' * need}" for it, need in zip(table.columns, needed)]
