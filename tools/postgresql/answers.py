@@ -39,7 +39,7 @@ KNOWN_KEYS = {
     ("42703", ROWS): "SELECT id FROM deal ORDER BY amount",
 }
 KNOWN_COLUMNS = {("42703", ROWS): "SELECT ctid FROM deal"}
-SYSTEM_COLUMN = re.compile(rb"(?:ctid|tableoid|[cx]min|[cx]max)\b", re.I)
+SYSTEM_COLUMN = re.compile(rb"(?:\w+\s*\.\s*)?(?:ctid|tableoid|[cx]min|[cx]max)\b", re.I)
 
 
 class Unreadable(Exception):
@@ -64,11 +64,10 @@ def values(record):
     return tuple(None if bare == b"\\N" else bare or quoted.replace(b'""', b'"') for quoted, bare in found)
 
 
-def spare(left, right):
-    """What the first of two lists has more often than the second, in its order."""
-    counts = Counter(right)
-    rest = []
-    for it in left:
+def spare(items, counts):
+    """What a list has more often than these counts, in its order."""
+    counts, rest = dict(counts), []
+    for it in items:
         if counts.get(it):
             counts[it] -= 1
         else:
@@ -76,10 +75,15 @@ def spare(left, right):
     return rest
 
 
+def both_ways(left, right):
+    """What each of two lists has more often than the other."""
+    counts = Counter(left), Counter(right)
+    return ([], []) if dict.__eq__(*counts) else (spare(left, counts[1]), spare(right, counts[0]))
+
+
 def alone(here, there):
     """The rows that one of two lists of records has alone, or more often. Records that are spelled alike are not decoded."""
-    left, right = (list(map(values, it)) for it in (spare(here, there), spare(there, here)))
-    return spare(left, right), spare(right, left)
+    return both_ways(*(list(map(values, it)) for it in both_ways(here, there)))
 
 
 def first(rows, count):
