@@ -31,7 +31,7 @@ class Folder:
 
 
 class Session:
-    """A process of `rowplan session`: an event is a line to it, a reply a line with its number of bytes and then these bytes."""
+    """A process of `rowplan session`: an event, and a reply, is a line with its number of bytes and then these bytes."""
 
     def __init__(self, folder):
         words = [os.environ.get("ROWPLAN", "rowplan"), "session", "--frames", "--schema", f"{folder.path}/schema.sql"]
@@ -41,8 +41,9 @@ class Session:
 
     def reply(self, event):
         """The reply to an event."""
+        text = event.encode()
         try:
-            self.process.stdin.write(event.encode() + b"\n")
+            self.process.stdin.write(b"%d\n" % len(text) + text)
             self.process.stdin.flush()
         except BrokenPipeError:
             pass

@@ -3,6 +3,7 @@ are PostgreSQL's alone. psql finds the server by its usual variables, and its ro
 import json
 import os
 import pathlib
+import re
 import subprocess
 import sys
 
@@ -59,9 +60,10 @@ def replies(questions, database=None):
     return found
 
 
-def seen(roles, relations, database=None):
-    """What each role sees of each relation: by role and relation. A relation is a schema and a name, with its columns. What
-    cannot be asked, for want of a right or for another error, is not seen."""
+def seen(roles, relations, database=None, texts=()):
+    """What each role sees of each relation: by role and relation. A relation is a schema and a name, with its columns; texts has
+    those columns, each after its relation, whose values are taken as texts. What cannot be asked, for want of a right or for
+    another error, is not seen."""
     tries = [(role, it, column) for role in roles for it, columns in relations.items() for column in columns]
     questions = [(role, f"SELECT {identifier(column)} FROM {place(it)} LIMIT 0") for role, it, column in tries]
     may_read = {}
@@ -69,7 +71,8 @@ def seen(roles, relations, database=None):
         may_read.setdefault((role, it), []).extend([column] if state == "00000" else [])
     pairs = [(pair, columns) for pair, columns in may_read.items() if columns]
     rows = "SELECT json_build_array({}) FROM {}"
-    questions = [(role, rows.format(", ".join(map(identifier, columns)), place(it))) for (role, it), columns in pairs]
+    value = lambda it, column: identifier(column) + ("::text" if (it, column) in texts else "")
+    questions = [(role, rows.format(", ".join(value(it, name) for name in columns), place(it))) for (role, it), columns in pairs]
     found = {pair: Seen() for pair in may_read}
     for (pair, columns), (state, rows) in zip(pairs, replies(questions, database)):
         found[pair] = Seen(columns, rows) if state == "00000" else Seen()
@@ -79,3 +82,26 @@ def seen(roles, relations, database=None):
 def place(relation):
     """A relation as SQL names it, from its schema and its name."""
     return ".".join(map(identifier, relation))
+
+
+def word(value):
+    """A value as it is written: a word as it is, and anything else in JSON."""
+    is_word = isinstance(value, str) and re.fullmatch(r"[\w.:+-]+", value) and value not in ("none", "null", "true", "false")
+    return value if is_word else json.dumps(value, ensure_ascii=False)
+
+
+def rows_of(found, most):
+    """The number of rows that are seen, and which ones they are."""
+    values = [row[0] for row in found.rows]
+    if len(values) > most:
+        return f"{len(values)}: sum {sum(values)}" if all(type(it) is int for it in values) else str(len(values))
+    values.sort(key=lambda it: (it is None, not isinstance(it, (int, float)), it if isinstance(it, (int, float)) else str(it)))
+    return " ".join([f"{len(values)}:", *map(word, values)]) if values else "0"
+
+
+def line_of(role, relation, found, most=30):
+    """The line for what a role sees of a relation: the columns, the number of rows, and the first of the columns in each row, or,
+    where there are more rows than that, its sum."""
+    if not found.columns:
+        return f"{word(role)} | {relation} | nothing"
+    return f"{word(role)} | {relation} | {' '.join(map(word, found.columns))} | {rows_of(found, most)}"
