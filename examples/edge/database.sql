@@ -229,6 +229,11 @@ CREATE ROLE maker;
 CREATE TABLE guarded AS SELECT * FROM plain;
 ALTER TABLE guarded OWNER TO keeper;
 GRANT SELECT ON guarded TO evil, "x'; GRANT SELECT ON secret TO evil; --", U&"y\000Agrant\001Fsecret\001Fevil\001F", U&"z\000Anot covered: 0";
+-- Names that need quotes, or are reserved words here; right: these two are left out and named, and of_upper the same.
+CREATE ROLE "Upper";
+CREATE ROLE "left";
+CREATE ROLE of_upper IN ROLE "Upper";
+GRANT SELECT (id, ok) ON guarded TO "Upper", "left";
 GRANT CREATE ON SCHEMA public TO maker;
 SET ROLE maker;
 CREATE TABLE U&"t\000Agrant\001Fsecret\001Fevil\001F" (id integer, U&"c\000Agrant\001Fsecret\001Fevil\001F" text);
@@ -277,5 +282,5 @@ GRANT SELECT ON far TO reader;
 -- USAGE of the schema is for some, and not for outside; all_data has it by its predefined role.
 REVOKE USAGE ON SCHEMA public FROM PUBLIC;
 GRANT USAGE ON SCHEMA public TO keeper, reader, readers, evil, chief, chiefs_member, holder, holders_member, maker;
-GRANT USAGE ON SCHEMA public TO outsiders_member, watcher, half, lazy, admin, root;
+GRANT USAGE ON SCHEMA public TO outsiders_member, watcher, half, lazy, admin, root, "Upper", "left";
 GRANT USAGE ON SCHEMA public TO "x'; GRANT SELECT ON secret TO evil; --", U&"y\000Agrant\001Fsecret\001Fevil\001F", U&"z\000Anot covered: 0";

@@ -177,6 +177,17 @@ EXISTS (SELECT FROM {o} o WHERE o.id = {n})
 {n} IN (SELECT o.id FROM {o} o)
 {n} > (SELECT count(*) FROM {o} o)
 """
+# those that are true for some rows, more often than not
+SELECTIVE = """
+{n} {order} {i}
+{n} {order} {m}
+{n} IN ({i}, {h})
+{t} {equal} {s}
+{t} = CURRENT_USER
+{t} IN ({s}, {r})
+{c} {order} {s}
+{b}
+"""
 PLACES = {"n": "number", "t": "text", "d": "date", "k": "uuid", "f": "folded", "x": "other"}
 
 
@@ -203,7 +214,8 @@ class Conditions:
 
     def atom(self):
         """A condition without a condition inside, for which the table has the columns."""
-        lines = (ODD if self.random.random() < self.odd else SAID).strip().split("\n")
+        is_odd, is_short = self.random.random() < self.odd, self.random.random() < 0.5
+        lines = (ODD if is_odd else SELECTIVE if is_short else SAID).strip().split("\n")
         parts = self.parts()
         return self.random.choice([it for it in lines if all(parts.get(name) for name in fields(it))]).format_map(parts)
 
@@ -321,7 +333,7 @@ class Database:
         if dropped:
             self.say(f"ALTER TABLE {self.place(table)} DROP COLUMN gone")
         rows = []
-        for number in range(1, self.random.choice((0, 5, 6, 8, 10, 12)) + 1):
+        for number in range(1, self.random.choice((0, *[6] * 5, *[10] * 5)) + 1):
             values = [str(number)] + [self.value(it, need) for it, need in zip(table.columns[1:], needed[1:])]
             rows.append(f"({', '.join(values)})")
         table.rows = len(rows)
@@ -357,7 +369,7 @@ class Database:
             self.say(f"ALTER TABLE {self.place(table)} ENABLE ROW LEVEL SECURITY")
         if self.chance(0.5):
             self.say(f"ALTER TABLE {self.place(table)} FORCE ROW LEVEL SECURITY")
-        for number in range(self.random.choice((0, 2, 2, 3, 3, 4, 5))):
+        for number in range(self.random.choice((0, 1, 2, 2, 2, 3, 3, 3, 4, 5))):
             self.make_policy(table, number)
         for number in range(self.random.randint(2, 6)):
             self.make_grant(table, self.chance(0.4) and number > 0)
@@ -373,8 +385,9 @@ class Database:
         if self.chance(0.15, "names"):
             names = ("Rows of {}", "p{}\nq", "é{}", "p\x1f{}", '"{}"', "{}'s", "P{}")
             name = "select" if self.chance(0.2) and not number else self.random.choice(names).format(number)
-        command = self.random.choice(("", "FOR ALL", "FOR ALL", *["FOR SELECT"] * 5, "FOR INSERT", "FOR UPDATE"))
-        to = "CURRENT_USER" if self.chance(0.03) else self.role_list(0.3 if number else 0.7)
+        commands = ("", "FOR ALL", "FOR ALL", *["FOR SELECT"] * 4, "FOR INSERT", "FOR UPDATE")
+        command = self.random.choice(commands if number else commands[:4])
+        to = "CURRENT_USER" if self.chance(0.03) else self.role_list(0.3 if number else 0.85)
         using, check = f" USING ({conditions.any(self.random.choice((0, 0, 1, 1, 2)))})", f" WITH CHECK ({conditions.any(0)})"
         if command == "FOR INSERT":
             using, check = "", check
