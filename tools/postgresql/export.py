@@ -21,7 +21,7 @@ class Options:
 
 class Export:
     """The tables, roles and policies that are exported. lost has what is left out of what was asked for, notes what is to be known
-    beside; bad has the reasons for which tables are left out, to which the choice adds until it holds."""
+    beside; unnamed has the roles whose names cannot be said; bad has the reasons for which tables are left out, to which the choice adds until it holds."""
 
     def __init__(self, facts, options, bad=None):
         self.facts, self.options, self.cluster = facts, options, Cluster(facts)
@@ -159,11 +159,12 @@ class Export:
         asked = set(self.options.roles)
         for name in sorted(asked - {it["name"] for it in self.cluster.roles.values()}):
             self.lost.append(f"role {shown(name)}: there is none")
-        self.roles = set()
+        self.roles, self.unnamed = set(), set()
         for number, fact in self.cluster.roles.items():
             is_meant = fact["name"] in asked or not fact["is_predefined"] and not self.cluster.belongs[number].isdisjoint(named)
             why = self.why_no_role(number, fact) if is_meant else None
             if why:
+                self.unnamed.add(number)
                 self.lost.append(f"role {shown(fact['name'])}: {why}")
             elif is_meant:
                 self.roles.add(number)

@@ -79,7 +79,7 @@ def others(export):
     found = [
         shown(it["name"])
         for number, it in sorted(cluster.roles.items(), key=lambda it: it[1]["name"])
-        if number not in export.roles and not it["is_predefined"] and not cluster.bypasses(number)
+        if number not in export.roles | export.unnamed and not it["is_predefined"] and not cluster.bypasses(number)
         if any(readable(cluster, table, number) for table in export.tables)
     ]
     if found:
