@@ -21,7 +21,8 @@ class Options:
 
 class Export:
     """The tables, roles and policies that are exported. lost has what is left out of what was asked for, notes what is to be known
-    beside; unnamed has the roles whose names cannot be said; bad has the reasons for which tables are left out, to which the choice adds until it holds."""
+    beside; unnamed has the roles whose names cannot be said; bad has the reasons for which tables are left out, to which the choice
+    adds until it holds."""
 
     def __init__(self, facts, options, bad=None):
         self.facts, self.options, self.cluster = facts, options, Cluster(facts)
