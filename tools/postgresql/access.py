@@ -1,4 +1,4 @@
-"""Who may read what: as PostgreSQL decides it, and as a schema of rowplan would. An export writes a schema only where both agree."""
+"""Who may read what: as PostgreSQL decides it, and as a schema of rowplan does. An export is a schema by which both are the same."""
 import dataclasses
 
 PUBLIC = 0
@@ -72,7 +72,8 @@ def reached(number, groups):
 
 @dataclasses.dataclass
 class Table:
-    """A table as PostgreSQL has it. columns has the roles that read each column by a grant on it; policies the roles of each policy."""
+    """A table as PostgreSQL has it. columns has the roles that read each column by a grant on it, policies the roles of each
+    policy, unsaid why a policy cannot be said."""
 
     name: str
     owner: int
@@ -133,8 +134,8 @@ def right_here(cluster, belongs, table, written, role):
 
 
 class Plan:
-    """The memberships and, of each table, what is written, so that each exported role reads here what is wanted for it: what it reads
-    in PostgreSQL, or nothing where a policy that applies to it cannot be said."""
+    """The memberships and, of each table, what is written, so that each exported role reads here what is wanted for it: what it
+    reads in PostgreSQL, or nothing where a policy that applies to it cannot be said."""
 
     def __init__(self, cluster, tables, exported):
         self.cluster, self.tables = cluster, tables
@@ -240,4 +241,5 @@ def is_less(here, there):
     """Whether a role reads less than is wanted, and nothing else."""
     if not here.columns <= there.columns:
         return False
-    return not here.columns or here.sees_all == there.sees_all and here.policies == there.policies or there.sees_all and not here.sees_all
+    sees_the_same = here.sees_all == there.sees_all and here.policies == there.policies
+    return not here.columns or sees_the_same or there.sees_all and not here.sees_all

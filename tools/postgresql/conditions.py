@@ -14,8 +14,8 @@ MOST_OPERANDS = 64
 
 @dataclasses.dataclass(frozen=True)
 class Said:
-    """An expression of rowplan: its text; its kind, which is bigint, text, boolean, null, spelled (a value of another type that is
-    known by its text) or other; PostgreSQL's type; how its texts are compared; and the levels that it opens."""
+    """An expression of rowplan: its text; its kind, which is bigint, text, boolean, null, spelled (a value of another type that
+    is known by its text) or other; PostgreSQL's type; how its texts are compared; and the levels that it opens."""
 
     text: str
     kind: str
@@ -55,7 +55,7 @@ def said_column(column):
 
 
 class Translator:
-    """Says conditions over the columns of a table. Collations are those that are not deterministic or go by bytes, by their name."""
+    """Says conditions over the columns of a table. Of collations, by name, those count that are not deterministic or go by bytes."""
 
     def __init__(self, columns, exported, collations):
         self.columns = {it["name"]: it for it in columns}

@@ -20,9 +20,9 @@ class Options:
 
 
 class Export:
-    """The tables, roles and policies that are exported. lost has what is left out of what was asked for, notes what is to be known
-    beside; unnamed has the roles whose names cannot be said; bad has the reasons for which tables are left out, to which the choice
-    adds until it holds."""
+    """The tables, roles and policies that are exported. lost has what is left out of what was asked for, notes what is to be
+    known beside, unnamed the roles whose names cannot be said, and bad the reasons for which tables are left out, to which the
+    choice adds until it holds."""
 
     def __init__(self, facts, options, bad=None):
         self.facts, self.options, self.cluster = facts, options, Cluster(facts)
@@ -58,14 +58,15 @@ class Export:
         why = self.bad.get(fact["name"]) or self.why_no_table(fact)
         columns = [] if why else self.columns_of(fact)
         if not why and not 0 < len(columns) <= MOST_COLUMNS:
-            many = f"it has {len(columns)} columns, and a table here at most {MOST_COLUMNS}: --table {fact['name']}=COLUMN,.. takes some"
-            why = many if columns else "none of its columns can be said"
+            many = f"it has {len(columns)} columns, and a table here at most {MOST_COLUMNS}"
+            why = f"{many}: --table {fact['name']}=COLUMN,.. takes some" if columns else "none of its columns can be said"
         if why:
             self.bad[fact["name"]] = why
             self.lost.append(f"table {shown(fact['name'])}: {why}")
             return
-        table = Table(fact["name"], fact["owner"], fact["has_row_security"], fact["is_forced"], set(fact["readers"] or []), {}, {})
-        table.columns = {it["name"]: set(it["readers"] or []) for it in self.facts["columns"] if it["table"] == fact["table"]}
+        readers, known = set(fact["readers"] or []), [it for it in self.facts["columns"] if it["table"] == fact["table"]]
+        table = Table(fact["name"], fact["owner"], fact["has_row_security"], fact["is_forced"], readers, {}, {})
+        table.columns = {it["name"]: set(it["readers"] or []) for it in known}
         table.exported = frozenset(it["name"] for it in columns)
         self.columns[table.name] = columns
         self.judge_policies(fact, table)
@@ -121,7 +122,8 @@ class Export:
         for it in self.facts["collations"] or []:
             name = it["name"] if it["schema"] == "pg_catalog" else f"{it['schema']}.{it['name']}"
             collations[name] = "loose" if not it["is_deterministic"] else "bytes" if self.is_utf8() else "plain"
-        columns = [{**it, "is_by_bytes": it["is_by_bytes"] and self.is_utf8()} for it in self.facts["columns"] if it["table"] == fact["table"]]
+        columns = [it for it in self.facts["columns"] if it["table"] == fact["table"]]
+        columns = [{**it, "is_by_bytes": it["is_by_bytes"] and self.is_utf8()} for it in columns]
         translator = Translator(columns, table.exported, collations)
         for at, it in enumerate(it for it in self.facts["policies"] or [] if it["table"] == fact["table"]):
             table.policies[at] = set(it["roles"])
@@ -136,7 +138,8 @@ class Export:
             if table.has_row_security:
                 self.judge_policy(table, it, table.unsaid.get(at))
             elif at in table.unsaid:
-                self.notes.append(f"policy {shown(it['name'])} of table {table.name}, whose row security is off: {table.unsaid[at]}")
+                of = f"policy {shown(it['name'])} of table {table.name}"
+                self.notes.append(f"{of}, whose row security is off: {table.unsaid[at]}")
 
     def is_utf8(self):
         return self.facts["server"]["encoding"] == "UTF8"
@@ -153,7 +156,7 @@ class Export:
     # ---- roles and rights
 
     def judge_roles(self):
-        """The roles that own a table, have a right on one, are named by a policy, or belong to such, and those that are asked for."""
+        """The roles that own a table, have a right on one, are named by a policy, or belong to such, and those asked for."""
         named = {it.owner for it in self.tables} | {self.cluster.predefined.get("pg_read_all_data")}
         for table in self.tables:
             named |= table.readers.union(*table.columns.values(), *table.policies.values())
@@ -195,15 +198,20 @@ class Export:
             if losers and not readers - denied:
                 self.bad[table.name] = f"policy {policy}: {why}"
                 return
-            into, whom = (self.lost, f"no right on the table for {self.people(losers)}") if losers else (self.notes, "no role here goes by it")
-            into.append(f"policy {policy} of table {table.name}: {why}; {whom}")
+            of = f"policy {policy} of table {table.name}: {why}"
+            if losers:
+                self.lost.append(f"{of}; no right on the table for {self.people(losers)}")
+            else:
+                self.notes.append(f"{of}; no role here goes by it")
         for role, why in self.plan.denied[table.name].items():
             self.lost.append(f"role {self.people([role])}: no right on table {table.name}, since {why}")
         for role in self.plan.exported:
             if there[role] == NOTHING and readable(self.cluster, table, role):
-                self.lost.append(f"role {self.people([role])}: no right on table {table.name}, since the columns that it reads are left out")
+                of = f"role {self.people([role])}: no right on table {table.name}"
+                self.lost.append(f"{of}, since the columns that it reads are left out")
         if self.plan.written[table.name].owner is None and self.cluster.names[table.owner] != "root":
-            self.notes.append(f"table {table.name}: it belongs to root here and not to {self.people([table.owner])}, which changes no right")
+            of = f"table {table.name}: it belongs to root here and not to {self.people([table.owner])}"
+            self.notes.append(f"{of}, which changes no right")
 
     def people(self, numbers):
         """Roles by name."""
@@ -231,7 +239,8 @@ class Export:
             role = self.cluster.roles[it]
             words = " SUPERUSER" * role["is_superuser"] + " BYPASSRLS" * role["bypasses"]
             statements += [f"CREATE ROLE {name[it]}{words};"] if name[it] != "root" else []
-        statements += [f"GRANT {group} TO {member};" for group, member in sorted((name[g], name[m]) for g, m in self.plan.steps())]
+        memberships = sorted((name[group], name[member]) for group, member in self.plan.steps())
+        statements += [f"GRANT {group} TO {member};" for group, member in memberships]
         for table in self.tables:
             statements += self.table_statements(table, written[table.name])
         for table in self.tables:

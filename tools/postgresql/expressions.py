@@ -58,7 +58,8 @@ WORDS = {"AND", "OR", "NOT", "IS", "CASE", "WHEN", "THEN", "ELSE", "END", "ARRAY
 CONSTANTS = {"TRUE", "FALSE", "NULL"}
 ARITHMETIC = {"+", "-", "*", "/", "%", "^"}
 # Words of values and of forms that are not in the grammar, which are no columns unless they are quoted.
-VALUES = {"SESSION_USER", "CURRENT_DATE", "CURRENT_TIME", "CURRENT_TIMESTAMP", "LOCALTIME", "LOCALTIMESTAMP", "CURRENT_CATALOG", "CURRENT_SCHEMA"}
+VALUES = {"SESSION_USER", "CURRENT_CATALOG", "CURRENT_SCHEMA", "CURRENT_DATE", "CURRENT_TIME", "CURRENT_TIMESTAMP"}
+VALUES |= {"LOCALTIME", "LOCALTIMESTAMP"}
 
 
 def tokens_of(text):

@@ -1,4 +1,7 @@
-"""Conditions of policies, as pg_get_expr writes them, and what they are here. Run by: python3 -m unittest discover tools/postgresql"""
+"""Conditions of policies, as pg_get_expr writes them, and what they are here.
+
+usage: python3 -B -m unittest discover -s tools/postgresql
+"""
 import pathlib
 import sys
 import unittest

@@ -1,12 +1,23 @@
-"""What is exported of small databases, given as the facts that PostgreSQL would give. Run by: python3 -m unittest discover tools/postgresql"""
+"""What is exported of small databases, given as facts as PostgreSQL gives them.
+
+usage: python3 -B -m unittest discover -s tools/postgresql
+"""
+import importlib.machinery
+import importlib.util
 import pathlib
 import sys
+import tempfile
 import unittest
 
 sys.path.insert(0, str(pathlib.Path(__file__).resolve().parent))
 from export import Export, Options  # noqa: E402
 from names import plain, shown  # noqa: E402
 from ways_round import ways_round  # noqa: E402
+
+tool = pathlib.Path(__file__).resolve().parent.parent / "from-postgresql"
+loader = importlib.machinery.SourceFileLoader("from_postgresql", str(tool))
+from_postgresql = importlib.util.module_from_spec(importlib.util.spec_from_loader(loader.name, loader))
+loader.exec_module(from_postgresql)
 
 
 def role(number, name, **more):
@@ -22,8 +33,8 @@ def member(group, number, inherits=True):
 
 def column(table, name, base="bigint", readers=None, **more):
     """A column of a type of PostgreSQL's own."""
-    found = {"table": table, "name": name, "is_not_null": False, "written": base, "base": base, "readers": readers, "type_kind": "b"}
-    return found | {"type_schema": "pg_catalog", "is_deterministic": True, "is_by_bytes": False} | more
+    found = {"table": table, "name": name, "is_not_null": False, "written": base, "base": base, "readers": readers}
+    return found | {"type_kind": "b", "type_schema": "pg_catalog", "is_deterministic": True, "is_by_bytes": False} | more
 
 
 def table(number, name, owner, readers, **more):
@@ -63,12 +74,14 @@ class Rights(unittest.TestCase):
         tables = [table(7, "t", OWNER, [OWNER, GROUP])]
         columns = [column(7, "id", readers=[BEN]), column(7, "name", "text")]
         _, statements, lost = exported(PEOPLE, tables, columns, memberships=[member(GROUP, ANN)])
-        self.assertEqual(statements, ["GRANT group_of TO ann;", "GRANT SELECT (id) ON t TO ben;", "GRANT SELECT ON t TO group_of;"])
+        wanted = ["GRANT group_of TO ann;", "GRANT SELECT (id) ON t TO ben;", "GRANT SELECT ON t TO group_of;"]
+        self.assertEqual(statements, wanted)
         self.assertEqual(lost, [])
 
     def test_usage(self):
         tables = [table(7, "t", OWNER, [OWNER, GROUP])]
-        _, statements, lost = exported(PEOPLE, tables, ONE, memberships=[member(GROUP, ANN), member(GROUP, BEN)], usage=[OWNER, ANN])
+        members = [member(GROUP, ANN), member(GROUP, BEN)]
+        _, statements, lost = exported(PEOPLE, tables, ONE, memberships=members, usage=[OWNER, ANN])
         self.assertEqual(statements, ["GRANT group_of TO ann;", "GRANT group_of TO ben;", "GRANT SELECT ON t TO ann;"])
         self.assertEqual(lost, [])
 
@@ -178,6 +191,59 @@ class Roles(unittest.TestCase):
         found, _, _ = exported(people, [table(7, "t", OWNER, [it["role"] for it in people])], ONE)
         told = "257 roles, root among them, and a schema here has at most 256: --table takes some of the tables"
         self.assertEqual([*found.over_limits()], [told])
+
+
+class Folders(unittest.TestCase):
+    """An export takes the place of an earlier one, and of nothing else; a text that is null here is found in its rows."""
+
+    def test_place(self):
+        with tempfile.TemporaryDirectory() as work:
+            top = pathlib.Path(work)
+            for name, files in (("new", None), ("empty", []), ("export", ["schema.sql", "t.csv", "report.txt"])):
+                self.make(top / name, files)
+                self.assertEqual(from_postgresql.place_of(top / name), top / name)
+            for name, files in (("others", ["notes.txt"]), ("more", ["schema.sql", "notes.txt"]), ("rows", ["t.csv"])):
+                self.make(top / name, files)
+                self.assertRaises(from_postgresql.Failed, from_postgresql.place_of, top / name)
+            self.assertRaises(from_postgresql.Failed, from_postgresql.place_of, top / "none" / "new")
+            (top / "link").symlink_to(top / "empty")
+            self.assertRaises(from_postgresql.Failed, from_postgresql.place_of, top / "link")
+
+    def make(self, folder, files):
+        """Makes a folder with empty files."""
+        if files is not None:
+            folder.mkdir()
+            for name in files:
+                (folder / name).touch()
+
+    def test_null_text(self):
+        columns = [{"name": "id"}, {"name": "a"}, {"name": "b"}]
+        rows = (
+            (b'1,"x","\N"\n', "b"),
+            (b'1,"\N",\N\n', "a"),
+            (b'1,\N,"x"\n', None),
+            (b'1,"x,""\N"",y","z"\n', None),
+            (b'1,"two\n""\N""\n","z"\n2,"a,","\N"\n', "b"),
+        )
+        with tempfile.TemporaryDirectory() as work:
+            file = pathlib.Path(work) / "t.csv"
+            for text, wanted in rows:
+                with self.subTest(text):
+                    file.write_bytes(b"id,a,b\n" + text)
+                    self.assertEqual(from_postgresql.null_text(file, columns), wanted)
+
+
+class Words(unittest.TestCase):
+    """The words of the command line."""
+
+    def test_words(self):
+        words = "--schema s --table t --table u=a,b --role r --as-text date --partial out -- -h db".split()
+        options, schema, is_partial, folder, psql = from_postgresql.read_words(words)
+        self.assertEqual((schema, is_partial, str(folder), psql), ("s", True, "out", ["-h", "db"]))
+        self.assertEqual((options.tables, options.roles, options.as_text), ({"t": None, "u": ["a", "b"]}, ["r"], {"date"}))
+        for wrong in ([], ["a", "b"], ["--schema"], ["--nothing", "out"]):
+            with self.subTest(wrong):
+                self.assertRaises(from_postgresql.UsageError, from_postgresql.read_words, wrong)
 
 
 class Names(unittest.TestCase):
