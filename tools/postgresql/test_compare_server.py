@@ -157,6 +157,8 @@ class Queries(unittest.TestCase):
         for text in ("a\nb", "a\r\nb", "a\tb"):
             self.assertEqual(ask("ann", f"SELECT\nid,\t'{text}'\r\nFROM note"), (0, f"the same: {len(TEXTS) + 1} rows\n", ""))
         self.assertEqual(ask("ann", "SELECT id FROM note WHERE body = 'a\nb'"), (0, "the same: 1 rows\n", ""))
+        query = "SELECT CASE WHEN id=1 THEN'x\\'ELSE'y'END FROM odd WHERE'\\'IN('\\','e')OR'n'='e'"
+        self.assertEqual(ask("ann", query), (0, "the same: 1 rows\n", ""))
         query = "SELECT '/*', '--', '$$', ':name', ':''name''', '`touch x`', '\n\\! touch x', ') TO STDOUT;', '\"' FROM odd"
         self.assertEqual(ask("ann", query, "-v", "name=1"), (0, "the same: 1 rows\n", ""))
 
