@@ -77,6 +77,8 @@ def spare(items, counts):
 
 def both_ways(left, right):
     """What each of two lists has more often than the other."""
+    if left == right:
+        return [], []
     counts = Counter(left), Counter(right)
     return ([], []) if dict.__eq__(*counts) else (spare(left, counts[1]), spare(right, counts[0]))
 

@@ -35,7 +35,7 @@ CREATE TABLE kind (id smallint, token uuid, held date, at timestamptz, lasts int
 INSERT INTO kind VALUES (2, NULL, NULL, NULL, NULL, NULL, NULL, NULL), (1, 'A0EEBC99-9C0B-4EF8-BB6D-6BB9BD380A11', '2026-01-05',
     '2026-01-05 10:00:00+02', '1 day 2 hours', '\\x615c62', 0.1, true);
 CREATE TABLE big AS SELECT n AS id, 'row ' || n AS a, CASE WHEN n % 3 > 0 THEN 'x,' || n END AS b, n % 2 = 0 AS c
-    FROM generate_series(1, 200000) n;
+    FROM generate_series(1, 200000) n ORDER BY md5(n::text);
 CREATE TABLE odd (id bigint); INSERT INTO odd VALUES (1);
 CREATE FUNCTION stop() RETURNS boolean LANGUAGE plpgsql AS $$ BEGIN RAISE 'stop' USING ERRCODE = '57014'; END $$;
 CREATE TABLE stops (id bigint); INSERT INTO stops VALUES (1); ALTER TABLE stops ENABLE ROW LEVEL SECURITY;
