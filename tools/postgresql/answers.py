@@ -77,6 +77,8 @@ def spare(items, counts):
 
 def both_ways(left, right):
     """What each of two lists has more often than the other."""
+    if left == right:
+        return [], []
     counts = Counter(left), Counter(right)
     return ([], []) if dict.__eq__(*counts) else (spare(left, counts[1]), spare(right, counts[0]))
 
@@ -110,9 +112,10 @@ def shown(row):
 def is_known(query, here, there, offset):
     """True where docs/POSTGRESQL.md has this difference of codes; the offset is that of the refusal here, if it has one."""
     words = [(it.start(), it[0].lower()) for it in TOKEN.finditer(query)]
-    if (here, there) in KNOWN_KEYS and any(at < offset for at, word in words if word == b"order"):
-        return True
-    if (here, there) in KNOWN_COLUMNS and SYSTEM_COLUMN.match(query, offset):
-        return True
+    if offset is not None:
+        if (here, there) in KNOWN_KEYS and any(at < offset for at, word in words if word == b"order"):
+            return True
+        if (here, there) in KNOWN_COLUMNS and SYSTEM_COLUMN.match(query, offset):
+            return True
     needs = KNOWN.get((here, there), (None,))[0]
     return needs is not None and (not needs or any(word in needs for _, word in words))

@@ -35,13 +35,13 @@ CREATE TABLE kind (id smallint, token uuid, held date, at timestamptz, lasts int
 INSERT INTO kind VALUES (2, NULL, NULL, NULL, NULL, NULL, NULL, NULL), (1, 'A0EEBC99-9C0B-4EF8-BB6D-6BB9BD380A11', '2026-01-05',
     '2026-01-05 10:00:00+02', '1 day 2 hours', '\\x615c62', 0.1, true);
 CREATE TABLE big AS SELECT n AS id, 'row ' || n AS a, CASE WHEN n % 3 > 0 THEN 'x,' || n END AS b, n % 2 = 0 AS c
-    FROM generate_series(1, 200000) n;
+    FROM generate_series(1, 200000) n ORDER BY md5(n::text);
 CREATE TABLE odd (id bigint); INSERT INTO odd VALUES (1);
 CREATE FUNCTION stop() RETURNS boolean LANGUAGE plpgsql AS $$ BEGIN RAISE 'stop' USING ERRCODE = '57014'; END $$;
 CREATE TABLE stops (id bigint); INSERT INTO stops VALUES (1); ALTER TABLE stops ENABLE ROW LEVEL SECURITY;
 CREATE POLICY p ON stops USING (stop());
 CREATE FUNCTION speaks() RETURNS boolean LANGUAGE plpgsql AS $$ BEGIN
-    RAISE WARNING E'x\\nERROR:  42P01: y' USING ERRCODE = '22012'; RETURN true; END $$;
+    RAISE WARNING E'x\\nERROR:  42P01: y' USING ERRCODE = '42P02'; RETURN true; END $$;
 CREATE TABLE loud (id bigint); INSERT INTO loud VALUES (1); ALTER TABLE loud ENABLE ROW LEVEL SECURITY;
 CREATE POLICY p ON loud USING (speaks());
 CREATE FUNCTION writes() RETURNS boolean LANGUAGE plpgsql AS $$ BEGIN INSERT INTO {QUOTED}.odd VALUES (2); RETURN true; END $$;
@@ -105,8 +105,10 @@ ROOM = None
 def setUpModule():
     """Makes the tables of SERVER and their folder."""
     global ROOM
-    if not is_own_server() or not has_rowplan():
-        raise unittest.SkipTest("no server of tools/with-postgresql, or no rowplan")
+    if not is_own_server():
+        raise unittest.SkipTest("no server of tools/with-postgresql is at hand")
+    if not has_rowplan():
+        raise unittest.SkipTest("no rowplan is at hand")
     room = tempfile.TemporaryDirectory()
     unittest.addModuleCleanup(room.cleanup)
     ROOM = pathlib.Path(room.name)
@@ -150,12 +152,13 @@ class Queries(unittest.TestCase):
     def test_values_are_spelled_alike_whatever_the_session(self):
         self.assertEqual(ask("ann", "SELECT * FROM kind", PGOPTIONS=ELSEWHERE), (0, "the same: 2 rows\n", ""))
         self.assertEqual(ask("ann", "SELECT id FROM note WHERE body = '\\'", PGOPTIONS=ELSEWHERE), (0, "the same: 1 rows\n", ""))
-        self.assertEqual(ask("ann", "SELECT id FROM loud", PGOPTIONS=ELSEWHERE), (0, "the same: 1 rows\n", ""))
 
     def test_literals_are_kept_as_they_are(self):
         for text in ("a\nb", "a\r\nb", "a\tb"):
             self.assertEqual(ask("ann", f"SELECT\nid,\t'{text}'\r\nFROM note"), (0, f"the same: {len(TEXTS) + 1} rows\n", ""))
         self.assertEqual(ask("ann", "SELECT id FROM note WHERE body = 'a\nb'"), (0, "the same: 1 rows\n", ""))
+        query = "SELECT CASE WHEN id=1 THEN'x\\'ELSE'y'END FROM odd WHERE'\\'IN('\\','e')OR'n'='e'"
+        self.assertEqual(ask("ann", query), (0, "the same: 1 rows\n", ""))
         query = "SELECT '/*', '--', '$$', ':name', ':''name''', '`touch x`', '\n\\! touch x', ') TO STDOUT;', '\"' FROM odd"
         self.assertEqual(ask("ann", query, "-v", "name=1"), (0, "the same: 1 rows\n", ""))
 
@@ -291,6 +294,10 @@ class Outcomes(unittest.TestCase):
     def test_an_answer_that_goes_elsewhere(self):
         told = (3, "", "PostgreSQL cannot be asked: psql did not print what it was told to\n")
         self.assertEqual(ask("ann", "SELECT id FROM odd", "-o", str(ROOM / "elsewhere")), told)
+
+    def test_a_warning_is_not_the_error(self):
+        self.assertEqual(ask("ann", "SELECT id FROM loud", PGOPTIONS=ELSEWHERE), (0, "the same: 1 rows\n", ""))
+        self.assertEqual(ask("ann", "SELECT 1 / (id - 1) FROM loud", PGOPTIONS=ELSEWHERE), (0, "the same: 22012\n", ""))
 
     def test_what_stops_the_server_is_no_answer(self):
         told = "not compared: PostgreSQL did not answer: 57014: stop\n"
