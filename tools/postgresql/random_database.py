@@ -283,7 +283,8 @@ class Database:
         for person in PEOPLE[: self.random.randint(4, 8)]:
             name = f"{self.schema}_{person}"
             if self.chance(0.15, "names"):
-                name = self.random.choice((name.upper(), f"{self.schema} {person}", f"{self.schema}_{person}'s"))
+                names = (name.upper(), f"{self.schema} {person}", f"{name}'s", f"{name}\ngrant", f"{name}\x1fs", f'{name}"s')
+                name = self.random.choice(names)
             attributes = [it for it, share in ATTRIBUTES.items() if self.chance(share)]
             self.say(" ".join(["CREATE ROLE", identifier(name), *attributes]))
             self.roles.append(name)
