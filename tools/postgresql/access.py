@@ -1,4 +1,4 @@
-"""Who may read what: as PostgreSQL decides it, and as a schema of rowplan does. An export is a schema by which both are the same."""
+"""Who may read what: as PostgreSQL decides it, and as a schema of rowplan does. By an export both are the same."""
 import dataclasses
 
 PUBLIC = 0

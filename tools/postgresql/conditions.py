@@ -55,7 +55,7 @@ def said_column(column):
 
 
 class Translator:
-    """Says conditions over the columns of a table. Of collations, by name, those count that are not deterministic or go by bytes."""
+    """Says conditions over the columns of a table. collations has those that are not deterministic or go by bytes."""
 
     def __init__(self, columns, exported, collations):
         self.columns = {it["name"]: it for it in columns}

@@ -43,7 +43,7 @@ class ServerError(Exception):
 
 
 class Transaction:
-    """One transaction that reads alone, in a psql with these words: each of its statements sees the database as the first one does."""
+    """One transaction that reads alone, in a psql with these words: each statement sees the database as the first one does."""
 
     def __init__(self, words, work):
         self.work = work
