@@ -1,6 +1,6 @@
 """What an export does not cover: ways by which a role may read more than the rights on its tables say."""
 from access import PUBLIC, readable, reached
-from names import shown
+from names import plain, shown
 
 
 def ways_round(export):
@@ -44,7 +44,7 @@ def views(facts, cluster, tables):
 def functions(facts, cluster):
     """Functions that run with the rights of their owner."""
     for it in facts["functions"] or []:
-        name = f"{shown(it['schema'])}.{shown(it['name'])}"
+        name = f"{shown(it['schema'])}.{shown(it['name'])}({plain(it['arguments'])})"
         owner = shown(cluster.names[it["owner"]])
         callers = people(cluster, set(it["callers"] or []) - {it["owner"]})
         yield f"function {name} runs with the rights of {owner} (SECURITY DEFINER); EXECUTE for {callers}"
