@@ -42,6 +42,11 @@ const SELF: &str = "SELECT p.id FROM a p, a q WHERE p.k = q.k";
 const THREE: &str =
     "SELECT a.id FROM a, c, a d WHERE a.k = c.k AND c.id = d.id AND (a.id < d.id OR a.t = c.t)";
 
+const FIRST: &str = "SELECT a.id FROM a, c, a d WHERE a.k = c.k AND a.id = d.id";
+
+const MIDDLE: &str =
+    "SELECT a.id FROM a, c, a d, c e WHERE a.k = c.k AND a.id = d.id AND c.id = e.id";
+
 /// The query of that name, or the text itself.
 pub fn query_text(text: &str) -> &str {
     match text {
@@ -52,6 +57,8 @@ pub fn query_text(text: &str) -> &str {
         "BARE" => BARE,
         "SELF" => SELF,
         "THREE" => THREE,
+        "FIRST" => FIRST,
+        "MIDDLE" => MIDDLE,
         _ => text,
     }
 }
@@ -59,32 +66,34 @@ pub fn query_text(text: &str) -> &str {
 /// The rows of the test.
 ///
 /// A full scan takes a step for each row, the scan of an index two, the part of an index one more. Nested loops take one for each
-/// pair; a hash join one for each row of both sides and each pair with equal keys; a merge one for each left row, one for each right
+/// pair; a hash join one for each row of both sides and each pair with equal keys, and so do nested loops, where an equality with an
+/// entry before is there and these are no more than all pairs; a merge one for each left row, one for each right
 /// row that is passed since it is less than a left one, and one for each pair with equal keys. Sorting takes one for each comparison
 /// of the merge sort, which halves a list with the smaller half first.
-pub const ROWS: &str = "root | KEYS | - | - | 1 f n, 2 f n | 0.0 0.2 2.1 3.0 3.2 | 35
+pub const ROWS: &str = "root | KEYS | - | - | 1 f n, 2 f n | 0.0 0.2 2.1 3.0 3.2 | 25
 root | KEYS | - | - | 1 f n, 2 f h1 | 0.0 0.2 2.1 3.0 3.2 | 25
 root | KEYS | - | - | 2 f n, 1 f h1 | 0.0 3.0 2.1 0.2 3.2 | 25
 root | KEYS | - | - | 1 f n, 2 f m1 | 0.0 0.2 3.0 3.2 2.1 | 38
 root | KEYS | 1.2 2.2 | - | 1 i2 n, 2 i2 m1 | {0.0 0.2 2.1 3.0 3.2} | 34
 root | KEYS | 2.2 | - | 1 f n, 2 i2 m1 | {0.0 0.2 2.1 3.0 3.2} | 37
 root | KEYS | 1.2 | - | 1 i2 n, 2 f m1 | {0.0 0.2 2.1 3.0 3.2} | 35
-root | TEXTS | - | - | 1 f n, 2 f n | 0.0 0.3 1.1 3.0 3.3 4.2 | 35
+root | TEXTS | - | - | 1 f n, 2 f n | 0.0 0.3 1.1 3.0 3.3 4.2 | 26
 root | TEXTS | - | - | 1 f n, 2 f h1 | 0.0 0.3 1.1 3.0 3.3 4.2 | 26
 root | TRUTHS | - | - | 1 f n, 2 f h1 | 0.0 0.3 1.2 1.4 3.0 3.3 4.2 4.4 | 28
-root | TRUTHS | - | - | 1 f n, 2 f n | 0.0 0.3 1.2 1.4 3.0 3.3 4.2 4.4 | 35
+root | TRUTHS | - | - | 1 f n, 2 f n | 0.0 0.3 1.2 1.4 3.0 3.3 4.2 4.4 | 28
 root | NUMBERS | 1.1 2.1 | - | 1 i1 n, 2 i1 m1 | 0.0 1.1 2.2 3.3 4.4 | 34
 root | NUMBERS | 1.1 2.1 | - | 1 i1 n, 2 i1 h1 | 0.0 1.1 2.2 3.3 4.4 | 35
-root | NUMBERS | 1.1 2.1 | - | 1 i1 n, 2 i1 n | 0.0 1.1 2.2 3.3 4.4 | 45
+root | NUMBERS | 1.1 2.1 | - | 1 i1 n, 2 i1 n | 0.0 1.1 2.2 3.3 4.4 | 35
 root | BARE | - | - | 1 f n, 2 f n |  | 5
 root | BARE | - | - | 1 f n, 2 f h1 |  | 10
 root | BARE | - | - | 2 f n, 1 f h1 |  | 10
 root | BARE | - | - | 1 f n, 2 f m1 |  | 18
 root | BARE | - | - | 2 f n, 1 f m1 |  | 13
 root | SELF | - | - | 1 f n, 2 f h1 | 0.0 0.3 2.2 3.0 3.3 4.4 | 26
-root | SELF | - | - | 1 f n, 2 f n | 0.0 0.3 2.2 3.0 3.3 4.4 | 35
+root | SELF | - | - | 1 f n, 2 f n | 0.0 0.3 2.2 3.0 3.3 4.4 | 26
 root | THREE | - | - | 1 f n, 2 f h1, 3 f h2 | 0.0.0 0.2.2 3.0.0 | 45
-root | THREE | - | - | 1 f n, 2 f h1, 3 f n | 0.0.0 0.2.2 3.0.0 | 55
+root | THREE | - | - | 1 f n, 2 f h1, 3 f n | 0.0.0 0.2.2 3.0.0 | 45
+root | THREE | - | - | 1 f n, 2 f n, 3 f n | 0.0.0 0.2.2 3.0.0 | 45
 root | THREE | - | - | 3 f n, 2 f h2, 1 f h1 | 0.0.0 3.0.0 0.2.2 | 45
 root | KEYS | - | 1.1 | 2 f n, 1 f h1 | 0.0 0.2 2.1 3.0 3.2 | 33
 root | KEYS | 1.1 | 1.1 | 1 i1 n, 2 f h1 | 0.0 0.2 2.1 3.0 3.2 | 30
@@ -110,10 +119,19 @@ root | SELECT id FROM a WHERE k < NULL | 1.2 | - | 1 r2/1 n |  | 1
 root | SELECT id FROM a WHERE t > 'x' | 1.3 | - | 1 r3/1 n | 1 4 | 5
 root | SELECT id FROM a WHERE b = TRUE | 1.4 | - | 1 r4/1 n | {0 3} | 5
 alice | KEYS | - | - | 1 f n, 2 f h1 | 0.0 3.0 | 19
-alice | KEYS | - | - | 1 f n, 2 f n | 0.0 3.0 | 20
+alice | KEYS | - | - | 1 f n, 2 f n | 0.0 3.0 | 19
 alice | KEYS | - | - | 2 f n, 1 f h1 | 0.0 3.0 | 19
 alice | KEYS | 2.2 | - | 1 f n, 2 i2 m1 | 0.0 3.0 | 31
 root | SELECT id FROM a WHERE FALSE | - | - | empty |  | 0
 root | SELECT id FROM a WHERE 1 = 1 | - | - | 1 f n | 0 1 2 3 4 | 5
 root | SELECT a.id FROM a, c | - | - | 1 f n, 2 f n | 0.0 0.1 0.2 0.3 0.4 1.0 1.1 1.2 1.3 1.4 2.0 2.1 2.2 2.3 2.4 3.0 3.1 3.2 3.3 3.4 4.0 4.1 4.2 4.3 4.4 | 35
+root | SELECT a.id FROM a, c WHERE a.k < c.k | - | - | 1 f n, 2 f n | 0.1 0.4 2.4 3.1 3.4 4.4 | 35
+root | SELECT a.id FROM a, c WHERE a.k = c.k AND a.t = c.t | - | - | 1 f n, 2 f n | 0.0 3.0 | 25
+root | SELECT a.id FROM a, c WHERE a.t = c.t AND a.k = c.k | - | - | 1 f n, 2 f n | 0.0 3.0 | 26
+root | SELECT a.id FROM a, c WHERE a.k = c.k AND c.id IN (1, 3) | - | - | 1 f n, 2 f n | 0.0 0.2 3.0 3.2 | 20
+root | SELECT a.id FROM a, c WHERE a.k = c.k AND c.id IN (2, 5) | - | - | 1 f n, 2 f n | 2.1 | 18
+root | SELECT a.id FROM a, c WHERE a.k = c.k AND c.id > 4 | - | - | 1 f n, 2 f n |  | 15
+alice | SELECT a.id FROM a, c WHERE a.k = c.k AND c.id > 4 | - | - | 1 f n, 2 f n |  | 10
+root | FIRST | - | - | 1 f n, 2 f n, 3 f n | 0.0.0 0.2.0 2.1.2 3.0.3 3.2.3 | 45
+root | MIDDLE | - | - | 1 f n, 2 f n, 3 f n, 4 f n | 0.0.0.0 0.2.0.2 2.1.2.1 3.0.3.0 3.2.3.2 | 65
 ";

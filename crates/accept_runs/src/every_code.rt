@@ -83,7 +83,8 @@ fn gives_the_same(
     all_give(rt, &world, setting, codes.as_slice(), want.as_str())
 }
 
-// 40 problems of one to four entries, whose tables have up to six rows of small numbers and nulls.
+// 40 problems of one to four entries, whose tables have up to ten rows of small numbers and nulls, or up to six where there are more
+// than two.
 #[test]
 fn every_code_gives_the_combinations_of_nested_loops(rt: HostRuntime) -> Result<(), Fail> {
     let mut random = Random::new(SEED);

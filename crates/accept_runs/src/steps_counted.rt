@@ -1,9 +1,9 @@
 //! The steps that joins count: those of their sources, and their own.
 
 use crate::slow_source::SlowSource;
-use crate::trivial::{AlwaysTrue, Never};
+use crate::trivial::{AlwaysNull, AlwaysTrue, Never};
 use expr::Method;
-use joins::join_by;
+use joins::{Column, join_by};
 use std::alloc::{AllocError, AllocGlobal, Global};
 use std::process::Abort;
 use std::test::Fail;
@@ -19,19 +19,32 @@ fn rows(alloc: Global, entry: usize, count: u32) -> Result<SlowSource<Global>, A
     Ok(SlowSource::new(combinations))
 }
 
-// The steps that a join of so many rows takes, all of which have the same key, and no pair of which passes.
-fn steps(alloc: Global, method: Method, left: u32, right: u32) -> Result<u128, AllocError> {
+// How rows are joined: by a method, and nested loops by keys or not.
+#[derive(Clone, Copy)]
+struct Way {
+    method: Method,
+    is_keyed: bool,
+}
+
+// The steps that a join of so many rows takes by a key on both sides, where no pair passes.
+fn steps<K: Column<Global>>(
+    alloc: Global,
+    key: &K,
+    way: Way,
+    left: u32,
+    right: u32,
+) -> Result<u128, AllocError> {
     let mut work = Work::new();
     let lefts = rows(alloc, 0, left)?;
     let rights = rows(alloc, 1, right)?;
-    let key = AlwaysTrue {};
     let found = join_by(
         alloc,
-        method,
+        way.method,
+        way.is_keyed,
         lefts,
         rights,
-        &key,
-        &key,
+        key,
+        key,
         false,
         false,
         &Never {},
@@ -41,14 +54,15 @@ fn steps(alloc: Global, method: Method, left: u32, right: u32) -> Result<u128, A
     Ok(work.count())
 }
 
-fn takes(
+fn takes<K: Column<Global>>(
     rt: &(impl Abort + AllocGlobal),
-    method: Method,
+    key: &K,
+    way: Way,
     left: u32,
     right: u32,
     want: u128,
 ) -> Result<(), AllocError> {
-    let got = steps(rt.alloc(), method, left, right)?;
+    let got = steps(rt.alloc(), key, way, left, right)?;
     assert!(rt;
         got == want,
         "{left} and {right} rows: {got} steps, and not {want}"
@@ -56,22 +70,54 @@ fn takes(
     Ok(())
 }
 
-// Each row takes a thousand steps. Nested loops look at each pair. A hash table takes a step for each row of both sides and one for
-// each pair of equal keys; so does a merge, which is less by the right rows here, since none of them is less than a left one, but
-// sorts both sides: two rows by one comparison, three by two, four by four.
+// A way without keys for nested loops.
+fn by(method: Method) -> Way {
+    Way {
+        method,
+        is_keyed: false,
+    }
+}
+
+// Each row takes a thousand steps, and all have the same key. Nested loops look at each pair. A hash table takes a step for each row
+// of both sides and one for each pair of equal keys; so does a merge, which is less by the right rows here, since none of them is
+// less than a left one, but sorts both sides: two rows by one comparison, three by two, four by four.
 #[test]
 fn joins_count_their_own_steps_and_those_of_their_sources(rt: HostRuntime) -> Result<(), Fail> {
-    let hash = Method::Hash { conjunct: 1 };
-    let merge = Method::Merge { conjunct: 1 };
-    takes(&rt, Method::Nested, 3, 4, 7012)?;
-    takes(&rt, Method::Nested, 0, 4, 4000)?;
-    takes(&rt, Method::Nested, 3, 0, 3000)?;
-    takes(&rt, hash, 3, 4, 7019)?;
-    takes(&rt, hash, 0, 4, 4004)?;
-    takes(&rt, hash, 3, 0, 3003)?;
-    takes(&rt, merge, 3, 4, 7021)?;
-    takes(&rt, merge, 0, 4, 4004)?;
-    takes(&rt, merge, 3, 0, 3005)?;
-    takes(&rt, merge, 2, 2, 4008)?;
+    let key = AlwaysTrue {};
+    let nested = by(Method::Nested);
+    let hash = by(Method::Hash { conjunct: 1 });
+    let merge = by(Method::Merge { conjunct: 1 });
+    takes(&rt, &key, nested, 3, 4, 7012)?;
+    takes(&rt, &key, nested, 0, 4, 4000)?;
+    takes(&rt, &key, nested, 3, 0, 3000)?;
+    takes(&rt, &key, hash, 3, 4, 7019)?;
+    takes(&rt, &key, hash, 0, 4, 4004)?;
+    takes(&rt, &key, hash, 3, 0, 3003)?;
+    takes(&rt, &key, merge, 3, 4, 7021)?;
+    takes(&rt, &key, merge, 0, 4, 4004)?;
+    takes(&rt, &key, merge, 3, 0, 3005)?;
+    takes(&rt, &key, merge, 2, 2, 4008)?;
+    Ok(())
+}
+
+// Nested loops by keys take a step for each row of both sides and one for each pair of equal keys, or one for each pair, if these are
+// fewer: with one key of all rows, one for each pair; without keys, one for each row, if both sides have two.
+#[test]
+fn nested_loops_by_keys_take_no_more_steps_than_pairs(rt: HostRuntime) -> Result<(), Fail> {
+    let keyed = Way {
+        method: Method::Nested,
+        is_keyed: true,
+    };
+    takes(&rt, &AlwaysTrue {}, keyed, 3, 4, 7012)?;
+    takes(&rt, &AlwaysTrue {}, keyed, 2, 2, 4004)?;
+    takes(&rt, &AlwaysTrue {}, keyed, 0, 4, 4000)?;
+    takes(&rt, &AlwaysTrue {}, keyed, 3, 0, 3000)?;
+    takes(&rt, &AlwaysNull {}, keyed, 3, 4, 7007)?;
+    takes(&rt, &AlwaysNull {}, keyed, 4, 4, 8008)?;
+    takes(&rt, &AlwaysNull {}, keyed, 2, 2, 4004)?;
+    takes(&rt, &AlwaysNull {}, keyed, 1, 4, 5004)?;
+    takes(&rt, &AlwaysNull {}, keyed, 4, 1, 5004)?;
+    takes(&rt, &AlwaysNull {}, keyed, 0, 4, 4000)?;
+    takes(&rt, &AlwaysNull {}, keyed, 3, 0, 3000)?;
     Ok(())
 }

@@ -1,4 +1,4 @@
-//! A column of one value, and a condition that is never true.
+//! Columns of one value, and a condition that is never true.
 
 use joins::{Column, Condition};
 use memory::Heap;
@@ -21,6 +21,24 @@ impl<A: Heap> Column<A> for AlwaysTrue {
 
     fn key(&self, _combination: &Combo<A>) -> Option<Lent<'_>> {
         Some(Lent::Bool(true))
+    }
+}
+
+/// A column that is null in each combination.
+#[derive(Drop)]
+pub struct AlwaysNull {}
+
+impl<A: Heap> Column<A> for AlwaysNull {
+    ghost use Rattle.value.specs.Datum.{null};
+
+    ghost value = { λ s c. null };
+
+    fn value(&self, _combination: &Combo<A>) -> Val<'_, A> {
+        Val::Null
+    }
+
+    fn key(&self, _combination: &Combo<A>) -> Option<Lent<'_>> {
+        None
     }
 }
 
