@@ -65,11 +65,11 @@ pub fn query_text(text: &str) -> &str {
 
 /// The rows of the test.
 ///
-/// A full scan takes a step for each row, the scan of an index two, the part of an index one more. Nested loops take one for each
-/// pair; a hash join one for each row of both sides and each pair with equal keys, and so do nested loops, where an equality with an
-/// entry before is there and these are no more than all pairs; a merge one for each left row, one for each right
-/// row that is passed since it is less than a left one, and one for each pair with equal keys. Sorting takes one for each comparison
-/// of the merge sort, which halves a list with the smaller half first.
+/// A full scan takes a step for each row, the scan of an index two, the part of an index one more. A hash join takes one for each
+/// row of both sides and each pair with equal keys; nested loops take as many by the first equality with an entry before, where
+/// these are no more than all pairs, and else one for each pair; a merge takes one for each left row, one for each right row that
+/// is passed since it is less than a left one, and one for each pair with equal keys. Sorting takes one for each comparison of the
+/// merge sort, which halves a list with the smaller half first.
 pub const ROWS: &str = "root | KEYS | - | - | 1 f n, 2 f n | 0.0 0.2 2.1 3.0 3.2 | 25
 root | KEYS | - | - | 1 f n, 2 f h1 | 0.0 0.2 2.1 3.0 3.2 | 25
 root | KEYS | - | - | 2 f n, 1 f h1 | 0.0 3.0 2.1 0.2 3.2 | 25

@@ -78,9 +78,9 @@ fn by(method: Method) -> Way {
     }
 }
 
-// Each row takes a thousand steps, and all have the same key. Nested loops look at each pair. A hash table takes a step for each row
-// of both sides and one for each pair of equal keys; so does a merge, which is less by the right rows here, since none of them is
-// less than a left one, but sorts both sides: two rows by one comparison, three by two, four by four.
+// Each row takes a thousand steps, and all have the same key. Nested loops look at each pair. A hash table takes a step for each
+// row of both sides and one for each pair of equal keys; so does a merge, which is less by the right rows here, since none of them
+// is less than a left one, but sorts both sides: two rows by one comparison, three by two, four by four.
 #[test]
 fn joins_count_their_own_steps_and_those_of_their_sources(rt: HostRuntime) -> Result<(), Fail> {
     let key = AlwaysTrue {};
@@ -100,8 +100,8 @@ fn joins_count_their_own_steps_and_those_of_their_sources(rt: HostRuntime) -> Re
     Ok(())
 }
 
-// Nested loops by keys take a step for each row of both sides and one for each pair of equal keys, or one for each pair, if these are
-// fewer: with one key of all rows, one for each pair; without keys, one for each row, if both sides have two.
+// Nested loops by keys take a step for each row of both sides and one for each pair of equal keys, or one for each pair, if these
+// are fewer: with one key of all rows, one for each pair; without keys, one for each row, if both sides have two.
 #[test]
 fn nested_loops_by_keys_take_no_more_steps_than_pairs(rt: HostRuntime) -> Result<(), Fail> {
     let keyed = Way {
