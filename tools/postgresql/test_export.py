@@ -185,6 +185,10 @@ class Roles(unittest.TestCase):
         columns = [column(100 + it, "id") for it in range(65)]
         found, _, _ = exported(PEOPLE, tables, columns)
         self.assertEqual([*found.over_limits()], ["65 tables, and a schema here has at most 64: --table takes some"])
+        policies = [policy(7, f"q{it}", [0], "(id = 1)") for it in range(257)]
+        found, _, _ = exported(PEOPLE, [table(7, "t", OWNER, [OWNER], has_row_security=True)], ONE, policies=policies)
+        told = "257 policies, and a schema here has at most 256: --table takes some of the tables"
+        self.assertEqual([*found.over_limits()], [told])
         found, _, lost = exported(PEOPLE, [table(7, "t", OWNER, [OWNER])], [column(7, f"c{it}") for it in range(65)])
         self.assertEqual(lost, ["table t: it has 65 columns, and a table here at most 64: --table t=COLUMN,.. takes some"])
         people = [role(OWNER, "owner")] + [role(100 + it, f"r{it}") for it in range(255)]
