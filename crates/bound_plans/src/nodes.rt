@@ -5,10 +5,10 @@ ghost use Rattle.value.specs.Datum.{Datum, datum};
 ghost use Rattle.row_ast.specs.Ast as ast;
 ghost use Rattle.row_ast.specs.View.{arm_pair, arms as arms_of, column_ref_of, expr_of, exprs};
 
-use memory::{Heap, Items, boxed};
+use memory::{Heap, boxed};
 use row_ast::{Arm, ColumnRef, Expr};
 use std::alloc::AllocError;
-use value::{Aggregate, Arithmetic, ColType, Comparison, Value};
+use value::{Aggregate, Arithmetic, ColType, Comparison, Value, copy_values};
 
 // A tree that was made, if there was memory.
 pub(crate) type Made<A> = Result<Box<Expr<A>, A>, AllocError>;
@@ -121,17 +121,6 @@ pub(crate) fn between<A: Heap>(
         }
         Err(failure) => Err(failure),
     }
-}
-
-// Copies of values.
-fn copy_values<A: Heap>(alloc: A, values: &[Value<A>]) -> Result<Items<Value<A>, A>, AllocError>
-    ensures { IfOk result (λ copies. map datum copies ≡ map datum values.now) }
-{
-    let mut copies = Items::new(alloc);
-    for value in values {
-        copies.push(value.copy(alloc)?)?;
-    }
-    Ok(copies)
 }
 
 // `operand [NOT] IN (value, ..)`.

@@ -50,7 +50,7 @@ after_one cat actor (RevokeSelect grant) = one_changed _ _ (λ t. refl) cat.tabl
 after_one cat actor (CreatePolicy policy) = one_changed _ _ (λ t. guarded policy t (bound_predicate t policy.predicate)) cat.tables
 after_one cat actor (DropPolicy name table) = one_changed _ _ (λ t. refl) cat.tables
 
-accepted : (o : Option Refusal) (due new : Catalog) → unless o due ≡ Ok new → due ≡ new
+pub accepted : (o : Option Refusal) (due new : Catalog) → unless o due ≡ Ok new → due ≡ new
 accepted (Some why) due new e = absurd (cc)
 accepted None due new e = cc
 

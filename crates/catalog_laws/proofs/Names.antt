@@ -13,6 +13,7 @@ use Rattle.row_objects.specs.Indexes.{any_index, has_index}
 use Rattle.row_objects.specs.Objects.{Table}
 use Rattle.catalog_laws.specs.WellFormed.{AreDistinct}
 use Rattle.catalog_laws.proofs.Distinct.{none_distinct, with_head, with_one}
+use Rattle.expr.proofs.Lists.{any_map}
 
 pub found_any : {X : Type 0} (p : X → Bool) (xs : List X) → is_some (find p xs) ≡ list_any p xs
 found_any p [] = refl
@@ -21,10 +22,6 @@ found_any p (x ∷ xs) = go (p x) (found_any p xs)
     go : (b : Bool) → is_some (find p xs) ≡ list_any p xs → is_some (cond b (Some x) (find p xs)) ≡ (b || list_any p xs)
     go true more = refl
     go false more = more
-
-pub any_map : {X Y : Type 0} (p : Y → Bool) (f : X → Y) (xs : List X) → list_any p (map f xs) ≡ list_any (λ x. p (f x)) xs
-any_map p f [] = refl
-any_map p f (x ∷ xs) = ap (λ b. p (f x) || b) (any_map p f xs)
 
 -- a thing of a new name at the end
 module _ {X : Type 0} (f : X → Name) (xs : List X) (x : X) (distinct : AreDistinct (map f xs)) where

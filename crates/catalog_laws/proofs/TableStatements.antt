@@ -28,7 +28,8 @@ use Rattle.catalog_laws.specs.WellFormed.{AreDistinct, IsWellFormedGrant, IsWell
 use Rattle.catalog_laws.proofs.Distinct.{none_distinct, some_distinct, some_left}
 use Rattle.catalog_laws.proofs.GrantSets.{given_by, once_with_all, was_or_given}
 use Rattle.catalog_laws.proofs.Lists.{all_pass, each}
-use Rattle.catalog_laws.proofs.Names.{any_map, column_names_differ, one_more_name}
+use Rattle.expr.proofs.Lists.{any_map}
+use Rattle.catalog_laws.proofs.Names.{column_names_differ, one_more_name}
 use Rattle.catalog_laws.proofs.PolicyColumns.{own_columns, position_within}
 
 -- ---- grants

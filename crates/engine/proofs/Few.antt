@@ -1,5 +1,5 @@
 -- A query has at most eight tables in FROM, and as many entries.
-use Rattle.std.proofs.Common.{◌≡◌, ℕ, ◌+◌, ◌≤◌, Bool, true, false, ◌&&◌, List, [], ◌∷◌, length, length-append, map, Result, Ok, Err, refl, sym, ap, subst, ◌∙◌, arith}
+use Rattle.std.proofs.Common.{◌≡◌, ℕ, ◌+◌, ◌≤◌, Bool, true, false, ◌&&◌, List, [], ◌∷◌, length, length-append, Result, Ok, Err, refl, sym, ap, subst, ◌∙◌, arith}
 use Rattle.std.proofs.lemmas.List.{length-map}
 use Rattle.std.proofs.lemmas.Bool.{leb-true}
 use Rattle.std.proofs.lemmas.List.Sums.{sum-map, sum_by-cons}
@@ -12,7 +12,7 @@ use Rattle.resolve.specs.Entries.{item_tables, joined, joined_by}
 use Rattle.resolve.specs.Resolved.{Bound, bound}
 use Rattle.resolve.proofs.EntryTables.{as_many_entries}
 use Rattle.analysis.specs.Analysis.{admitted_query, permitted}
-use Rattle.engine.proofs.Tables.{not_denied}
+use Rattle.analysis.proofs.Admitted.{not_denied}
 
 abbrev tables_of : FromItem → ℕ
 tables_of f = 1 + length f.joins
@@ -27,7 +27,7 @@ joined_count first (f ∷ more) =
     let n = length-map f.joins (joined_by first) in
     omega arith
 
-first_holds : (a b : Bool) → (a && b) ≡ true → a ≡ true
+pub first_holds : (a b : Bool) → (a && b) ≡ true → a ≡ true
 first_holds true b e = refl
 first_holds false b e = e
 

@@ -31,7 +31,8 @@ use Rattle.resolve.specs.Resolved.{Bound, bound, bound_with, checked, ordered, u
 use Rattle.scope.proofs.Found.{first_given}
 use Rattle.resolve.proofs.EntryTables.{given}
 use Rattle.analysis.specs.Analysis.{admitted_query, permitted}
-use Rattle.engine.proofs.Tables.{not_denied}
+use Rattle.analysis.proofs.Admitted.{not_denied}
+use Rattle.engine.proofs.Few.{first_holds}
 
 -- ---- an AND is bound as an AND of as many members, and any other expression as one that is no AND
 
@@ -217,10 +218,6 @@ few_movable q =
     let n = length-filter movable (conjuncts q) in
     let m = count_by-le-length movable (conjuncts q) in
     omega arith
-
-first_holds : (a b : Bool) → (a && b) ≡ true → a ≡ true
-first_holds true b e = refl
-first_holds false b e = e
 
 second_holds : (a b : Bool) → (a && b) ≡ true → b ≡ true
 second_holds true b e = e

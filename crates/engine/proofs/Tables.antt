@@ -1,29 +1,26 @@
 -- The tables of a query that is admitted are in the catalogue, and so in the store.
-use Rattle.std.proofs.Common.{◌≡◌, ◌<◌, ℕ, Bool, true, false, if◌then◌else◌, List, [], ◌∷◌, length, is_some, Option, Some, None, Result, Ok, Err, refl, subst, ap}
+use Rattle.std.proofs.Common.{◌≡◌, ◌<◌, ℕ, true, List, [], ◌∷◌, length, map, is_some, Result, Ok, Err, refl, subst, ap}
 use Rattle.value.specs.Names.{Name}
 use Rattle.row_ast.specs.Ast.{Query}
 use Rattle.scope.specs.declared.error.BindError.{BindError}
 use Rattle.scope.specs.Entry.{Entry}
 use Rattle.catalog.specs.Catalog.{Catalog, is_role, is_table}
-use Rattle.access.specs.Access.{RequiredPrivilege}
 use Rattle.resolve.specs.Resolved.{Bound, bound}
 use Rattle.resolve.specs.EntryTables.{AreTables}
 use Rattle.resolve.proofs.EntryTables.{binds_tables, given, some_entries}
-use Rattle.replies.specs.Reply.{Reply}
 use Rattle.syntax.specs.Parsing.{parsed_query}
-use Rattle.syntax.specs.declared.error.ParseError.{ParseError}
-use Rattle.analysis.specs.Analysis.{admitted_query, permitted, query_read, unless_denied, unless_refused}
+use Rattle.analysis.specs.Analysis.{admitted_query, permitted, query_read}
 use Rattle.store.specs.Database.{Database}
 use Rattle.store.specs.Agreement.{Agrees}
 use Rattle.store.proofs.Agreement.{each_contents}
 use Rattle.engine.specs.Held.{HaveContents, HoldsEachTable}
+use Rattle.analysis.proofs.Admitted.{not_denied, was_parsed}
+
+pub split : {E : Type 0} (view : E → Entry) (cat : Catalog) (es rest : List E) (e : E) → es ≡ e ∷ rest → AreTables cat (map view es) → AreTables cat (map view (e ∷ rest))
+split view cat es rest e is h = subst (λ es. AreTables cat (map view es)) is h
 
 pub is_there : (cat : Catalog) (e : Entry) (more : List Entry) → AreTables cat (e ∷ more) → is_table cat e.table.name ≡ true
 is_there cat e more h = ap is_some h.0
-
-pub not_denied : (b b' : Bound) (o : Option RequiredPrivilege) → unless_denied b o ≡ Ok b' → b ≡ b'
-not_denied b b' None e = cc
-not_denied b b' (Some privilege) e = absurd (cc)
 
 permitted_tables : (cat : Catalog) (role : Name) (q : Query) (b : Bound) (r : Result Bound BindError) → bound cat q ≡ r → permitted cat role r ≡ Ok b → AreTables cat b.entries
 permitted_tables cat role q b (Err fault) is e = absurd (cc)
@@ -40,12 +37,6 @@ permitted_entries cat role q b (Ok b') some is e =
 
 pub admitted_entries : (cat : Catalog) (role : Name) (q : Query) (b : Bound) → 0 < length q.from → admitted_query cat role q ≡ Ok b → 0 < length b.entries
 admitted_entries cat role q b some e = permitted_entries cat role q b (bound cat q) some refl e
-
--- a query that is read is that of the text
-was_parsed : (b : Bool) (r : Result Query ParseError) (refusal : Reply) (q : Query) → (if b then unless_refused r else Err refusal) ≡ Ok q → r ≡ Ok q
-was_parsed true (Ok q') refusal q e = let same : q' ≡ q = cc in ap Ok same
-was_parsed true (Err error) refusal q e = absurd (cc)
-was_parsed false r refusal q e = absurd (cc)
 
 pub read_parsed : (cat : Catalog) (role : Name) (text : List ℕ) (q : Query) → query_read cat role text ≡ Ok q → parsed_query text ≡ Ok q
 read_parsed cat role text q e = was_parsed (is_role cat role) (parsed_query text) _ q e

@@ -6,9 +6,9 @@ ghost use Rattle.expr.specs.Bound as bound;
 ghost use Rattle.expr.specs.View.{bound_arm_pair, bound_arms, bound_expr_of, bound_exprs};
 
 use crate::bound::{BoundArm, BoundExpr};
-use memory::{Heap, Items, boxed};
+use memory::{Heap, boxed};
 use std::alloc::AllocError;
-use value::{Aggregate, Arithmetic, ColType, Comparison, Value};
+use value::{Aggregate, Arithmetic, ColType, Comparison, Value, copy_values};
 
 /// An expression that was made, if there was memory.
 pub type Copied<A> = Result<Box<BoundExpr<A>, A>, AllocError>;
@@ -111,16 +111,6 @@ pub fn between<A: Heap>(
         }
         Err(failure) => Err(failure),
     }
-}
-
-fn copy_values<A: Heap>(alloc: A, values: &[Value<A>]) -> Result<Items<Value<A>, A>, AllocError>
-    ensures { IfOk result (λ copies. map datum copies ≡ map datum values.now) }
-{
-    let mut copies = Items::new(alloc);
-    for value in values {
-        copies.push(value.copy(alloc)?)?;
-    }
-    Ok(copies)
 }
 
 /// `operand [NOT] IN (value, ..)`, of what was made of its parts; out of memory where a part was not made.

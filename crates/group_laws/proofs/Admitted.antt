@@ -1,37 +1,26 @@
 -- The aggregates of an admitted query stand at different offsets.
-use Rattle.std.proofs.Common.{◌≡◌, ℕ, ◌<◌, Bool, true, false, if◌then◌else◌, List, Option, Some, None, Result, Ok, Err, sym, ap, subst, arith}
+use Rattle.std.proofs.Common.{◌≡◌, ℕ, ◌<◌, List, Result, Ok, Err, sym, ap, subst, arith}
 use Rattle.std.specs.List.{AllPairs}
 use Rattle.std.proofs.lemmas.List.{get_or-map, length-map}
-use Rattle.memory.proofs.Cases.{ok_is}
 use Rattle.value.specs.Names.{Name}
 use Rattle.row_ast.specs.Ast.{Query}
 use Rattle.expr.specs.Aggregates.{AggregateCall}
-use Rattle.replies.specs.Reply.{Reply}
 use Rattle.syntax.specs.Parsing.{parsed_query}
-use Rattle.syntax.specs.declared.error.ParseError.{ParseError}
 use Rattle.scope.specs.declared.error.BindError.{BindError}
 use Rattle.catalog.specs.Catalog.{Catalog, is_role}
 use Rattle.resolve.specs.Resolved.{Bound, bound}
 use Rattle.resolve.proofs.EntryTables.{given}
-use Rattle.access.specs.Access.{RequiredPrivilege, denial}
+use Rattle.access.specs.Access.{denial}
 use Rattle.access.specs.Needed.{needed}
-use Rattle.analysis.specs.Analysis.{admitted, admitted_query, permitted, query_read, unless_denied, unless_refused}
+use Rattle.analysis.specs.Analysis.{admitted, admitted_query, permitted, query_read}
 use Rattle.report.specs.QueryStages.{query_aggregates}
 use Rattle.groups.specs.ClassValues.{HaveOffsets}
 use Rattle.group_laws.specs.Calls.{query_call_offsets}
 use Rattle.group_laws.specs.Offsets.{AggregatesHaveOffsets, TextOffsetsAscend, offsets_of}
 use Rattle.group_laws.proofs.KeptOffsets.{binding_keeps_offsets}
+use Rattle.analysis.proofs.Admitted.{not_denied, was_parsed}
 
 -- ---- an admitted query is bound of that of its text
-
-was_parsed : (b : Bool) (r : Result Query ParseError) (refusal : Reply) (q : Query) → (if b then unless_refused r else Err refusal) ≡ Ok q → r ≡ Ok q
-was_parsed true (Ok p) refusal q e = ap Ok (ok_is p q e)
-was_parsed true (Err error) refusal q e = absurd (cc)
-was_parsed false r refusal q e = absurd (cc)
-
-not_denied : (b c : Bound) (o : Option RequiredPrivilege) → unless_denied b o ≡ Ok c → b ≡ c
-not_denied b c None e = ok_is b c e
-not_denied b c (Some privilege) e = absurd (cc)
 
 was_bound : (cat : Catalog) (role : Name) (r : Result Bound BindError) (b : Bound) → permitted cat role r ≡ Ok b → r ≡ Ok b
 was_bound cat role (Err fault) b e = absurd (cc)

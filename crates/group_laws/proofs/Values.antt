@@ -2,21 +2,17 @@
 use Rattle.std.proofs.Common.{◌≡◌, List, [], ◌∷◌, map, Option, Some, None, Result, Ok, Err, refl, subst}
 use Rattle.std.specs.List.{AllZip, cons_option, filter_map}
 use Rattle.memory.proofs.Cases.{ok_is}
-use Rattle.bags.specs.Least.{least, lesser}
+use Rattle.bags.specs.Least.{least}
 use Rattle.value.specs.declared.faults.Fault.{Fault}
 use Rattle.groups.specs.Stages.{Fate, fault_cmp, fault_in, given_in, gives, stage, unless_fault}
 use Rattle.tuples.specs.Combinations.{joined_cells}
 use Rattle.groups.specs.Members.{member_on}
-use Rattle.groups.proofs.ClassValues.{aggregates_of_classes}
+use Rattle.groups.proofs.ClassValues.{aggregates_of_classes, no_least}
 use Rattle.report.specs.QueryStages.{query_aggregates}
 use Rattle.group_laws.specs.Groups.{AggregatesHaveValues}
 use Rattle.group_laws.specs.Offsets.{AggregatesHaveOffsets}
 
 -- ---- a stage without faults gives the value of each
-
-no_least : (f : Fault) (o : Option Fault) → lesser fault_cmp (Some f) o ≡ None → ⊥
-no_least f None e = cc
-no_least f (Some g) e = cc
 
 no_fault : {Y : Type 0} (o : Option Fault) (given ys : List Y) → unless_fault o given ≡ Ok ys → (o ≡ None) × (given ≡ ys)
 no_fault None given ys e = (refl, ok_is given ys e)

@@ -23,7 +23,7 @@ use Rattle.groups.specs.Members.{Member, argument, arguments, key_on, with_key}
 
 -- ---- a stage that has no fault
 
-no_least : (f : Fault) (o : Option Fault) → lesser fault_cmp (Some f) o ≡ None → ⊥
+pub no_least : (f : Fault) (o : Option Fault) → lesser fault_cmp (Some f) o ≡ None → ⊥
 no_least f None e = some_is_not f e
 no_least f (Some g) e = cc
 

@@ -15,12 +15,7 @@ use value::{Val, cmp_values};
 fn cell_of<A: Heap>(table: &Table<A>, number: u32, column: usize) -> Val<'_, A>
     ensures { datum_of result ≡ cell (row_at table.now.rows number) column }
 {
-    let number = u64::from(number);
-    if number < table.rows() && column < table.columns().len() {
-        table.cell(number, column as u64)
-    } else {
-        Val::Null
-    }
+    Val::of(table.get(number, column))
 }
 
 // The order of the cells of two rows, nulls last.

@@ -19,12 +19,12 @@ use Rattle.joindp.specs.declared.candidates.MergeOrder.{MergeOrder}
 use Rattle.joindp.specs.Best.{Problem, estimates}
 use Rattle.joindp.specs.Candidates.{AreCandidates, Asks, IsCandidate, asked, sorting_for}
 use Rattle.joindp.specs.Cost.{Estimates, access_cost, join_cost, step_cost_of}
-use Rattle.joins.specs.Orders.{Order, facing, is_ordered_by, merge_sorting, merged_order, numbered, order_after, order_of, sides, sides_held, sorting_unless}
+use Rattle.predicates.specs.Numbered.{numbered}
+use Rattle.joins.specs.Orders.{Order, facing, is_ordered_by, merge_sorting, merged_order, order_after, order_of, sides, sides_held, sorting_unless}
 use Rattle.joindp.specs.Following.{equates_with, may_follow, may_join_by, span}
 use Rattle.joindp.specs.Search.{After, AreSizes, cost_of_step, entry_count, next, search, set_of}
 use Rattle.joindp.specs.Walks.{IsBestFrom, IsBestOf, IsPick, Plan, with_first}
 use Rattle.joindp.proofs.Improved.{each_follows, improved, no_step}
-use Rattle.joindp.proofs.NewSteps.{same_number}
 use Rattle.joindp.proofs.Sized.{cost_is}
 
 -- ---- a join that is no merge
@@ -38,7 +38,7 @@ pub record KeepsOrder (at : Estimates) (s : CodeStep) : Type 0 where
 
 -- what a merge asks for is there
 pub has_sides : (p : Problem) (placed : Entries) (entry k : ℕ) → may_join_by p.setting placed entry (Merge k) ≡ true → sides p.setting.conditions entry k ≡ None → ⊥
-has_sides p placed entry k h = of (numbered p.setting.conditions k) (sym (ap (is_some_and (equates_with placed entry)) (same_number p.setting k)) ∙ h)
+has_sides p placed entry k h = of (numbered p.setting.conditions k) h
   where
     go : (q : Option (ColumnId × ColumnId)) → span placed entry q ≡ true → option_map (facing entry) q ≡ None → ⊥
     go None spans e = true≢false (sym spans)

@@ -21,8 +21,9 @@ use Rattle.trailcheck.specs.Settings.{Setting}
 use Rattle.trailcheck.proofs.Placed.{among_more}
 use Rattle.trailcheck.specs.Shapes.{entry_index}
 use Rattle.joindp.specs.Cost.{Estimates, cost_after, entry_size, factor_held, last_sorting, size, step_cost, step_cost_of}
-use Rattle.joins.specs.Orders.{Order, is_ordered_by, numbered, order_after, sorting_unless}
-use Rattle.joindp.proofs.OneBit.{or_false}
+use Rattle.predicates.specs.Numbered.{numbered}
+use Rattle.joins.specs.Orders.{Order, is_ordered_by, order_after, sorting_unless}
+use Rattle.predicates.proofs.Connected.{or_false}
 
 -- ---- bits
 

@@ -1,21 +1,13 @@
 -- What a step that may follow a set of placed entries tells.
-use Rattle.std.proofs.Common.{◌≡◌, ◌∙◌, refl, sym, ap, ℕ, zero, suc, ◌<◌, ◌≤◌, true, false, ◌&&◌, not, nat_le, List, length, option_map, Option, Some, None, arith, true≢false}
+use Rattle.std.proofs.Common.{◌≡◌, ◌<◌, ◌≤◌, true, false, ◌&&◌, not, nat_le, length, arith}
 use Rattle.std.proofs.lemmas.Bool.{leb-true, not-true}
-use Rattle.expr.specs.declared.bound.ColumnId.{ColumnId}
-use Rattle.expr.specs.declared.code.Method.{Method}
-use Rattle.expr.specs.declared.code.Method.TheVariants.{Nested, Hash, Merge}
 use Rattle.expr.specs.declared.code.CodeStep.{CodeStep}
-use Rattle.expr.specs.Bound.{BoundExpr}
 use Rattle.predicates.proofs.Movables.{and_left, and_right}
-use Rattle.predicates.specs.Equalities.{column_sides}
 use Rattle.stats.specs.Card.{Entries}
-use Rattle.trailcheck.specs.Admissible.{condition_at, is_allowed_access, is_some_and}
+use Rattle.trailcheck.specs.Admissible.{is_allowed_access}
 use Rattle.trailcheck.specs.Settings.{Setting}
 use Rattle.trailcheck.specs.Shapes.{entry_index}
-use Rattle.joindp.specs.Best.{Problem}
-use Rattle.joins.specs.Orders.{Order, facing, merged_order, numbered, order_after, sides_held}
-use Rattle.joindp.specs.Following.{equates_with, may_be_next, may_follow, may_join_by, span}
-use Rattle.joindp.specs.Search.{HasOrders, IsListed}
+use Rattle.joindp.specs.Following.{may_be_next, may_follow, may_join_by}
 
 pub record IsNew (at : Setting) (entries : Entries) (s : CodeStep) : Type 0 where
   pub from_one : 1 ≤ s.entry
@@ -43,10 +35,3 @@ is_new at entries s h =
       access = and_left (is_allowed_access at i s.access) (may_join_by at entries i s.method) ways;
       method = and_right (is_allowed_access at i s.access) (may_join_by at entries i s.method) ways;
     }
-
--- ---- the order after it
-
--- a condition by its number, of a setting and of its list
-pub same_number : (at : Setting) (number : ℕ) → condition_at at number ≡ numbered at.conditions number
-same_number at zero = refl
-same_number at (suc k) = refl

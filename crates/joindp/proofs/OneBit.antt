@@ -1,9 +1,10 @@
 -- Sets of entries with one entry more, by their bits.
-use Rattle.std.proofs.Common.{◌≡◌, ◌∙◌, sym, ap, ℕ, ◌+◌, ◌^◌, ◌<◌, Bool, true, false, ◌||◌, ◌==◌, zero-add, refl}
+use Rattle.std.proofs.Common.{◌≡◌, ◌∙◌, sym, ap, ℕ, ◌+◌, ◌^◌, ◌<◌, false, ◌||◌, ◌==◌, zero-add}
 use Rattle.std.specs.Int.{bit_at}
 use Rattle.std.specs.Int.RustNames.{bit_or}
 use Rattle.std.proofs.lemmas.Nat.{one_shl}
 use Rattle.std.proofs.lemmas.Nat.Bits.{bit_at-zero}
+use Rattle.predicates.proofs.Connected.{or_false}
 use Rattle.stats.proofs.EntrySets.{bit_set, set_adds}
 use Rattle.joindp.specs.Search.{set_of}
 
@@ -15,10 +16,6 @@ one_more_bit set i k small new =
 -- no entry
 pub no_bit : (k : ℕ) → set_of 0 k ≡ false
 no_bit k = ap (λ m. m == 1) (bit_at-zero k)
-
-pub or_false : (a : Bool) → a || false ≡ a
-or_false true = refl
-or_false false = refl
 
 -- one entry
 pub lone_bit : (i k : ℕ) → i < 64 → set_of (2 ^ i) k ≡ (i == k)

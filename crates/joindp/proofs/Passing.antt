@@ -1,5 +1,5 @@
 -- What numbers give that pass a test, one number after another.
-use Rattle.std.proofs.Common.{◌≡◌, ℕ, suc, ◌+◌, ◌<◌, Bool, true, false, ◌||◌, cond, List, [], ◌∷◌, ◌++◌, filter, map, length, get_or, refl, sym, ap, ◌∙◌, append_assoc, arith}
+use Rattle.std.proofs.Common.{◌≡◌, ℕ, suc, ◌+◌, ◌<◌, Bool, true, false, ◌||◌, cond, List, ◌∷◌, ◌++◌, filter, map, length, get_or, sym, ap, ◌∙◌, append_assoc, arith}
 use Rattle.std.specs.List.{list_any, range_with_len}
 use Rattle.std.proofs.lemmas.List.FromFn.{get_or-map-range_with_len, length-map-range_with_len}
 use Rattle.expr.specs.Bound.{BoundExpr}
@@ -9,6 +9,7 @@ use Rattle.stats.specs.Card as card
 use Rattle.stats.specs.Statistics.{Stats}
 use Rattle.stats.specs.View.{selections_of}
 use Rattle.joindp.specs.Following.{join}
+use Rattle.expr.proofs.Lists.{any_map}
 
 -- ---- lists made of numbers that pass a test
 
@@ -44,12 +45,6 @@ module _ {X : Type 0} (f : ℕ → X) (n : ℕ) (xs : List X) (all : xs ≡ map 
 
   pub at_place : (i : ℕ) (x : X) → i < length xs → x ≡ get_or xs i x → x ≡ f i
   at_place i x within is = is ∙ ap (λ l. get_or l i x) all ∙ get_or-map-range_with_len f 0 n i i x (omega (arith, as_many)) (omega arith)
-
--- ---- a test of what elements give
-
-pub any_map : {E T : Type 0} (p : T → Bool) (f : E → T) (es : List E) → list_any p (map f es) ≡ list_any (λ e. p (f e)) es
-any_map p f [] = refl
-any_map p f (e ∷ es) = ap (λ b. p (f e) || b) (any_map p f es)
 
 -- conditions as the estimates see them join an entry to a set as the conditions do
 pub any_prepared : {A : Type 0} (of : List Stats) (ss : List (Selection A)) (conditions : List BoundExpr) (placed : card.Entries) (entry : ℕ)

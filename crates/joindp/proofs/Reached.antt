@@ -19,10 +19,11 @@ use Rattle.stats.specs.Card.{Entries}
 use Rattle.trailcheck.specs.Admissible.{is_some_and}
 use Rattle.trailcheck.specs.Shapes.{entry_index}
 use Rattle.joindp.specs.Best.{Problem}
-use Rattle.joins.specs.Orders.{Order, facing, merged_order, numbered, order_after, order_of, sides_held}
+use Rattle.predicates.specs.Numbered.{numbered}
+use Rattle.joins.specs.Orders.{Order, facing, merged_order, order_after, order_of, sides_held}
 use Rattle.joindp.specs.Following.{equates_with, may_be_next, may_follow, may_join_by, span}
 use Rattle.joindp.specs.Search.{AreNexts, entry_count, is_last, is_order_of, is_reached, set_of}
-use Rattle.joindp.proofs.NewSteps.{is_new, same_number}
+use Rattle.joindp.proofs.NewSteps.{is_new}
 use Rattle.joindp.proofs.OneBit.{lone_bit, no_bit, one_more_bit}
 
 -- ---- sets
@@ -102,7 +103,7 @@ module _ (set i : ℕ) (small : i < 64) (new : set_of set i ≡ false) where
   pub order_fits : (p : Problem) (order : Order) (m : Method) → is_order_of set order ≡ true → may_join_by p.setting (set_of set) i m ≡ true → is_order_of (set + 2 ^ i) (order_after p.setting.conditions i order m) ≡ true
   order_fits p order Nested h k = still_order order h
   order_fits p order (Hash conjunct) h k = still_order order h
-  order_fits p order (Merge conjunct) h k = merged_in (numbered p.setting.conditions conjunct) (sym (ap (is_some_and (equates_with (set_of set) i)) (same_number p.setting conjunct)) ∙ k)
+  order_fits p order (Merge conjunct) h k = merged_in (numbered p.setting.conditions conjunct) k
 
 -- the order of the first entry's index is one of its set
 pub first_fits : (i : ℕ) (a : Access) → i < 64 → is_order_of (2 ^ i) (order_of i a) ≡ true

@@ -1,19 +1,14 @@
 -- What the code finds in a line: its first part, a number, the end of a line.
-use Rattle.std.proofs.Common.{◌≡◌, ℕ, suc, ◌==◌, ◌&&◌, ◌+◌, ◌-◌, get_or, drop-cons, ◌<◌, ◌≤◌, ◌^◌, nat_lt, Bool, true, false, not, if◌then◌else◌, cond, List, [], ◌∷◌, ◌++◌, length, take, drop, Option, Some, None, Result, Ok, refl, sym, ap, ◌∙◌, arith}
-use Rattle.std.specs.Fmt.{decimal}
+use Rattle.std.proofs.Common.{◌≡◌, ℕ, suc, ◌==◌, ◌+◌, ◌-◌, get_or, drop-cons, ◌<◌, ◌≤◌, Bool, true, false, not, if◌then◌else◌, cond, List, [], ◌∷◌, ◌++◌, length, take, drop, refl, sym, ap, ◌∙◌, arith}
 use Rattle.std.specs.List.{position_or_len, before_first, after_first}
-use Rattle.std.specs.Str.{bytes_eq}
-use Rattle.std.specs.Str.Parse.{digits_value, ParsesUnsigned}
-use Rattle.std.proofs.lemmas.Bool.{ltb-true, eqb-true}
-use Rattle.std.proofs.lemmas.Fmt.{parse-decimal_wide}
+use Rattle.std.proofs.lemmas.Bool.{eqb-true}
 use Rattle.std.proofs.lemmas.List.{append-nil, take_all, length-drop, take_more}
 use Rattle.std.proofs.Math.ListN.{drop_of_length-le}
 use Rattle.std.proofs.lemmas.List.Splits.{slice_split_first}
-use Rattle.std.proofs.lemmas.Slice.Eq.{bytes_eq-Decides}
 use Rattle.row_grammar.proofs.Facts.{and_left, and_right}
-use Rattle.plan_texts.specs.Reading.{number_below, parts}
+use Rattle.plan_texts.specs.Reading.{parts}
 use Rattle.plan_texts.specs.Lines.{Lines, ends, quotes, ended, with_byte, lines_from, lines_of}
-use Rattle.plan_texts.proofs.Pieces.{number_is, split_none, Lacks}
+use Rattle.plan_texts.proofs.Pieces.{split_none, Lacks}
 
 -- ---- parts
 
@@ -30,24 +25,6 @@ lacks_all (b ∷ bs) e = go (b == 32) refl e (lacks_all bs)
 
 pub cut_none : (bs : List ℕ) → position_or_len (λ b. b == 32) bs ≡ length bs → parts bs ≡ bs ∷ []
 cut_none bs e = split_none (λ b. b == 32) bs (lacks_all bs e)
-
--- ---- numbers
-
-pub number_yes : (limit n : ℕ) (text : List ℕ) → decimal n ≡ text → n < limit → n < 10 ^ 64 → Some n ≡ number_below limit text
-number_yes limit n text e h wide = sym (ap (number_below limit) (sym e) ∙ number_is limit n h wide)
-
-pub number_no : (limit : ℕ) (text : List ℕ) → ((m : ℕ) → m < limit → text ≡ decimal m → ⊥) → None ≡ number_below limit text
-number_no limit text never = go (bytes_eq text (decimal (digits_value 10 text)) && nat_lt (digits_value 10 text) limit) refl
-  where
-    go : (t : Bool) → (bytes_eq text (decimal (digits_value 10 text)) && nat_lt (digits_value 10 text) limit) ≡ t → ◌≡◌ {A = Option ℕ} None (if t then Some (digits_value 10 text) else None)
-    go false e = refl
-    go true e =
-        absurd (never (digits_value 10 text) (ltb-true (digits_value 10 text) limit (and_right (bytes_eq text (decimal (digits_value 10 text))) _ e))
-        ((bytes_eq-Decides text (decimal (digits_value 10 text))).0 (and_left _ _ e)))
-
--- a text that parses as no number, or as another than it is written for, is none
-pub parsed_no : {E : Type 0} (k : ℕ) (text : List ℕ) (r : Result ℕ E) → 2 ^ k < 10 ^ 64 → ParsesUnsigned k 10 text r → ((m : ℕ) → r ≡ Ok m → text ≡ decimal m → ⊥) → None ≡ number_below (2 ^ k) text
-parsed_no k text r wide parses never = number_no (2 ^ k) text (λ m h e. never m (parse-decimal_wide k m text r h (omega arith) e parses) e)
 
 -- ---- lines
 

@@ -24,7 +24,9 @@ use Rattle.plan_texts.specs.declared.plan.SortColumn.{SortColumn}
 use Rattle.plan_texts.specs.Plans.{PlanEntry}
 use Rattle.plan_texts.specs.Columns.{all_columns}
 use Rattle.plan_texts.specs.PlanTexts.{item_at, or_nothing, alias_of, column_of, alias, column_name, access_text, scan_text, method_text, branch_digit, path_text, argument_text, step_text}
-use Rattle.plan_texts.specs.Reading.{number_below, number_at, numbered_from, number_of, Line, CostLine, FilterLine, EmptyLine, FirstLine, JoinLine, SortLine, TrailLine, StepLine, parts, cut, is_branch, branch_of, branches_of, path_at, arguments_at, last_minus, but_last, rule_at, step_at, entry_at, columns_from, columns_at, column_at, is_found, filter_line, filter_at, access_at, scan_at, join_at, by_conjunct, sort_column_at, cost_at, sort_at, other_line, after_word, content_at, IsTextOfLine, LinesAreTexts}
+use Rattle.value.specs.Numbers.{number_below, number_at}
+use Rattle.plan_texts.specs.Reading.{numbered_from, number_of, Line, CostLine, FilterLine, EmptyLine, FirstLine, JoinLine, SortLine, TrailLine, StepLine, parts, cut, is_branch, branch_of, branches_of, path_at, arguments_at, last_minus, but_last, rule_at, step_at, entry_at, columns_from, columns_at, column_at, is_found, filter_line, filter_at, access_at, scan_at, join_at, by_conjunct, sort_column_at, cost_at, sort_at, other_line, after_word, content_at, IsTextOfLine, LinesAreTexts}
+use Rattle.plan_texts.proofs.LinesBack.{sign_of}
 
 -- a test that led to a value
 chosen : {X : Type 0} (b : Bool) (x y : Option X) (z : X) → (if b then x else y) ≡ Some z → ((b ≡ true) × (x ≡ Some z)) ⊎ (y ≡ Some z)
@@ -173,9 +175,6 @@ module _ (entries : List PlanEntry) where
       go (a ∷ c ∷ d ∷ ps) e j = cc
 
 -- ---- steps
-
-abbrev sign_of : Bool → List ℕ
-sign_of reverse = if reverse then codes "-" else []
 
 rule_own : (t : List ℕ) (r : ℕ × Bool) → rule_at t ≡ Some r → t ≡ decimal r.0 ++ sign_of r.1
 rule_own t r e = go (last_minus t) refl e

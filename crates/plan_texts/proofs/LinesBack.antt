@@ -28,10 +28,12 @@ use Rattle.plan_texts.specs.declared.plan.SortColumn.{SortColumn}
 use Rattle.plan_texts.specs.Plans.{PlanEntry}
 use Rattle.plan_texts.specs.Columns.{all_columns}
 use Rattle.plan_texts.specs.PlanTexts.{alias, column_name, access_text, scan_text, method_text, join_text, branch_digit, path_text, argument_text, step_text}
-use Rattle.plan_texts.specs.Reading.{number_at, Line, CostLine, FilterLine, FirstLine, JoinLine, SortLine, StepLine, is_found, filter_line, filter_at, is_branch, branches_of, path_at, arguments_at, last_minus, rule_at, step_at, column_at, access_at, scan_at, join_at, by_conjunct, sort_column_at, content_at, line_at, IsFilter, AreAll, HasEntry, HasColumn, IsAccess, IsScan, IsFirst, IsMethod, IsJoin, IsStep, cut, after_word}
+use Rattle.value.specs.Numbers.{number_at}
+use Rattle.plan_texts.specs.Reading.{Line, CostLine, FilterLine, FirstLine, JoinLine, SortLine, StepLine, is_found, filter_line, filter_at, is_branch, branches_of, path_at, arguments_at, last_minus, rule_at, step_at, column_at, access_at, scan_at, join_at, by_conjunct, sort_column_at, content_at, line_at, IsFilter, AreAll, HasEntry, HasColumn, IsAccess, IsScan, IsFirst, IsMethod, IsJoin, IsStep, cut, after_word}
 use Rattle.plan_texts.proofs.Found.{still_found}
 use Rattle.plan_texts.proofs.Quiet.{decimal_digits, decimal_word}
-use Rattle.plan_texts.proofs.Pieces.{Lacks, split_at, split_none, cut_at, word_lacks_blank, word_lacks_dot, number_is, minus_last, without_minus}
+use Rattle.value.proofs.NumberTexts.{number_is}
+use Rattle.plan_texts.proofs.Pieces.{Lacks, split_at, split_none, cut_at, word_lacks_blank, word_lacks_dot, minus_last, without_minus}
 
 abbrev blank : ℕ → Bool
 blank b = b == 32
@@ -154,7 +156,7 @@ no_minus_last [] all = refl
 no_minus_last (b ∷ []) all = no_minus b (and_parts (is_ascii_digit b) true all).0
 no_minus_last (b ∷ c ∷ w) all = no_minus_last (c ∷ w) (and_parts (is_ascii_digit b) (list_all is_ascii_digit (c ∷ w)) all).1
 
-abbrev sign_of : Bool → List ℕ
+abbrev pub sign_of : Bool → List ℕ
 sign_of reverse = if reverse then codes "-" else []
 
 rule_back : (n : ℕ) (reverse : Bool) → n < 2 ^ 64 → rule_at (decimal n ++ sign_of reverse) ≡ Some (n, reverse)

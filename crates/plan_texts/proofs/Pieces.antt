@@ -1,16 +1,11 @@
 -- The parts of a line.
-use Rattle.std.proofs.Common.{◌≡◌, ℕ, ◌==◌, ◌<◌, ◌^◌, Bool, true, false, List, [], ◌∷◌, ◌++◌, codes, Some, refl, sym, ap, arith}
+use Rattle.std.proofs.Common.{◌≡◌, ℕ, ◌==◌, Bool, true, false, List, [], ◌∷◌, ◌++◌, codes, Some, refl, sym, ap, arith}
 use Rattle.std.specs.Prelude.{option_map}
-use Rattle.std.specs.Fmt.{decimal}
 use Rattle.std.specs.List.{list_all, slice_split, onto_first}
-use Rattle.std.specs.Str.{bytes_eq}
-use Rattle.std.specs.Str.Parse.{digits_value}
-use Rattle.std.proofs.lemmas.Bool.{and_parts, eqb-true, lt-ltb}
+use Rattle.std.proofs.lemmas.Bool.{and_parts, eqb-true}
 use Rattle.std.proofs.lemmas.Bool.Decides.{nat_tests}
-use Rattle.std.proofs.lemmas.Fmt.{decimal_is_IsNumeral_wide}
-use Rattle.std.proofs.lemmas.Slice.Eq.{bytes_eq-Decides}
 use Rattle.row_tokens.specs.Tokens.{goes_on}
-use Rattle.plan_texts.specs.Reading.{number_below, cut, last_minus, but_last}
+use Rattle.plan_texts.specs.Reading.{cut, last_minus, but_last}
 
 -- no byte passes a test
 abbrev pub Lacks : (ℕ → Bool) → List ℕ → Type 0
@@ -42,16 +37,6 @@ word_lacks_blank (b ∷ w) all = let both = and_parts (goes_on b) (list_all goes
 pub word_lacks_dot : (w : List ℕ) → list_all goes_on w ≡ true → Lacks (λ b. b == 46) w
 word_lacks_dot [] all = tt
 word_lacks_dot (b ∷ w) all = let both = and_parts (goes_on b) (list_all goes_on w) all in (dotless b both.0, word_lacks_dot w both.1)
-
--- ---- numbers
-
-pub same_bytes : (bs : List ℕ) → bytes_eq bs bs ≡ true
-same_bytes bs = (bytes_eq-Decides bs bs).1 refl
-
-pub number_is : (limit n : ℕ) → n < limit → n < 10 ^ 64 → number_below limit (decimal n) ≡ Some n
-number_is limit n h wide =
-    let v : digits_value 10 (decimal n) ≡ n = (decimal_is_IsNumeral_wide n wide).1 in
-    rw v (rw (same_bytes (decimal n)) (rw (lt-ltb n limit h) refl))
 
 -- ---- a minus at the end
 

@@ -6,7 +6,8 @@ use Rattle.std.specs.List.{slice_split}
 use Rattle.std.proofs.lemmas.Bool.{ne_eqb}
 use Rattle.std.proofs.lemmas.List.Splits.{length-slice_split}
 use Rattle.std.proofs.lemmas.Str.Pattern.{IsSplitOnceResult, split_parts}
-use Rattle.plan_texts.specs.Reading.{number_at, cut, last_minus, but_last, rule_at}
+use Rattle.value.specs.Numbers.{number_at}
+use Rattle.plan_texts.specs.Reading.{cut, last_minus, but_last, rule_at}
 use Rattle.plan_texts.specs.View.{pair_of, two_of}
 use Rattle.plan_texts.proofs.Pieces.{Lacks, cut_at, split_at, split_none, minus_last, without_minus, with_minus}
 

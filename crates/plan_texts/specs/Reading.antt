@@ -6,6 +6,7 @@ use Rattle.std.specs.Fmt.{decimal}
 use Rattle.std.specs.Str.{bytes_eq, is_utf8, IsUtf8}
 use Rattle.std.specs.Str.Parse.{digits_value}
 use Rattle.value.specs.Names.{Name}
+use Rattle.value.specs.Numbers.{number_at, number_below}
 use Rattle.row_ast.specs.Ast.{ColumnRef, Expr}
 use Rattle.expr.specs.Codes.{Code, Empty, Steps}
 use Rattle.expr.specs.declared.code.Access.{Access}
@@ -25,15 +26,7 @@ use Rattle.plan_texts.specs.Lines.{lines_of}
 use Rattle.plan_texts.specs.Columns.{all_columns}
 use Rattle.plan_texts.specs.Plans.{PlanEntry, Plan}
 
--- ---- numbers and names
-
--- the number below a limit with this text
-abbrev pub number_below : ℕ → List ℕ → Option ℕ
-number_below limit text = if bytes_eq text (decimal (digits_value 10 text)) && nat_lt (digits_value 10 text) limit then Some (digits_value 10 text) else None
-
--- the number of 64 bits with this text
-abbrev pub number_at : List ℕ → Option ℕ
-number_at text = number_below (2 ^ 64) text
+-- ---- names
 
 -- the number of a name, of names that are numbered from a number on
 abbrev pub numbered_from : ℕ → List Name → Name → Option ℕ

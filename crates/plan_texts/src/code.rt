@@ -1,15 +1,16 @@
 //! The lines of a plan's code.
 
 ghost use Rattle.std.specs.Prelude.{◌≡◌, ◌&&◌, if◌then◌else◌, codes, Some, None, map, option_map, option_and_then};
+ghost use Rattle.value.specs.Numbers.{number_at};
 ghost use Rattle.plan_texts.specs.Reading as spec;
 ghost use Rattle.plan_texts.specs.Reading.{JoinLine};
 ghost use Rattle.plan_texts.specs.View.{plan_entry_of, texts_of};
 
 use crate::names::{column_number, entry_number};
-use crate::numbers::read_number;
 use crate::plan::PlanEntry;
 use expr::{Access, CodeStep, Method};
 use memory::Heap;
+use value::read_number;
 
 // All rows of an entry.
 fn read_full(word: &str) -> Option<Access>
@@ -45,7 +46,7 @@ fn read_range<A: Heap>(
     name: &str,
     bound: &str,
 ) -> Option<Access>
-    ensures { result ≡ option_and_then (λ c. option_map (λ k. Access.Range c k) (spec.number_at bound.now)) (spec.column_at (map plan_entry_of entries.now) entry name.now) }
+    ensures { result ≡ option_and_then (λ c. option_map (λ k. Access.Range c k) (number_at bound.now)) (spec.column_at (map plan_entry_of entries.now) entry name.now) }
 {
     let column = column_number(entries, entry, name)?;
     let bound = read_number(bound)?;
@@ -61,7 +62,7 @@ fn read_bounded<A: Heap>(
     by: &str,
     bound: &str,
 ) -> Option<Access>
-    ensures { result ≡ if spec.is_word (codes "index") word.now && spec.is_word (codes "by") by.now then option_and_then (λ c. option_map (λ k. Access.Range c k) (spec.number_at bound.now)) (spec.column_at (map plan_entry_of entries.now) entry name.now) else None }
+    ensures { result ≡ if spec.is_word (codes "index") word.now && spec.is_word (codes "by") by.now then option_and_then (λ c. option_map (λ k. Access.Range c k) (number_at bound.now)) (spec.column_at (map plan_entry_of entries.now) entry name.now) else None }
 {
     if word == "index" && by == "by" {
         read_range(entries, entry, name, bound)

@@ -8,7 +8,6 @@ mod line;
 mod lines;
 mod named_columns;
 mod names;
-mod numbers;
 mod parts;
 mod plan;
 mod reading;
@@ -16,6 +15,7 @@ mod steps;
 mod writing;
 
 pub use laws::{law_plans_read_back, law_read_is_text, law_texts_are_read};
+pub use parts::cut;
 pub use plan::{Plan, PlanEntry, SortColumn};
 pub use reading::read_plan;
 pub use writing::write_plan;

@@ -8,7 +8,6 @@ ghost use Rattle.plan_texts.specs.View.{line_of, plan_entry_of, texts_of};
 use crate::code::{read_hash, read_merge, read_scan};
 use crate::named_columns::columns_found;
 use crate::names::{column_number, entry_number};
-use crate::numbers::{read_cost, read_number};
 use crate::parts::{cut, dotted, parts_of};
 use crate::plan::{PlanEntry, SortColumn};
 use crate::steps::read_step;
@@ -18,6 +17,7 @@ use expr_texts::read_expr;
 use memory::Heap;
 use row_ast::Expr;
 use std::alloc::AllocError;
+use value::{read_number, read_wide_number};
 
 /// A line of a plan.
 #[derive(Drop)]
@@ -71,7 +71,7 @@ fn cost_line<A: Heap>(parts: &[&str]) -> Option<Line<A>>
     ensures { option_map line_of result ≡ spec.cost_at (texts_of parts.now) }
 {
     match parts {
-        [cost] => Some(Line::Cost(read_cost(cost)?)),
+        [cost] => Some(Line::Cost(read_wide_number(cost)?)),
         _ => None,
     }
 }

@@ -5,11 +5,11 @@ ghost use Rattle.algebra.specs.View.{step_of};
 ghost use Rattle.plan_texts.specs.Reading as spec;
 ghost use Rattle.plan_texts.specs.View.{texts_of};
 
-use crate::numbers::read_number;
 use crate::parts::read_path;
 use algebra::Step;
 use memory::{Heap, Items};
 use std::alloc::AllocError;
+use value::read_number;
 
 // The number of a rule, and true where a minus after it reverses the rule.
 fn read_rule(part: &str) -> Option<(u64, bool)>

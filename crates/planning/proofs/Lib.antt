@@ -1,4 +1,3 @@
 pub mod Bests
 pub mod Members
 pub mod Numbers
-pub use Rattle.joindp.proofs.Passing

@@ -66,7 +66,7 @@ and_false : (a : Bool) → false ≡ a && false
 and_false true = refl
 and_false false = refl
 
-or_false : (a : Bool) → a || false ≡ a
+pub or_false : (a : Bool) → a || false ≡ a
 or_false true = refl
 or_false false = refl
 

@@ -1,11 +1,12 @@
 -- Tests of the tables one after another.
-use Rattle.std.proofs.Common.{◌≡◌, ℕ, zero, suc, ◌+◌, Bool, true, false, ◌||◌, List, [], ◌∷◌, drop, map, slice_get, Option, Some, refl, sym, ap, ◌∙◌, arith}
+use Rattle.std.proofs.Common.{◌≡◌, ℕ, zero, suc, ◌+◌, Bool, true, false, ◌||◌, List, [], ◌∷◌, drop, map, slice_get, Option, Some, sym, ap, ◌∙◌, arith}
 use Rattle.std.specs.List.{list_any}
 use Rattle.memory.proofs.Cases.{none_is_not}
 use Rattle.value.specs.Names.{Name}
 use Rattle.row_objects.specs.Indexes.{any_index, has_index}
 use Rattle.row_objects.specs.View.{index_of, table_entry}
 use Rattle.row_objects.specs.declared.objects.TableDef.{TableDef}
+use Rattle.expr.proofs.Lists.{any_map}
 
 pub some_value : {V : Type 0} (x y : V) → ◌≡◌ {A = Option V} (Some x) (Some y) → x ≡ y
 some_value x y e = cc
@@ -17,10 +18,6 @@ any_next q (e ∷ es) zero v h = ap (λ w. q w || list_any (λ e. q e.1) es) (so
 any_next q (e ∷ es) (suc i) v h =
     let more : suc (i + 1) ≡ suc i + 1 = omega arith in
     any_next q es i v h ∙ ap (λ n. q v || list_any (λ e. q e.1) (drop n (e ∷ es))) more
-
-any_map : {E T : Type 0} (p : T → Bool) (f : E → T) (es : List E) → list_any p (map f es) ≡ list_any (λ e. p (f e)) es
-any_map p f [] = refl
-any_map p f (e ∷ es) = ap (λ b. p (f e) || b) (any_map p f es)
 
 module _ {A : Type 0} (name : Name) where
   abbrev has : TableDef A → Bool

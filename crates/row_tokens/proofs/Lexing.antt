@@ -15,7 +15,7 @@ use Rattle.row_tokens.specs.declared.token.TokenKind.{TokenKind}
 use Rattle.row_tokens.specs.declared.token.TokenKind.TheVariants as k
 use Rattle.row_tokens.specs.Tokens.{after_space, closing, doubled_quote, first_number, goes_on, is_letter, is_number, is_space, kind_of_word, lexeme, minus_kind, minus_lexeme, most_name_bytes, number_lexeme, number_of, one_more, quoted, quoted_lexeme, quoted_value, starts, starts_number, undoubled, word_lexeme}
 use Rattle.row_tokens.proofs.Starts.{token_of, plain, seam}
-use Rattle.row_tokens.proofs.Quotes.{between_both}
+use Rattle.row_tokens.proofs.Quotes.{between_both, closing_past}
 use Rattle.row_tokens.specs.WithoutOffsets.{words_without_offsets}
 
 -- ---- runs
@@ -151,10 +151,6 @@ minus_first d ds rest all ends n =
 
 abbrev pub doubled : List ℕ → List ℕ
 doubled t = flat_map doubled_quote t
-
-closing_past : (b : ℕ) (bs : List ℕ) → (b == 39) ≡ false → closing (b ∷ bs) ≡ one_more (closing bs)
-closing_past b [] e = rw e refl
-closing_past b (c ∷ bs) e = rw e refl
 
 closing_now : (rest : List ℕ) → starts (λ b. b == 39) rest ≡ false → closing (39 ∷ rest) ≡ Some 1
 closing_now [] e = refl

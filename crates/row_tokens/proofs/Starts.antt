@@ -13,7 +13,7 @@ use Rattle.row_tokens.specs.WithoutOffsets.{without_offset, words_without_offset
 use Rattle.row_tokens.specs.View.{word_of, words_of}
 use Rattle.row_tokens.specs.Tokens.{Token, is_space, lexeme, word_at, words_from}
 use Rattle.row_tokens.proofs.Ends.{after_ascii, boundary, lexeme_ends, space_ascii}
-use Rattle.row_tokens.proofs.Steps.{words_past}
+use Rattle.row_tokens.proofs.Steps.{first_and_rest, words_past}
 
 -- the tokens are the same wherever the text starts
 pub anywhere : (skip at at' : ℕ) (bs : List ℕ) → map without_offset (words_from skip at bs) ≡ map without_offset (words_from skip at' bs)
@@ -72,10 +72,6 @@ last_step b bs l solid e s =
 pub record Found (text : List ℕ) (ts : List Lexed) (rest : List ℕ) : Type 0 where
   pub found : words_of ts ++ words_without_offsets rest ≡ words_without_offsets text
   pub utf8 : IsUtf8 rest
-
-first_and_rest : (bs : List ℕ) (b : ℕ) → Some b ≡ slice_get bs 0 → bs ≡ b ∷ drop 1 bs
-first_and_rest [] b e = cc
-first_and_rest (x ∷ bs) b e = cc
 
 module _ {text : List ℕ} {ts : List Lexed} {rest : List ℕ} (seen : Found text ts rest) (b : ℕ) (first : Some b ≡ slice_get rest 0) where
   split : rest ≡ b ∷ drop 1 rest

@@ -1,8 +1,9 @@
 -- The lines of session scripts.
 use Rattle.std.specs.Prelude.{ℕ, if◌then◌else◌, List, [], ◌∷◌, Option, Some, None, option_and_then, option_map, is_some, codes}
 use Rattle.value.specs.Names.{Name}
+use Rattle.value.specs.Numbers.{number_at}
 use Rattle.session.specs.Event as session
-use Rattle.plan_texts.specs.Reading.{cut, number_at, is_word}
+use Rattle.plan_texts.specs.Reading.{cut, is_word}
 
 -- an event other than a load, or a load of a file
 pub data ScriptLine : Type 0 where

@@ -4,6 +4,7 @@ use denote.Ref.{Bor}
 use Rattle.session.specs.View.{event_of}
 use Rattle.session_scripts.specs.declared.line.ScriptLine as declared
 use Rattle.session_scripts.specs.declared.line.ScriptLine.TheVariants as line
+use Rattle.plan_texts.specs.View.{pair_of}
 use Rattle.session_scripts.specs.Lines.{ScriptLine, Event, Load}
 
 abbrev pub line_of : {A : Type 0} → declared.ScriptLine A → ScriptLine
@@ -15,10 +16,6 @@ line_of (line.Load table path) = Load table path
 -- the bytes of a text
 abbrev pub bytes_of : Bor (List ℕ) → List ℕ
 bytes_of text = text.now
-
--- the bytes of two texts
-abbrev pub pair_of : Bor (List ℕ) × Bor (List ℕ) → List ℕ × List ℕ
-pair_of p = (p.0.now, p.1.now)
 
 -- a number, and the bytes of a text
 abbrev pub numbered_of : ℕ × Bor (List ℕ) → ℕ × List ℕ

@@ -4,11 +4,11 @@ ghost use Rattle.std.specs.Prelude.{◌≡◌, IfOk, option_map};
 ghost use Rattle.session.specs.View.{event_of};
 ghost use Rattle.session_scripts.specs.Lines.{ask_at, change_at, close_at, declare_at, event_at, execute_at, fetch_at, login_at, logout_at, prepare_at, reset_role_at, set_role_at};
 
-use crate::numbers::read_number;
 use crate::words::{session_text, session_word, session_word_text, word};
 use memory::{Heap, Text};
 use session::Event;
 use std::alloc::AllocError;
+use value::read_number;
 
 // login ROLE
 fn login<A: Heap>(alloc: A, rest: &str) -> Result<Option<Event<A>>, AllocError>

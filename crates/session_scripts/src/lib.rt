@@ -9,7 +9,6 @@
 
 mod events;
 mod line;
-mod numbers;
 mod texts;
 mod words;
 

@@ -5,8 +5,9 @@ ghost use Rattle.session_scripts.specs.Lines.{line_at, load_at};
 ghost use Rattle.session_scripts.specs.View.{line_of};
 
 use crate::events::read_event;
-use crate::words::{cut, word, word_text};
+use crate::words::{word, word_text};
 use memory::{Heap, Text};
+use plan_texts::cut;
 use session::Event;
 use std::alloc::AllocError;
 

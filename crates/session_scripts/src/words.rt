@@ -1,18 +1,12 @@
 //! The words, numbers and texts of a line.
 
 ghost use Rattle.std.specs.Prelude.{◌≡◌, option_map};
-ghost use Rattle.plan_texts.specs.Reading.{cut};
+ghost use Rattle.plan_texts.specs.View.{pair_of};
 ghost use Rattle.session_scripts.specs.Lines.{session_text, session_word, session_word_text, word_at, word_text};
-ghost use Rattle.session_scripts.specs.View.{bytes_of, numbered_of, numbered_pair_of, pair_of};
+ghost use Rattle.session_scripts.specs.View.{bytes_of, numbered_of, numbered_pair_of};
 
-use crate::numbers::read_number;
-
-/// The bytes before the first space, and those after it.
-pub fn cut(text: &str) -> Option<(&str, &str)>
-    ensures { option_map pair_of result ≡ cut text.now }
-{
-    text.split_once(' ')
-}
+use plan_texts::cut;
+use value::read_number;
 
 /// The text, if it is one word.
 pub fn word(text: &str) -> Option<&str>

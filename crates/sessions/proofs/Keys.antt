@@ -3,9 +3,7 @@ use Rattle.std.proofs.Common.{◌≡◌, ℕ, zero, suc, ◌+◌, ◌≤◌, Boo
 use Rattle.std.specs.List.{position_from, remove}
 use Rattle.std.specs.Map.{lookup, remove_entry, set_value}
 use Rattle.memory.proofs.Cases.{some_is, none_is_not, some_is_not}
-
-some_of : (i j : ℕ) → i ≡ j → ◌≡◌ {A = Option ℕ} (Some i) (Some j)
-some_of i j e = cc
+use Rattle.catalog.proofs.Positions.{some_of}
 
 module _ {K X : Type 0} (test : K → Bool) where
   abbrev at : ℕ → List (K × X) → Option ℕ

@@ -22,12 +22,12 @@ use Rattle.row_objects.specs.TableChanges.{with_index, with_last, with_row_secur
 use Rattle.row_objects.specs.TableDefs.{new_table}
 use Rattle.catalog.specs.BindError.{BindError}
 use Rattle.catalog.specs.Catalog.{Catalog, table_named}
-use Rattle.catalog.specs.Checks.{first_changed, unless}
+use Rattle.catalog.specs.Checks.{first_changed}
 use Rattle.catalog.specs.Changes.{IsChange, after, changed}
 use Rattle.catalog.specs.CreatePolicy.{with_bound}
 use Rattle.catalog.specs.PolicyPredicate.{bound_predicate}
 use Rattle.catalog.specs.TableColumns.{columns_after, table_columns, with_columns}
-use Rattle.catalog.proofs.KeptColumns.{keeps_columns}
+use Rattle.catalog.proofs.KeptColumns.{keeps_columns, accepted}
 use Rattle.store.specs.Agreement.{contents_columns}
 use Rattle.store.specs.Database.{Database, changed_database, tables_after, with_catalog}
 use Rattle.store.specs.Derived.{IsDerived, IsHeld, column_number, kept_columns, indexed_columns, table_indexes}
@@ -37,10 +37,6 @@ use Rattle.store.specs.View.{stored_of}
 use Rattle.store.specs.declared.stored.Stored.{Stored}
 use Rattle.store.proofs.Derivations.{entry_of}
 use Rattle.store.proofs.Places.{found_at, none_from, set_at}
-
-accepted : (o : Option Refusal) (due new : Catalog) → unless o due ≡ Ok new → due ≡ new
-accepted (Some why) due new e = absurd (cc)
-accepted None due new e = cc
 
 -- ---- statements that make no index
 

@@ -180,6 +180,19 @@ impl<A: Heap> Table<A> {
         Val::of(self.value(row, column))
     }
 
+    /// The value in a column of the row of that number, both counted from 0; none for null, and beyond the rows and columns of the
+    /// table.
+    pub fn get(&self, number: u32, column: usize) -> Option<Lent<'_>>
+        ensures { null_or result ≡ cell (row_at self.now.rows number) column }
+    {
+        let number = u64::from(number);
+        if number < self.rows() && column < self.columns().len() {
+            self.value(number, column as u64)
+        } else {
+            None
+        }
+    }
+
     /// The values of a column, which is counted from 0, in the order of the rows.
     pub fn data(&self, column: u64) -> &ColumnData<A>
         requires { column < length self.now.columns }

@@ -1,5 +1,5 @@
 -- The codes that a plan may have.
-use Rattle.std.specs.Prelude.{ℕ, zero, suc, Bool, true, false, not, ◌==◌, nat_le, ◌&&◌, ◌||◌, List, [], ◌∷◌, ◌++◌, length, Option, Some, None, slice_get}
+use Rattle.std.specs.Prelude.{ℕ, suc, Bool, true, false, not, ◌==◌, nat_le, ◌&&◌, ◌||◌, List, [], ◌∷◌, ◌++◌, length, Option, Some, None, slice_get}
 use Rattle.std.specs.List.{list_any, range_with_len}
 use Rattle.value.specs.declared.operators.Comparison as operators
 use Rattle.value.specs.declared.operators.Comparison.TheVariants.{NotEqual}
@@ -12,6 +12,7 @@ use Rattle.expr.specs.declared.code.CodeStep.{CodeStep}
 use Rattle.expr.specs.Bound.{BoundExpr, Column, Literal, Comparison}
 use Rattle.expr.specs.Codes.{Code, Empty, Steps}
 use Rattle.predicates.specs.Equalities.{column_sides, is_never_true}
+use Rattle.predicates.specs.Numbered.{numbered}
 use Rattle.trailcheck.specs.Entries.{is_among, joins}
 use Rattle.trailcheck.specs.Settings.{Setting}
 use Rattle.trailcheck.specs.Shapes.{entry_index}
@@ -60,8 +61,7 @@ module _ (at : Setting) where
 
   -- the condition of that number, from 1
   abbrev pub condition_at : ℕ → Option BoundExpr
-  condition_at zero = None
-  condition_at (suc k) = slice_get at.conditions k
+  condition_at number = numbered at.conditions number
 
   -- the entry has an index on that column
   abbrev pub is_indexed : (entry column : ℕ) → Bool

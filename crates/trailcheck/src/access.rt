@@ -8,16 +8,14 @@ ghost use Rattle.trailcheck.specs.View.{setting_of};
 use crate::setting::Setting;
 use expr::{Access, BoundExpr, ColumnId, MovableExpr};
 use memory::Heap;
+use predicates::numbered;
 use value::Comparison;
 
 /// The condition of that number, from 1, if there is one.
 pub fn condition_at<A: Heap>(setting: &Setting<A>, number: u64) -> Option<&MovableExpr<A>>
     ensures { option_map (λ e. e.now) result ≡ spec.condition_at (setting_of setting.now) number }
 {
-    if number == 0 {
-        return None;
-    }
-    setting.conditions.as_slice().get((number - 1) as usize)
+    numbered(setting.conditions.as_slice(), number)
 }
 
 // True where the column's number is one of those.

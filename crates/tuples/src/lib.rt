@@ -13,7 +13,7 @@ mod world;
 
 pub use combination::Combo;
 pub use guard::{Guard, shows};
-pub use joined::JoinedRow;
+pub use joined::{JoinedRow, PairedRow};
 pub use rows::TableRow;
 pub use sink::Sink;
 pub use slot::Slot;

@@ -4,6 +4,7 @@ pub mod Conditions
 pub mod DatumOrder
 pub mod DigitValue
 pub mod NoUtf8
+pub mod NumberTexts
 pub mod OneSpelling
 pub mod ReadBack
 pub mod Spelling

@@ -7,6 +7,7 @@ pub mod Exact
 pub mod Faults
 pub mod Limits
 pub mod Names
+pub mod Numbers
 pub mod Operators
 pub mod Orders
 pub mod Texts

@@ -1,17 +1,10 @@
-use Rattle.std.proofs.Common.{◌≡◌, List, ◌∷◌, map, subst}
 use Rattle.std.proofs.lemmas.Slice.Zip.{Zip-more, either_empty_from_Zip}
-use Rattle.scope.specs.Entry.{Entry}
 use Rattle.scope.specs.View.{entry_of}
 use Rattle.stats.specs.View.{stats_of}
 use Rattle.tuples.specs.View.{guard_of}
-use Rattle.catalog.specs.Catalog.{Catalog}
-use Rattle.resolve.specs.EntryTables.{AreTables}
 use Rattle.engine.proofs.Statistics.{next_known, no_more_known}
-use Rattle.engine.proofs.Tables.{is_there}
+use Rattle.engine.proofs.Tables.{is_there, split}
 use Rattle.engine.proofs.known.known_statistics.Goals as goal
-
-split : {E : Type 0} (view : E → Entry) (cat : Catalog) (es rest : List E) (e : E) → es ≡ e ∷ rest → AreTables cat (map view es) → AreTables cat (map view (e ∷ rest))
-split view cat es rest e is h = subst (λ es. AreTables cat (map view es)) is h
 
 pub known_behind-requires-clause-table : goal.known_behind-requires-clause-table
 known_behind-requires-clause-table g c =

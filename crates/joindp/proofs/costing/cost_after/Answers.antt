@@ -1,7 +1,4 @@
 use Rattle.std.proofs.Common.{◌∙◌, ap, get_or, refl, arith}
-use Rattle.expr.specs.declared.code.Access.TheVariants.{Full}
-use Rattle.expr.specs.declared.code.CodeStep.{CodeStep}
-use Rattle.expr.specs.declared.code.Method.TheVariants.{Nested}
 use Rattle.stats.specs.View.{members}
 use Rattle.joins.specs.Orders.{order_after}
 use Rattle.joindp.specs.Best.{estimates}
@@ -9,10 +6,7 @@ use Rattle.joindp.specs.Cost as spec
 use Rattle.joindp.specs.View.{problem_of}
 use Rattle.joindp.proofs.Costs.{part_all, part_first, part_more, rest_below, size_of_one}
 use Rattle.joindp.proofs.costing.cost_after.Goals as goal
-
--- what is read past the end of the steps
-abbrev no_step : CodeStep
-no_step = record { entry = 0; access = Full; method = Nested }
+use Rattle.joindp.proofs.Improved.{no_step}
 
 pub loop-step-init : goal.loop-step-init
 loop-step-init g c = record {

@@ -5,7 +5,8 @@ use Rattle.row_ast.specs.View.{expr_of}
 use Rattle.expr_texts.specs.Filters.{expr_at}
 use Rattle.plan_texts.specs.Plans.{PlanEntry}
 use Rattle.plan_texts.specs.Columns.{all_columns}
-use Rattle.plan_texts.specs.Reading.{number_at, FilterLine, cut, is_found, filter_line, filter_at}
+use Rattle.value.specs.Numbers.{number_at}
+use Rattle.plan_texts.specs.Reading.{FilterLine, cut, is_found, filter_line, filter_at}
 use Rattle.plan_texts.specs.View.{plan_entry_of, pair_of}
 use Rattle.plan_texts.proofs.line.read_filter.Goals as goal
 

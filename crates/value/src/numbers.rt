@@ -1,11 +1,11 @@
-//! The numbers of a plan's text.
+//! Whole numbers in texts.
 
 ghost use Rattle.std.specs.Prelude.{◌≡◌, ◌^◌};
-ghost use Rattle.plan_texts.specs.Reading.{number_at, number_below};
+ghost use Rattle.value.specs.Numbers.{number_at, number_below};
 
 use itoa::Buffer;
 
-/// The number below 2^64 with this text.
+/// The number below 2^64 with this text, in decimal, without sign and without leading zeros.
 pub fn read_number(text: &str) -> Option<u64>
     ensures { result ≡ number_at text.now }
 {
@@ -22,8 +22,8 @@ pub fn read_number(text: &str) -> Option<u64>
     }
 }
 
-/// The number below 2^128 with this text.
-pub fn read_cost(text: &str) -> Option<u128>
+/// The number below 2^128 with this text, in decimal, without sign and without leading zeros.
+pub fn read_wide_number(text: &str) -> Option<u128>
     ensures { result ≡ number_below (2 ^ 128) text.now }
 {
     match text.parse::<u128>() {
