@@ -10,7 +10,7 @@ mod rows;
 mod scan;
 mod source;
 
-pub use entry_rows::EntryRows;
+pub use entry_rows::{EntryRows, all_true};
 pub use index_scan::IndexScan;
 pub use lane_rows::LaneRows;
 pub use listed::Listed;
