@@ -7,7 +7,7 @@ mod equalities;
 mod folding;
 mod forms;
 mod laws;
-mod numbered;
+mod numbering;
 mod offsets;
 mod operands;
 mod rebuilding;
@@ -25,7 +25,7 @@ pub use laws::{
     law_folding_keeps_value, law_folds_what_is_closed, law_inward_keeps_truth, law_never_true,
     law_not_null_keeps_rows, law_offsets_keep_value, law_parts_hold, law_same_is_equal,
 };
-pub use numbered::numbered;
+pub use numbering::numbered;
 pub use offsets::copy_without_offsets;
 pub use operands::{Operands, is_same_node, operands_in};
 pub use rebuilding::{Rule, rebuild};
