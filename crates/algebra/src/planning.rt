@@ -56,10 +56,7 @@ pub fn written_conditions<A: Heap>(
 }
 
 // The condition with NOT carried inward, and then its literals folded.
-fn simplified<A: Heap>(
-    alloc: A,
-    condition: &MovableExpr<A>,
-) -> Result<MovableExpr<A>, AllocError>
+fn simplified<A: Heap>(alloc: A, condition: &MovableExpr<A>) -> Result<MovableExpr<A>, AllocError>
     ensures { IfOk result (λ e. e ≡ spec.simplified condition.now) }
 {
     let form = inward(alloc, condition)?;
@@ -117,10 +114,7 @@ fn push_parts<A: Heap>(
 }
 
 /// The parts of each condition.
-pub fn all_parts<A: Heap>(
-    alloc: A,
-    conditions: Conditions<A>,
-) -> Result<Conditions<A>, AllocError>
+pub fn all_parts<A: Heap>(alloc: A, conditions: Conditions<A>) -> Result<Conditions<A>, AllocError>
     ensures { IfOk result (λ l. l ≡ flat_map spec.parts_of conditions) }
 {
     let mut parts = Items::new(alloc);
