@@ -1,5 +1,6 @@
 //! The tables of the runs, and the rows of the test: each has a role, a query or its name, the indexes (the number of an entry and that
-//! of a column, with a dot between them), the column by which the rows are wanted in order, or `-`, the code of a plan, its
+//! of a column, with a dot between them), the column by which the rows are wanted in order, `-` for that of the code, or `any` where
+//! they are given to a sink, the code of a plan, its
 //! combinations in their order (the numbers of the rows, from 0, of the entries in the order of FROM; in braces where an index with
 //! equal values leaves their order open), and the steps that are counted.
 
@@ -69,7 +70,8 @@ pub fn query_text(text: &str) -> &str {
 /// row of both sides and each pair with equal keys; nested loops take as many by the first equality with an entry before, where
 /// these are no more than all pairs, and else one for each pair; a merge takes one for each left row, one for each right row that
 /// is passed since it is less than a left one, and one for each pair with equal keys. Sorting takes one for each comparison of the
-/// merge sort, which halves a list with the smaller half first.
+/// merge sort, which halves a list with the smaller half first. Where no combination is left, no further entry is read. Given to a
+/// sink, a whole index is read as the table stands, and a merge is a hash join.
 pub const ROWS: &str = "root | KEYS | - | - | 1 f n, 2 f n | 0.0 0.2 2.1 3.0 3.2 | 25
 root | KEYS | - | - | 1 f n, 2 f h1 | 0.0 0.2 2.1 3.0 3.2 | 25
 root | KEYS | - | - | 2 f n, 1 f h1 | 0.0 3.0 2.1 0.2 3.2 | 25
@@ -86,9 +88,9 @@ root | NUMBERS | 1.1 2.1 | - | 1 i1 n, 2 i1 h1 | 0.0 1.1 2.2 3.3 4.4 | 35
 root | NUMBERS | 1.1 2.1 | - | 1 i1 n, 2 i1 n | 0.0 1.1 2.2 3.3 4.4 | 35
 root | BARE | - | - | 1 f n, 2 f n |  | 5
 root | BARE | - | - | 1 f n, 2 f h1 |  | 10
-root | BARE | - | - | 2 f n, 1 f h1 |  | 10
+root | BARE | - | - | 2 f n, 1 f h1 |  | 0
 root | BARE | - | - | 1 f n, 2 f m1 |  | 18
-root | BARE | - | - | 2 f n, 1 f m1 |  | 13
+root | BARE | - | - | 2 f n, 1 f m1 |  | 0
 root | SELF | - | - | 1 f n, 2 f h1 | 0.0 0.3 2.2 3.0 3.3 4.4 | 26
 root | SELF | - | - | 1 f n, 2 f n | 0.0 0.3 2.2 3.0 3.3 4.4 | 26
 root | THREE | - | - | 1 f n, 2 f h1, 3 f h2 | 0.0.0 0.2.2 3.0.0 | 45
@@ -134,4 +136,19 @@ root | SELECT a.id FROM a, c WHERE a.k = c.k AND c.id > 4 | - | - | 1 f n, 2 f n
 alice | SELECT a.id FROM a, c WHERE a.k = c.k AND c.id > 4 | - | - | 1 f n, 2 f n |  | 10
 root | FIRST | - | - | 1 f n, 2 f n, 3 f n | 0.0.0 0.2.0 2.1.2 3.0.3 3.2.3 | 45
 root | MIDDLE | - | - | 1 f n, 2 f n, 3 f n, 4 f n | 0.0.0.0 0.2.0.2 2.1.2.1 3.0.3.0 3.2.3.2 | 65
+root | BARE | - | - | 2 f n, 1 f n |  | 0
+root | BARE | - | 1.1 | 2 f n, 1 f h1 |  | 0
+root | BARE | 1.2 2.2 | - | 2 i2 n, 1 i2 m1 |  | 0
+root | SELECT a.id FROM bare, a, c WHERE a.k = c.k | - | - | 1 f n, 2 f n, 3 f h1 |  | 0
+root | SELECT a.id FROM a, c, a d WHERE a.k = c.k AND c.k = d.k AND c.id > 4 | - | - | 1 f n, 2 f n, 3 f h2 |  | 15
+root | SELECT a.id FROM a, c, a d WHERE a.k = c.k AND c.k = d.k AND c.id > 4 | - | any | 1 f n, 2 f n, 3 f m2 |  | 15
+root | SELECT id FROM a | 1.1 | any | 1 i1 n | 0 1 2 3 4 | 5
+root | SELECT id FROM a | 1.2 | any | 1 i2 n | 0 1 2 3 4 | 5
+root | SELECT id FROM a WHERE id > 3 | 1.1 | any | 1 r1/1 n | 3 4 | 5
+root | KEYS | - | any | 1 f n, 2 f m1 | 0.0 0.2 2.1 3.0 3.2 | 25
+root | KEYS | 1.2 2.2 | any | 1 i2 n, 2 i2 m1 | 0.0 0.2 2.1 3.0 3.2 | 25
+root | KEYS | 1.2 2.2 | any | 1 i2 n, 2 i2 h1 | 0.0 0.2 2.1 3.0 3.2 | 25
+root | NUMBERS | 1.1 2.1 | any | 1 i1 n, 2 i1 n | 0.0 1.1 2.2 3.3 4.4 | 25
+alice | KEYS | 2.2 | any | 1 f n, 2 i2 m1 | 0.0 3.0 | 19
+root | SELECT id FROM a WHERE FALSE | - | any | empty |  | 0
 ";

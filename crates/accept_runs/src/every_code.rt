@@ -7,13 +7,14 @@ use crate::drawn_tables::drawn_tables;
 use crate::nested_loops::nested_loops;
 use crate::texts::shown;
 use expr::Code;
-use fixture_plans::{Drawn, Random, all_codes, draw, no_query, run_over, tables_of};
+use fixture_plans::{Drawn, Random, all_codes, draw, no_query, run_into_over, run_over, tables_of};
+use memory::Items;
 use std::alloc::{AllocError, AllocGlobal, Global};
 use std::process::Abort;
 use std::test::Fail;
 use tables::Table;
 use trailcheck::Setting;
-use tuples::{Work, World};
+use tuples::{Combo, Work, World};
 
 const SEED: u64 = 1979;
 
@@ -29,7 +30,22 @@ fn wanted(
     shown(alloc, &found, world.tables.len(), "{")
 }
 
-// Each of the codes gives these combinations.
+// These are the combinations, in any order.
+fn are_as(
+    rt: &(impl Abort + AllocGlobal),
+    found: Option<Items<Combo<Global>, Global>>,
+    entries: usize,
+    want: &str,
+) -> Result<(), AllocError> {
+    let Some(found) = found else {
+        panic!(rt; "not admissible");
+    };
+    let got = shown(rt.alloc(), found.as_slice(), entries, "{")?;
+    assert_eq!(rt; got.as_str(), want);
+    Ok(())
+}
+
+// Each of the codes gives these combinations, in its order and in any.
 fn all_give(
     rt: &(impl Abort + AllocGlobal),
     world: &World<'_, Global>,
@@ -41,11 +57,11 @@ fn all_give(
 {
     for code in codes {
         let mut work = Work::new();
-        let Some(found) = run_over(rt.alloc(), world, setting, code, None, &mut work)? else {
-            panic!(rt; "not admissible");
-        };
-        let got = shown(rt.alloc(), found.as_slice(), world.tables.len(), "{")?;
-        assert_eq!(rt; got.as_str(), want);
+        let entries = world.tables.len();
+        let found = run_over(rt.alloc(), world, setting, code, None, &mut work)?;
+        are_as(rt, found, entries, want)?;
+        let found = run_into_over(rt.alloc(), world, setting, code, &mut work)?;
+        are_as(rt, found, entries, want)?;
     }
     Ok(())
 }

@@ -9,9 +9,9 @@ use crate::rows::fields;
 use crate::texts::shown;
 use access::frame;
 use expr::Code;
-use fixture_plans::{run_over, tables_of};
+use fixture_plans::{run_into_over, run_over, tables_of};
 use fixtures::{FixtureError, code_of, contents, load, store_of};
-use memory::Failure;
+use memory::{Failure, Items};
 use resolve::{Bound, bind};
 use rewrite::simplify;
 use row_ast::Query;
@@ -21,7 +21,7 @@ use std::test::Fail;
 use store::Store;
 use syntax::parse_query;
 use trailcheck::Setting;
-use tuples::{Work, World};
+use tuples::{Combo, Work, World};
 
 // A row of the test.
 #[derive(Clone, Copy)]
@@ -66,6 +66,24 @@ fn setting(
 
 // ---- runs
 
+// The combinations of the code, which come to a sink where any order will do; none where no plan may have it.
+fn run_code(
+    alloc: Global,
+    world: &World<'_, Global>,
+    setting: &Setting<Global>,
+    code: &Code<Global>,
+    wanted: &str,
+    work: &mut Work,
+) -> Result<Option<Items<Combo<Global>, Global>>, AllocError>
+    requires { map guard_of setting.now.frame ≡ map (λ t. guard_of t.guard.now) world.now.tables.now }
+{
+    if wanted == "any" {
+        run_into_over(alloc, world, setting, code, work)
+    } else {
+        run_over(alloc, world, setting, code, column_of(wanted), work)
+    }
+}
+
 fn runs_as(
     rt: &(impl Abort + AllocGlobal),
     world: &World<'_, Global>,
@@ -76,8 +94,7 @@ fn runs_as(
     requires { map guard_of setting.now.frame ≡ map (λ t. guard_of t.guard.now) world.now.tables.now }
 {
     let mut work = Work::new();
-    let wanted = column_of(row.wanted);
-    let Some(found) = run_over(rt.alloc(), world, setting, code, wanted, &mut work)? else {
+    let Some(found) = run_code(rt.alloc(), world, setting, code, row.wanted, &mut work)? else {
         panic!(rt; "not admissible");
     };
     let got = shown(

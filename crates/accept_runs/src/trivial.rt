@@ -51,7 +51,7 @@ impl<A: Heap> Condition<A> for Never {
 
     ghost passes = { λ s c. false };
 
-    fn passes(&self, _combination: &Combo<A>) -> bool {
+    fn passes_both(&self, _one: &Combo<A>, _other: &Combo<A>) -> bool {
         false
     }
 }

@@ -10,4 +10,4 @@ mod worlds;
 pub use every_code::all_codes;
 pub use random::Random;
 pub use random_problems::{Drawn, draw};
-pub use worlds::{no_query, run_over, tables_of};
+pub use worlds::{no_query, run_into_over, run_over, tables_of};

@@ -4,7 +4,7 @@ ghost use Rattle.std.specs.Prelude.{◌≡◌, [], ℕ, IfOk, List, Some, length
 ghost use Rattle.fixture_plans.specs.Worlds.{AreOf};
 ghost use Rattle.tuples.specs.View.{guard_of};
 
-use executor::run;
+use executor::{run, run_into};
 use expr::{BoundQuery, Code, ColumnId};
 use indexes::{IndexRows, indexes_of};
 use memory::Items;
@@ -96,4 +96,25 @@ pub fn run_over(
     }
     let combinations = run(alloc, world, setting, &lent, code, wanted, work)?;
     Ok(Some(combinations))
+}
+
+/// The combinations that the run of a code gives to a sink, in any order, with indexes that are made for it; none where no plan may
+/// have the code.
+pub fn run_into_over(
+    alloc: Global,
+    world: &World<'_, Global>,
+    setting: &Setting<Global>,
+    code: &Code<Global>,
+    work: &mut Work,
+) -> Result<Option<Items<Combo<Global>, Global>>, AllocError>
+    requires { map guard_of setting.now.frame ≡ map (λ t. guard_of t.guard.now) world.now.tables.now }
+{
+    let indexes = indexes_of_tables(alloc, world.tables, setting.indexed.as_slice())?;
+    let lent = lent(alloc, indexes.as_slice())?;
+    if !is_admissible(alloc, setting, code)? {
+        return Ok(None);
+    }
+    let mut taken = Items::new(alloc);
+    run_into(alloc, world, setting, &lent, code, &mut taken, work)?;
+    Ok(Some(taken))
 }
