@@ -1,10 +1,10 @@
 //! The conditions that a query is planned with.
 
 use crate::term_texts::show_conditions;
-use algebra::planning_list;
 use catalog::Catalog;
 use fixtures::{Printer, sales};
 use resolve::{Bound, bind};
+use rewrite::simplify;
 use row_ast::Query;
 use std::alloc::{AllocError, Global};
 use std::process::Abort;
@@ -35,7 +35,7 @@ SELECT id FROM deal WHERE NOT (id = 0 OR id = 1 OR id = 2 OR id = 3 OR id = 4 OR
 ";
 
 fn text_of_bound(alloc: Global, bound: &Bound<'_, Global>) -> Result<String, AllocError> {
-    let list = planning_list(alloc, &bound.query)?;
+    let list = simplify(alloc, &bound.query)?.conditions;
     let mut out = Printer::new(alloc, false);
     show_conditions(list.as_slice(), &mut out)?;
     Ok(out.text)

@@ -4,12 +4,12 @@
 use crate::queries::query_text;
 use crate::rewrites::rewritten_text;
 use crate::rows::fields;
-use algebra::planning_list;
 use catalog::Catalog;
 use expr::MovableExpr;
 use fixtures::sales;
 use memory::boxed;
 use resolve::{Bound, bind};
+use rewrite::simplify;
 use row_ast::Query;
 use row_terms::Term;
 use std::alloc::{AllocError, Global};
@@ -57,7 +57,7 @@ fn turned(
     line: &str,
 ) -> Result<(), AllocError> {
     let ([entry, side, step, want], _) = fields(line);
-    let conditions = planning_list(rt.alloc(), &bound.query)?;
+    let conditions = simplify(rt.alloc(), &bound.query)?.conditions;
     let [condition] = conditions.as_slice() else {
         panic!(rt; "not one condition");
     };

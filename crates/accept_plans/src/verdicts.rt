@@ -4,12 +4,13 @@ use crate::queries::query_text;
 use crate::rows::fields;
 use crate::steps::{repeated, steps_of};
 use access::frame;
-use algebra::{Step, planning_list};
+use algebra::Step;
 use catalog::Catalog;
 use expr::Code;
 use fixtures::{code_of, sales};
 use memory::{Items, boxed};
 use resolve::{Bound, bind};
+use rewrite::simplify;
 use row_ast::Query;
 use row_terms::written;
 use std::alloc::{AllocError, Global};
@@ -148,7 +149,7 @@ pub fn made_setting(
     let entries = bound.entries.as_slice();
     let frame = frame(alloc, catalog, role, entries)?.into();
     let indexed = indexed(alloc, entries.len(), column)?;
-    let conditions = planning_list(alloc, &bound.query)?;
+    let conditions = simplify(alloc, &bound.query)?.conditions;
     boxed(
         alloc,
         Setting {

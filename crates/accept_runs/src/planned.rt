@@ -3,10 +3,10 @@
 use crate::costed_queries::query_text;
 use crate::rows::{has_number, index_of};
 use access::frame;
-use algebra::planning_list;
 use expr::{BoundExpr, ColumnId, copy_expr};
 use memory::{Items, boxed};
 use resolve::{Bound, bind};
+use rewrite::simplify;
 use row_ast::Query;
 use stats::Stats;
 use std::alloc::{AllocError, AllocGlobal, Global};
@@ -123,7 +123,7 @@ fn planned_bound(
     let setting = Setting {
         frame: frame(rt.alloc(), store.catalog(), "root", entries)?,
         indexed: indexed(rt.alloc(), asked.indexes, entries.len())?,
-        conditions: planning_list(rt.alloc(), &bound.query)?,
+        conditions: simplify(rt.alloc(), &bound.query)?.conditions,
     };
     let filter = match &bound.query.filter {
         Some(condition) => Some(copy_expr(rt.alloc(), condition)?),

@@ -8,12 +8,12 @@ use crate::planned::{column_of, indexed};
 use crate::rows::fields;
 use crate::texts::shown;
 use access::frame;
-use algebra::planning_list;
 use expr::Code;
 use fixture_plans::{run_over, tables_of};
 use fixtures::{FixtureError, code_of, contents, load, store_of};
 use memory::Failure;
 use resolve::{Bound, bind};
+use rewrite::simplify;
 use row_ast::Query;
 use std::alloc::{AllocError, AllocGlobal, Global};
 use std::process::Abort;
@@ -60,7 +60,7 @@ fn setting(
     Ok(Setting {
         frame: frame(alloc, store.catalog(), row.role, entries)?,
         indexed: indexed(alloc, row.indexes, entries.len())?,
-        conditions: planning_list(alloc, &bound.query)?,
+        conditions: simplify(alloc, &bound.query)?.conditions,
     })
 }
 

@@ -17,8 +17,7 @@ mod two_filters;
 pub use applying::apply;
 pub use laws::law_steps_keep;
 pub use planning::{
-    consequence, copies, is_too_long, planning_list, push_any, push_condition, simplified,
-    simplified_parts, stands_in, with_consequences, without_repeats, written_conditions,
+    all_parts, all_simplified, consequence, copies, is_too_long, stands_in, written_conditions,
 };
 pub use runs::reads_only;
 pub use step::{Reason, Rewrite, Step, rewrite_of};

@@ -1,7 +1,7 @@
 //! The conditions that a query is planned with.
 
 ghost use Rattle.std.specs.Prelude.{◌≡◌, ◌++◌, IfOk, OnOk, map, true};
-ghost use Rattle.std.specs.List.{list_all};
+ghost use Rattle.std.specs.List.{flat_map, list_all};
 ghost use Rattle.expr.specs.Movable.{all_movable, movable};
 ghost use Rattle.expr.specs.View.{bound_expr_of, bound_exprs, bound_query_of};
 ghost use Rattle.predicates.specs.Offsets.{without_offsets};
@@ -55,8 +55,8 @@ pub fn written_conditions<A: Heap>(
     all_as_written(alloc, &conjuncts)
 }
 
-/// The condition with NOT carried inward, and then its literals folded.
-pub fn simplified<A: Heap>(
+// The condition with NOT carried inward, and then its literals folded.
+fn simplified<A: Heap>(
     alloc: A,
     condition: &MovableExpr<A>,
 ) -> Result<MovableExpr<A>, AllocError>
@@ -64,6 +64,20 @@ pub fn simplified<A: Heap>(
 {
     let form = inward(alloc, condition)?;
     folded(alloc, &form)
+}
+
+/// Each condition with NOT carried inward, and then its literals folded.
+pub fn all_simplified<A: Heap>(
+    alloc: A,
+    conditions: &[MovableExpr<A>],
+) -> Result<Conditions<A>, AllocError>
+    ensures { IfOk result (λ l. l ≡ map spec.simplified conditions.now) }
+{
+    let mut all = Items::new(alloc);
+    for condition in conditions {
+        all.push(simplified(alloc, condition)?)?;
+    }
+    Ok(all)
 }
 
 // Adds the members of an AND.
@@ -102,18 +116,18 @@ fn push_parts<A: Heap>(
     }
 }
 
-/// The parts of each condition in its simplified form.
-pub fn simplified_parts<A: Heap>(
+/// The parts of each condition.
+pub fn all_parts<A: Heap>(
     alloc: A,
-    conditions: &[MovableExpr<A>],
+    conditions: Conditions<A>,
 ) -> Result<Conditions<A>, AllocError>
-    ensures { IfOk result (λ l. l ≡ spec.simplified_parts conditions.now) }
+    ensures { IfOk result (λ l. l ≡ flat_map spec.parts_of conditions) }
 {
-    let mut known = Items::new(alloc);
-    for condition in conditions {
-        push_parts(alloc, &mut known, simplified(alloc, condition)?)?;
+    let mut parts = Items::new(alloc);
+    for condition in conditions.into_vec() {
+        push_parts(alloc, &mut parts, condition)?;
     }
-    Ok(known)
+    Ok(parts)
 }
 
 // True where the condition equates columns of two different entries.
@@ -147,48 +161,6 @@ pub fn stands_in<A: Heap>(condition: &MovableExpr<A>, conditions: &[MovableExpr<
     conditions.iter().any(|other| is_same(condition.expression(), other.expression()))
 }
 
-/// Adds the condition unless it is one of the list.
-pub fn push_condition<A: Heap>(
-    known: &mut Conditions<A>,
-    condition: MovableExpr<A>,
-) -> Result<(), AllocError>
-    ensures { OnOk result (known.new ≡ spec.with_condition known.old condition) }
-{
-    if stands_in(&condition, known.as_slice()) {
-        Ok(())
-    } else {
-        known.push(condition)
-    }
-}
-
-/// Adds a condition, if there is one, unless it is one of the list.
-pub fn push_any<A: Heap>(
-    known: &mut Conditions<A>,
-    condition: Option<MovableExpr<A>>,
-) -> Result<(), AllocError>
-    ensures { OnOk result (known.new ≡ spec.with_any known.old condition) }
-{
-    match condition {
-        Some(condition) => push_condition(known, condition),
-        None => Ok(()),
-    }
-}
-
-// Adds the consequences of `p` and each of the others.
-fn push_consequences<A: Heap>(
-    alloc: A,
-    known: &mut Conditions<A>,
-    p: &MovableExpr<A>,
-    others: &[MovableExpr<A>],
-) -> Result<(), AllocError>
-    ensures { OnOk result (known.new ≡ spec.with_each known.old p.now others.now) }
-{
-    for q in others {
-        push_any(known, consequence(alloc, p, q)?)?;
-    }
-    Ok(())
-}
-
 /// Copies of the conditions.
 pub fn copies<A: Heap>(alloc: A, conditions: &[MovableExpr<A>]) -> Result<Conditions<A>, AllocError>
     ensures { IfOk result (λ l. l ≡ conditions.now) }
@@ -200,58 +172,9 @@ pub fn copies<A: Heap>(alloc: A, conditions: &[MovableExpr<A>]) -> Result<Condit
     Ok(all)
 }
 
-/// The conditions, and the consequences of each two of them.
-pub fn with_consequences<A: Heap>(
-    alloc: A,
-    conditions: &[MovableExpr<A>],
-) -> Result<Conditions<A>, AllocError>
-    ensures { IfOk result (λ l. l ≡ spec.with_consequences conditions.now) }
-{
-    let mut known = copies(alloc, conditions)?;
-    for p in conditions {
-        push_consequences(alloc, &mut known, p, conditions)?;
-    }
-    Ok(known)
-}
-
-/// The conditions that are not equal to an earlier one.
-pub fn without_repeats<A: Heap>(
-    alloc: A,
-    conditions: &[MovableExpr<A>],
-) -> Result<Conditions<A>, AllocError>
-    ensures { IfOk result (λ l. l ≡ spec.without_repeats conditions.now) }
-{
-    let mut known = Items::new(alloc);
-    for condition in conditions {
-        push_condition(&mut known, condition.copy(alloc)?)?;
-    }
-    Ok(known)
-}
-
 /// True where there are more than a planning list may have.
 pub fn is_too_long<A: Heap>(conditions: &[MovableExpr<A>]) -> bool
     ensures { result ≡ spec.is_too_long conditions.now }
 {
     conditions.len() > MOST_CONJUNCTS
-}
-
-/// The conditions that a query is planned with: its movable conjuncts in simplified form, and then `other = v` for each two
-/// of them that are `column = other`, of two entries, and `column = v`; none twice. Where there are more than 64, repetitions
-/// counted, they are its movable conjuncts as they are written.
-pub fn planning_list<A: Heap>(
-    alloc: A,
-    query: &BoundQuery<A>,
-) -> Result<Items<MovableExpr<A>, A>, AllocError>
-    ensures { IfOk result (λ l. l ≡ spec.planning_list (bound_query_of query.now)) }
-{
-    let written = written_conditions(alloc, query)?;
-    let simple = simplified_parts(alloc, written.as_slice())?;
-    if is_too_long(simple.as_slice()) {
-        return Ok(written);
-    }
-    let all = with_consequences(alloc, simple.as_slice())?;
-    if is_too_long(all.as_slice()) {
-        return Ok(written);
-    }
-    without_repeats(alloc, all.as_slice())
 }

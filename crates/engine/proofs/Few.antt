@@ -1,8 +1,9 @@
--- A query has at most eight tables in FROM, and as many entries.
+-- A query within the limits has few tables in FROM, and as many entries.
 use Rattle.std.proofs.Common.{◌≡◌, ℕ, ◌+◌, ◌≤◌, Bool, true, false, ◌&&◌, List, [], ◌∷◌, length, length-append, Result, Ok, Err, refl, sym, ap, subst, ◌∙◌, arith}
 use Rattle.std.proofs.lemmas.List.{length-map}
 use Rattle.std.proofs.lemmas.Bool.{leb-true}
 use Rattle.std.proofs.lemmas.List.Sums.{sum-map, sum_by-cons}
+use Rattle.value.specs.Limits.{most_entries}
 use Rattle.value.specs.Names.{Name}
 use Rattle.row_ast.specs.Ast.{FromItem, Query}
 use Rattle.syntax.specs.Limits.{entries, within_limits}
@@ -31,15 +32,15 @@ pub first_holds : (a b : Bool) → (a && b) ≡ true → a ≡ true
 first_holds true b e = refl
 first_holds false b e = e
 
-few_tables : (q : Query) → within_limits q ≡ true → entries q.from ≤ 8
-few_tables q small = leb-true (entries q.from) 8 (first_holds _ _ (first_holds _ _ small))
+few_tables : (q : Query) → within_limits q ≡ true → entries q.from ≤ most_entries
+few_tables q small = leb-true (entries q.from) most_entries (first_holds _ _ (first_holds _ _ small))
 
-permitted_few : (cat : Catalog) (role : Name) (q : Query) (b : Bound) (r : Result Bound BindError) → entries q.from ≤ 8 → bound cat q ≡ r → permitted cat role r ≡ Ok b → length b.entries ≤ 8
+permitted_few : (cat : Catalog) (role : Name) (q : Query) (b : Bound) (r : Result Bound BindError) → entries q.from ≤ most_entries → bound cat q ≡ r → permitted cat role r ≡ Ok b → length b.entries ≤ most_entries
 permitted_few cat role q b (Err fault) few is e = absurd (cc)
 permitted_few cat role q b (Ok b') few is e =
     let n = as_many_entries cat q b' is in
     let m = joined_count 0 q.from in
-    subst (λ (b : Bound). length b.entries ≤ 8) (not_denied b' b _ e) (omega arith)
+    subst (λ (b : Bound). length b.entries ≤ most_entries) (not_denied b' b _ e) (omega arith)
 
-pub admitted_few : (cat : Catalog) (role : Name) (q : Query) (b : Bound) → within_limits q ≡ true → admitted_query cat role q ≡ Ok b → length b.entries ≤ 8
+pub admitted_few : (cat : Catalog) (role : Name) (q : Query) (b : Bound) → within_limits q ≡ true → admitted_query cat role q ≡ Ok b → length b.entries ≤ most_entries
 admitted_few cat role q b small e = permitted_few cat role q b (bound cat q) (few_tables q small) refl e

@@ -1,4 +1,4 @@
--- A query within the limits has at most 64 conjuncts, and as many when it is bound.
+-- A query within the limits has few conjuncts, and as many when it is bound.
 use Rattle.std.proofs.Common.{◌≡◌, ℕ, ◌+◌, ◌≤◌, Bool, true, false, ◌&&◌, cond, List, [], ◌∷◌, ◌++◌, length, length-append, map, Option, Some, None, Result, Ok, Err, refl, sym, ap, subst, ◌∙◌, arith}
 use Rattle.std.specs.List.{flat_map, sum, sum_by}
 use Rattle.std.proofs.lemmas.Bool.{leb-true}
@@ -7,6 +7,7 @@ use Rattle.std.proofs.lemmas.List.Sums.{count_by-le-length, length-filter, sum-m
 use Rattle.memory.specs.Results.{and_then, first_then, on_each}
 use Rattle.memory.proofs.Cases.{ok_is}
 use Rattle.value.specs.declared.refusal.Refusal.TheVariants as r
+use Rattle.value.specs.Limits.{most_conjuncts}
 use Rattle.value.specs.Names.{Name}
 use Rattle.row_ast.specs.Ast as ast
 use Rattle.expr.specs.declared.bound.ColumnId.{ColumnId}
@@ -223,17 +224,17 @@ second_holds : (a b : Bool) → (a && b) ≡ true → b ≡ true
 second_holds true b e = e
 second_holds false b e = absurd (cc)
 
-few_conjuncts : (q : ast.Query) → within_limits q ≡ true → limits.conjuncts q ≤ 64
-few_conjuncts q small = leb-true (limits.conjuncts q) 64 (second_holds _ _ (first_holds _ _ small))
+few_conjuncts : (q : ast.Query) → within_limits q ≡ true → limits.conjuncts q ≤ most_conjuncts
+few_conjuncts q small = leb-true (limits.conjuncts q) most_conjuncts (second_holds _ _ (first_holds _ _ small))
 
 permitted_conjuncts : (cat : Catalog) (role : Name) (q : ast.Query) (b : Bound) (r : Result Bound BindError)
-    → limits.conjuncts q ≤ 64 → bound cat q ≡ r → permitted cat role r ≡ Ok b → length (movable_conjuncts b.query) ≤ 64
+    → limits.conjuncts q ≤ most_conjuncts → bound cat q ≡ r → permitted cat role r ≡ Ok b → length (movable_conjuncts b.query) ≤ most_conjuncts
 permitted_conjuncts cat role q b (Err fault) few is e = absurd (cc)
 permitted_conjuncts cat role q b (Ok b') few is e =
     let n = as_many_conjuncts cat q b' is in
     let m = few_movable b'.query in
-    subst (λ (b : Bound). length (movable_conjuncts b.query) ≤ 64) (not_denied b' b _ e) (omega arith)
+    subst (λ (b : Bound). length (movable_conjuncts b.query) ≤ most_conjuncts) (not_denied b' b _ e) (omega arith)
 
 pub admitted_conjuncts : (cat : Catalog) (role : Name) (q : ast.Query) (b : Bound)
-    → within_limits q ≡ true → admitted_query cat role q ≡ Ok b → length (movable_conjuncts b.query) ≤ 64
+    → within_limits q ≡ true → admitted_query cat role q ≡ Ok b → length (movable_conjuncts b.query) ≤ most_conjuncts
 admitted_conjuncts cat role q b small e = permitted_conjuncts cat role q b (bound cat q) (few_conjuncts q small) refl e

@@ -7,6 +7,8 @@ ghost use Rattle.expr.specs.Conjuncts.{movable_conjuncts};
 ghost use Rattle.scope.specs.View.{entries_of};
 ghost use Rattle.catalog.specs.Catalog.{Catalog};
 ghost use Rattle.stats.specs.Statistics as stats;
+ghost use Rattle.algebra.specs.View.{step_of};
+ghost use Rattle.rewrite.specs.Simplifying.{simplifying};
 ghost use Rattle.trailcheck.specs.View.{setting_of};
 ghost use Rattle.value.specs.Limits.{most_conjuncts, most_entries};
 ghost use Rattle.planning.specs.LastSort.{last_sort};
@@ -28,7 +30,8 @@ ghost use Rattle.engine.specs.Known.{statistics_in};
 ghost use Rattle.engine.specs.Serving.{IsExplained};
 
 use crate::known::known_statistics;
-use crate::setting::setting;
+use crate::setting::setting_with;
+use algebra::Step;
 use analysis::{admit, read_query};
 use bound_plans::{named, plan_entries};
 use expr::{ColumnId, MovableExpr};
@@ -38,6 +41,7 @@ use plan_texts::{SortColumn, write_plan};
 use planning::Plan;
 use replies::{Reply, reply_status, reply_text};
 use resolve::Bound;
+use rewrite::{Simplified, simplify};
 use row_ast::{Expr, Query};
 use scope::Entry;
 use stats::Stats;
@@ -81,20 +85,22 @@ fn last_sort<A: Heap>(plan: &Plan<'_, A>) -> Option<SortColumn>
     }
 }
 
-// A plan as its text has it, its filters the conditions.
+// A plan as its text has it, its filters the conditions; the trail begins with those steps, which simplify the query.
 fn plan_with<A: Heap>(
     alloc: A,
     entries: &[Entry<'_, A>],
     conditions: &[MovableExpr<A>],
     plan: Plan<'_, A>,
+    trail: Items<Step<A>, A>,
 ) -> Result<plan_texts::Plan<A>, AllocError>
+    requires { map step_of trail ≡ simplifying plan.query }
     ensures value { IfOk result (λ p. plan_of p ≡ record { cost = plan.entry.cost; filters = map (named (entries_of entries.now)) conditions.now; code = plan.entry.code; sort = option_map spec.sort_column (last_sort plan.entry.problem plan.entry.code); trail = plan.entry.trail }) }
     ensures plan { IfOk result (λ _. IsPlan plan.entry) }
 {
     let filters = named_conditions(alloc, entries, conditions)?;
     let cost = plan.cost();
     let sort = last_sort(&plan);
-    let (code, trail) = plan.into_parts();
+    let (code, trail) = plan.into_parts(alloc, trail)?;
     Ok(plan_texts::Plan {
         cost,
         filters,
@@ -117,12 +123,13 @@ fn best_text<A: Heap>(
     ensures { IfOk result (λ text. text.items ≡ spec.best_text store.now.catalog role.now (bound_of bound.now) (map (λ e. known store.now.catalog role.now (statistics_in store.now) e.table) (bound_of bound.now).entries)) }
 {
     let entries = bound.entries.as_slice();
-    let setting = setting(alloc, store.catalog(), role, bound)?;
+    let Simplified { trail, conditions } = simplify(alloc, &bound.query)?;
+    let setting = setting_with(alloc, store.catalog(), role, bound, conditions)?;
     let frame = setting.frame.as_slice();
     let unknown = Stats::unknown();
     let statistics = known_statistics(alloc, store, entries, frame, &unknown)?;
     let found = Plan::new(alloc, &bound.query, &setting, &statistics)?;
-    let plan = plan_with(alloc, entries, setting.conditions.as_slice(), found)?;
+    let plan = plan_with(alloc, entries, setting.conditions.as_slice(), found, trail)?;
     let names = plan_entries(alloc, entries)?;
     write_plan(alloc, names.as_slice(), &plan)
 }

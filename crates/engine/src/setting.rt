@@ -8,15 +8,17 @@ ghost use Rattle.access.specs.Access.{sees};
 ghost use Rattle.tuples.specs.Guards.{shows};
 ghost use Rattle.tuples.specs.View.{guard_of};
 ghost use Rattle.resolve.specs.View.{bound_of};
+ghost use Rattle.algebra.specs.PlanningList.{planning_list};
 ghost use Rattle.trailcheck.specs.View.{setting_of};
 ghost use Rattle.store.specs.Derived.{indexed_columns};
 ghost use Rattle.engine.specs.Settings as spec;
 
 use access::frame;
-use algebra::planning_list;
 use catalog::Catalog;
+use expr::MovableExpr;
 use memory::{Heap, Items};
 use resolve::Bound;
+use rewrite::simplify;
 use row_objects::Index;
 use scope::Entry;
 use std::alloc::AllocError;
@@ -49,7 +51,27 @@ fn indexed<A: Heap>(
 }
 
 /// The guards of the entries for the role, which show exactly the rows that it sees, the indexes of their tables, and the
-/// planning list.
+/// planning list, which is given.
+pub(crate) fn setting_with<A: Heap>(
+    alloc: A,
+    catalog: &Catalog<A>,
+    role: &str,
+    bound: &Bound<'_, A>,
+    conditions: Items<MovableExpr<A>, A>,
+) -> Result<Setting<A>, AllocError>
+    requires { conditions ≡ planning_list (bound_of bound.now).query }
+    ensures value { IfOk result (λ s. setting_of s ≡ spec.setting catalog.now role.now (bound_of bound.now)) }
+    ensures shows { IfOk result (λ s. (row : value.Row) → map (λ g. shows role.now (guard_of g) row) s.frame ≡ map (λ e. sees catalog.now role.now (table_of e.table) row) bound.now.entries) }
+{
+    let entries = bound.entries.as_slice();
+    Ok(Setting {
+        frame: frame(alloc, catalog, role, entries)?,
+        indexed: indexed(alloc, entries)?,
+        conditions,
+    })
+}
+
+/// The same with the planning list of the query.
 pub(crate) fn setting<A: Heap>(
     alloc: A,
     catalog: &Catalog<A>,
@@ -59,10 +81,6 @@ pub(crate) fn setting<A: Heap>(
     ensures value { IfOk result (λ s. setting_of s ≡ spec.setting catalog.now role.now (bound_of bound.now)) }
     ensures shows { IfOk result (λ s. (row : value.Row) → map (λ g. shows role.now (guard_of g) row) s.frame ≡ map (λ e. sees catalog.now role.now (table_of e.table) row) bound.now.entries) }
 {
-    let entries = bound.entries.as_slice();
-    Ok(Setting {
-        frame: frame(alloc, catalog, role, entries)?,
-        indexed: indexed(alloc, entries)?,
-        conditions: planning_list(alloc, &bound.query)?,
-    })
+    let simplified = simplify(alloc, &bound.query)?;
+    setting_with(alloc, catalog, role, bound, simplified.conditions)
 }

@@ -1,9 +1,10 @@
 -- The view of the Rust type of plans as spec data.
-use Rattle.std.specs.Prelude.{map}
+use Rattle.std.specs.Prelude.{◌++◌, map}
 use Rattle.expr.specs.View.{bound_query_of, code_of}
 use Rattle.stats.specs.View.{stats_of}
-use Rattle.algebra.specs.View.{step_of}
 use Rattle.trailcheck.specs.View.{setting_of}
+use Rattle.rewrite.specs.Placing.{placing}
+use Rattle.rewrite.specs.Simplifying.{simplifying}
 use Rattle.planning.specs.Plans.{Plan}
 use Rattle.planning.specs.Wanted.{wanted_column}
 use Rattle.planning.specs.declared.plan.Plan.TheInside.{Inside}
@@ -14,5 +15,5 @@ plan_of p = record {
   problem = record { setting = setting_of p.setting.now; statistics = map (λ s. stats_of s.now) p.statistics.now; wanted = wanted_column (bound_query_of p.query.now) };
   cost = p.cost;
   code = code_of p.code;
-  trail = map (λ s. step_of s) p.trail;
+  trail = simplifying (bound_query_of p.query.now) ++ placing (setting_of p.setting.now) (code_of p.code);
 }

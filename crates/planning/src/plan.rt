@@ -7,6 +7,7 @@ ghost use Rattle.stats.specs.View.{stats_of};
 ghost use Rattle.algebra.specs.PlanningList.{planning_list};
 ghost use Rattle.algebra.specs.View.{step_of};
 ghost use Rattle.trailcheck.specs.View.{setting_of};
+ghost use Rattle.rewrite.specs.Simplifying.{simplifying};
 ghost use Rattle.value.specs.Limits.{most_conjuncts, most_entries};
 ghost use Rattle.planning.specs.Best.{LeastIsBest};
 ghost use Rattle.planning.specs.LastSort as sorting;
@@ -19,7 +20,7 @@ use algebra::Step;
 use expr::{BoundQuery, Code, ColumnId};
 use joindp::{Problem, search};
 use memory::{Heap, Items};
-use rewrite::{law_plans_are_accepted, place, simplify};
+use rewrite::{law_plans_are_accepted, place};
 use stats::Stats;
 use std::alloc::AllocError;
 use std::marker::Model;
@@ -31,7 +32,8 @@ pub fn law_least_is_best()
     ensures { LeastIsBest }
 {}
 
-/// The plan of a query: of the codes that it may have the best by cost, and the steps by which the checker accepts it.
+/// The plan of a query: of the codes that it may have the best by cost. Query, setting and code settle the trail by which the
+/// checker accepts it, which is made where it is asked for.
 #[derive(Drop)]
 pub struct Plan<'p, A: Heap> {
     query: &'p BoundQuery<A>,
@@ -39,7 +41,6 @@ pub struct Plan<'p, A: Heap> {
     statistics: &'p [&'p Stats<A>],
     code: Code<A>,
     cost: u128,
-    trail: Items<Step<A>, A>,
 }
 
 impl<'p, A: Heap> Model for Plan<'p, A> {
@@ -79,15 +80,12 @@ impl<'p, A: Heap> Plan<'p, A> {
         law_least_is_best();
         let problem = Problem::new(alloc, setting, statistics, wanted_column(query))?;
         let (code, cost) = search(alloc, &problem)?;
-        let simplified = simplify(alloc, query)?;
-        let trail = place(alloc, setting, simplified.trail, &code)?;
         Ok(Plan {
             query,
             setting,
             statistics,
             code,
             cost,
-            trail,
         })
     }
 
@@ -107,13 +105,6 @@ impl<'p, A: Heap> Plan<'p, A> {
         self.cost
     }
 
-    /// The steps from the written term of the query to the shape of the code.
-    pub fn trail(&self) -> &[Step<A>]
-        ensures { map (λ s. step_of s) result.now ≡ self.now.trail }
-    {
-        self.trail.as_slice()
-    }
-
     /// The column by which the combinations of the code are sorted in the end: the wanted one, unless they come in its order.
     pub fn last_sort(&self) -> Option<ColumnId>
         ensures { result ≡ sorting.last_sort self.now.problem self.now.code }
@@ -121,11 +112,18 @@ impl<'p, A: Heap> Plan<'p, A> {
         last_sort(self.setting, &self.code, wanted_column(self.query))
     }
 
-    /// The code and the trail, moved out.
-    pub fn into_parts(self) -> (Code<A>, Items<Step<A>, A>)
-        ensures code { code_of result.0 ≡ self.entry.code }
-        ensures trail { map (λ s. step_of s) result.1 ≡ self.entry.trail }
+    /// The code and the trail: the steps from the written term of the query to the shape of the code. It is given those that
+    /// simplify the query, which are the first, and adds the others. It fails where memory runs out.
+    pub fn into_parts(
+        self,
+        alloc: A,
+        trail: Items<Step<A>, A>,
+    ) -> Result<(Code<A>, Items<Step<A>, A>), AllocError>
+        requires simplifying { map step_of trail ≡ simplifying self.query }
+        ensures code { IfOk result (λ parts. code_of parts.0 ≡ self.entry.code) }
+        ensures trail { IfOk result (λ parts. map step_of parts.1 ≡ self.entry.trail) }
     {
-        (self.code, self.trail)
+        let trail = place(alloc, self.setting, trail, &self.code)?;
+        Ok((self.code, trail))
     }
 }

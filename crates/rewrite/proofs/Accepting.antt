@@ -25,7 +25,7 @@ use Rattle.rewrite.specs.Placing.{placing}
 use Rattle.rewrite.specs.Simplifying.{simplifying}
 use Rattle.rewrite.specs.Trails.{led}
 use Rattle.rewrite.proofs.Leads.{led_then}
-use Rattle.rewrite.proofs.Lengths.{placing_short}
+use Rattle.rewrite.proofs.Lengths.{most_placing, placing_short}
 use Rattle.rewrite.proofs.Limited.{replays}
 use Rattle.rewrite.proofs.Places.{places_each}
 use Rattle.rewrite.proofs.SimplifiedLength.{simplifying_length, planning_length}
@@ -54,9 +54,9 @@ accepts at x trail code admissible leads nodes steps =
 -- ---- both trails together
 
 module _ (at : Setting) (q : BoundQuery) (code : Code) (listed : at.conditions ≡ planning_list q) (few_entries : length at.frame ≤ most_entries) (few_conjuncts : length (movable_conjuncts q) ≤ most_conjuncts) (admissible : is_admissible at code ≡ true) where
-  short : length (placing at code) ≤ 2564
+  short : length (placing at code) ≤ most_placing
   short =
-      let conditions : length at.conditions ≤ 64 = subst (λ l. length l ≤ 64) (sym listed) (planning_length q few_conjuncts) in
+      let conditions : length at.conditions ≤ most_conjuncts = subst (λ l. length l ≤ most_conjuncts) (sym listed) (planning_length q few_conjuncts) in
       placing_short at few_entries conditions code admissible
 
   both_short : length (simplifying q ++ placing at code) ≤ most_plan_steps

@@ -3,6 +3,7 @@ use Rattle.std.proofs.Common.{◌≡◌, ◌∙◌, refl, subst, ℕ, zero, suc,
 use Rattle.std.proofs.lemmas.Bool.{eqb-true}
 use Rattle.std.proofs.lemmas.List.{length-map}
 use Rattle.predicates.proofs.Movables.{and_left, and_right}
+use Rattle.value.specs.Limits.{most_conjuncts, most_entries}
 use Rattle.expr.specs.declared.code.CodeStep.{CodeStep}
 use Rattle.expr.specs.Bound.{BoundExpr}
 use Rattle.expr.specs.Codes as codes
@@ -200,6 +201,10 @@ emptying_short (e ∷ es) = go (is_never_true e) (emptying_short es)
 
 -- ---- all of it
 
+-- the most steps that place the conditions of a query within the limits
+abbrev pub most_placing : ℕ
+most_placing = descending most_entries + most_entries + ascending most_conjuncts most_entries
+
 descending_more : (m n : ℕ) → m ≤ n → descending m ≤ descending n
 descending_more zero n h = omega arith
 descending_more (suc m) zero h = absurd (omega arith)
@@ -221,8 +226,8 @@ module _ (at : Setting) where
       let b = opened_low i in
       omega (arith, a, b)
 
-  module _ (few_entries : length at.frame ≤ 8) (few_conditions : length at.conditions ≤ 64) where
-    stepped_short : (s : CodeStep) (ss : List CodeStep) → length (s ∷ ss) ≡ length at.frame → AreNew (length at.frame) [] (s ∷ ss) → length (placing at (codes.Steps (s ∷ ss))) ≤ 2564
+  module _ (few_entries : length at.frame ≤ most_entries) (few_conditions : length at.conditions ≤ most_conjuncts) where
+    stepped_short : (s : CodeStep) (ss : List CodeStep) → length (s ∷ ss) ≡ length at.frame → AreNew (length at.frame) [] (s ∷ ss) → length (placing at (codes.Steps (s ∷ ss))) ≤ most_placing
     stepped_short s ss as_many new =
         let cs = code_entries at (s ∷ ss) in
         let n : length cs ≡ length at.frame = code_count at (s ∷ ss) as_many new ∙ from_count (length at.frame) in
@@ -231,14 +236,14 @@ module _ (at : Setting) where
         let b = length-below (length at.conditions) (order ++ opening at.frame cs) in
         let c = length-append order (opening at.frame cs) in
         let d = ordering_short cs (from_entries at) (code_distinct at (s ∷ ss) as_many new) (code_within at (s ∷ ss) as_many new) in
-        let f : descending (length (from_entries at)) ≤ descending 8 = descending_more (length (from_entries at)) 8 (let m = from_count (length at.frame) in omega (arith, m)) in
+        let f : descending (length (from_entries at)) ≤ descending most_entries = descending_more (length (from_entries at)) most_entries (let m = from_count (length at.frame) in omega (arith, m)) in
         let g = opening_short at.frame cs in
         let h = joined_low cs in
-        let k = settling_all_short (length at.frame) at.conditions (opened_back at cs) 8 (omega (arith, h, n)) in
-        let l : ascending (length at.conditions) 8 ≤ ascending 64 8 = ascending_more (length at.conditions) 64 8 8 few_conditions (omega arith) in
+        let k = settling_all_short (length at.frame) at.conditions (opened_back at cs) most_entries (omega (arith, h, n)) in
+        let l : ascending (length at.conditions) most_entries ≤ ascending most_conjuncts most_entries = ascending_more (length at.conditions) most_conjuncts most_entries most_entries few_conditions (omega arith) in
         omega (arith, a, b, c, d, f, g, k, l, n)
 
-    pub placing_short : (code : Code) → is_admissible at code ≡ true → length (placing at code) ≤ 2564
+    pub placing_short : (code : Code) → is_admissible at code ≡ true → length (placing at code) ≤ most_placing
     placing_short codes.Empty h = let a = emptying_short at.conditions in omega (arith, a)
     placing_short (codes.Steps []) h = let a = clearing_short (length at.conditions) in omega (arith, a)
     placing_short (codes.Steps (s ∷ ss)) h =

@@ -1,5 +1,5 @@
 -- The number of the steps that simplify, and of the conditions of a planning list.
-use Rattle.std.proofs.Common.{◌≡◌, ℕ, zero, suc, ◌+◌, ◌-◌, ◌≤◌, Bool, true, false, not, refl, ap, ◌∙◌, List, [], ◌∷◌, ◌++◌, length, map, flat_map, length-append, nat_le, Option, Some, None, arith, if◌then◌else◌}
+use Rattle.std.proofs.Common.{◌≡◌, ℕ, zero, suc, ◌+◌, ◌*◌, ◌-◌, ◌≤◌, Bool, true, false, not, refl, ap, ◌∙◌, List, [], ◌∷◌, ◌++◌, length, map, flat_map, length-append, nat_le, Option, Some, None, arith, if◌then◌else◌}
 use Rattle.std.proofs.lemmas.Bool.{leb-true}
 use Rattle.std.proofs.lemmas.List.{length-map}
 use Rattle.expr.specs.Bound.{BoundExpr, And, one_expr}
@@ -75,21 +75,21 @@ length-dropping known (e ∷ es) = go (stands_in e known) (λ new. length-droppi
 
 -- ---- within the limits
 
-is_few : (es : List BoundExpr) → is_too_long es ≡ false → length es ≤ 64
+is_few : (es : List BoundExpr) → is_too_long es ≡ false → length es ≤ most_conjuncts
 is_few es h = go (nat_le (length es) most_conjuncts) refl h
   where
-    go : (b : Bool) → nat_le (length es) most_conjuncts ≡ b → not b ≡ false → length es ≤ 64
+    go : (b : Bool) → nat_le (length es) most_conjuncts ≡ b → not b ≡ false → length es ≤ most_conjuncts
     go true e k = leb-true (length es) most_conjuncts e
     go false e k = absurd (cc)
 
-module _ (written : List BoundExpr) (few : length written ≤ 64) where
+module _ (written : List BoundExpr) (few : length written ≤ most_conjuncts) where
   abbrev parts : List BoundExpr
   parts = simplified_parts written
 
   abbrev all : List BoundExpr
   all = with_consequences parts
 
-  length-simplifying_steps : length all ≤ 64 → length (simplifying_steps written parts all) ≤ 192
+  length-simplifying_steps : length all ≤ most_conjuncts → length (simplifying_steps written parts all) ≤ 3 * most_conjuncts
   length-simplifying_steps h =
       let first : List Step = simplifying_each written in
       let second : List Step = parting_each (map simplified written) in
@@ -107,29 +107,29 @@ module _ (written : List BoundExpr) (few : length written ≤ 64) where
         length-dropping [] all,
       )
 
-  few_steps : length (simplifying_from written) ≤ 192
+  few_steps : length (simplifying_from written) ≤ 3 * most_conjuncts
   few_steps = go (is_too_long parts) (is_too_long all) refl
     where
-      go : (b c : Bool) → is_too_long all ≡ c → length (if b then [] else if c then [] else simplifying_steps written parts all) ≤ 192
+      go : (b c : Bool) → is_too_long all ≡ c → length (if b then [] else if c then [] else simplifying_steps written parts all) ≤ 3 * most_conjuncts
       go true c e = omega arith
       go false true e = omega arith
       go false false e = length-simplifying_steps (is_few all e)
 
-  few_conditions : length (planned written parts) ≤ 64
+  few_conditions : length (planned written parts) ≤ most_conjuncts
   few_conditions = go (is_too_long parts) (is_too_long all) refl
     where
-      go : (b c : Bool) → is_too_long all ≡ c → length (if b then written else if c then written else without_repeats all) ≤ 64
+      go : (b c : Bool) → is_too_long all ≡ c → length (if b then written else if c then written else without_repeats all) ≤ most_conjuncts
       go true c e = few
       go false true e = few
       go false false e = omega (arith, is_few all e, length-dropping [] all)
 
-module _ (q : BoundQuery) (few : length (movable_conjuncts q) ≤ 64) where
-  few_written : length (written_conditions q) ≤ 64
+module _ (q : BoundQuery) (few : length (movable_conjuncts q) ≤ most_conjuncts) where
+  few_written : length (written_conditions q) ≤ most_conjuncts
   few_written = rw (length-map (movable_conjuncts q) without_offsets) few
 
-  -- of a query with at most 64 movable conjuncts
-  pub simplifying_length : length (simplifying q) ≤ 192
+  -- of a query within the limits
+  pub simplifying_length : length (simplifying q) ≤ 3 * most_conjuncts
   simplifying_length = few_steps (written_conditions q) few_written
 
-  pub planning_length : length (planning_list q) ≤ 64
+  pub planning_length : length (planning_list q) ≤ most_conjuncts
   planning_length = few_conditions (written_conditions q) few_written

@@ -1,8 +1,9 @@
 //! The steps from the written term of a query to the conditions of its planning list over the joins in the order of FROM.
 
-ghost use Rattle.std.specs.Prelude.{◌≡◌, ◌++◌, ◌-◌, [], ◌∷◌, IfOk, OnOk, length, map, option_copied, replicate, if◌then◌else◌};
+ghost use Rattle.std.specs.Prelude.{◌≡◌, ◌++◌, ◌-◌, [], ◌∷◌, IfOk, OnOk, length, map, replicate, if◌then◌else◌};
 ghost use Rattle.expr.specs.View.{bound_query_of};
 ghost use Rattle.algebra.specs.PlanningList as planning;
+ghost use Rattle.algebra.specs.Runs.{stands_in};
 ghost use Rattle.algebra.specs.View.{step_of};
 ghost use Rattle.rewrite.specs.Simplifying as spec;
 ghost use Rattle.rewrite.specs.Trails.{at_root, at_root_with, below_filters};
@@ -113,19 +114,18 @@ fn split_count<A: Heap>(condition: &MovableExpr<A>) -> usize
     conjunct_count(condition).saturating_sub(1)
 }
 
-// Adds the steps that part each condition, in its simplified form.
+// Adds the steps that part each condition.
 fn push_parting<A: Heap>(
     alloc: A,
     trail: &mut Trail<A>,
     conditions: &[MovableExpr<A>],
 ) -> Result<(), AllocError>
-    ensures { OnOk result (map step_of trail.new ≡ map step_of trail.old ++ spec.parting_each (map planning.simplified conditions.now)) }
+    ensures { OnOk result (map step_of trail.new ≡ map step_of trail.old ++ spec.parting_each conditions.now) }
 {
     let mut depth = conditions.len();
     for condition in conditions {
         depth -= 1;
-        let form = algebra::simplified(alloc, condition)?;
-        push_repeated(alloc, trail, depth, split_count(&form), SPLIT_FILTER)?;
+        push_repeated(alloc, trail, depth, split_count(condition), SPLIT_FILTER)?;
     }
     Ok(())
 }
@@ -161,26 +161,29 @@ fn push_constant<A: Heap>(
     })
 }
 
-// The same, unless the condition is known.
-fn push_adding<A: Heap>(
+// Adds a condition that follows from those of two indices to the known ones, and the step that adds it, unless it is known.
+fn push_consequence<A: Heap>(
     alloc: A,
     trail: &mut Trail<A>,
-    known: &[MovableExpr<A>],
-    condition: Option<&MovableExpr<A>>,
+    known: &mut Conditions<A>,
+    condition: Option<MovableExpr<A>>,
     i: usize,
     j: usize,
 ) -> Result<(), AllocError>
-    ensures { OnOk result (map step_of trail.new ≡ map step_of trail.old ++ spec.adding known.now (option_copied condition.entry) i j) }
+    ensures trail { OnOk result (map step_of trail.new ≡ map step_of trail.old ++ spec.adding known.old condition i j) }
+    ensures known { OnOk result (known.new ≡ planning.with_any known.old condition) }
 {
-    match condition {
-        Some(condition) if !algebra::stands_in(condition, known) => {
-            push_constant(alloc, trail, known, i, j)
-        }
-        _ => Ok(()),
+    let Some(condition) = condition else {
+        return Ok(());
+    };
+    if algebra::stands_in(&condition, known.as_slice()) {
+        return Ok(());
     }
+    push_constant(alloc, trail, known.as_slice(), i, j)?;
+    known.push(condition)
 }
 
-// Adds the steps that add the consequences of `p`, of that index, and each of the others, and adds these to the known conditions.
+// Adds the consequences of `p`, of that index, and each of the others to the known conditions, and the steps that add them.
 fn push_adding_each<A: Heap>(
     alloc: A,
     trail: &mut Trail<A>,
@@ -194,81 +197,65 @@ fn push_adding_each<A: Heap>(
 {
     for (j, q) in others.iter().enumerate() {
         let condition = algebra::consequence(alloc, p, q)?;
-        push_adding(alloc, trail, known.as_slice(), condition.as_ref(), i, j)?;
-        algebra::push_any(known, condition)?;
+        push_consequence(alloc, trail, known, condition, i, j)?;
     }
     Ok(())
 }
 
-// Adds the steps that add the consequences of each two of the conditions.
+// The conditions and the consequences of each two of them; adds the steps that add these.
 fn push_adding_all<A: Heap>(
     alloc: A,
     trail: &mut Trail<A>,
     conditions: &[MovableExpr<A>],
-) -> Result<(), AllocError>
-    ensures { OnOk result (map step_of trail.new ≡ map step_of trail.old ++ spec.adding_all conditions.now 0 conditions.now conditions.now) }
+) -> Result<Conditions<A>, AllocError>
+    ensures trail { OnOk result (map step_of trail.new ≡ map step_of trail.old ++ spec.adding_all conditions.now 0 conditions.now conditions.now) }
+    ensures all { IfOk result (λ l. l ≡ planning.with_consequences conditions.now) }
 {
     let mut known = algebra::copies(alloc, conditions)?;
     for (i, p) in conditions.iter().enumerate() {
         push_adding_each(alloc, trail, &mut known, i, p, conditions)?;
     }
-    Ok(())
+    Ok(known)
 }
 
 // ---- repetitions
 
-// Adds the step that drops a condition, where it repeats one below it.
-fn push_drop_if<A: Heap>(
-    alloc: A,
-    trail: &mut Trail<A>,
-    depth: usize,
-    is_repeated: bool,
-) -> Result<(), AllocError>
-    ensures { OnOk result (map step_of trail.new ≡ map step_of trail.old ++ (if is_repeated then below_filters depth (at_root 10 ∷ []) else [])) }
-{
-    if !is_repeated {
-        return Ok(());
-    }
-    push_step(alloc, trail, depth, DROP_FILTER)
-}
-
-// Adds the steps that drop each condition which repeats one below it.
+// Adds a condition to the known ones, or the step that drops it, where it repeats one of them.
 fn push_dropping<A: Heap>(
     alloc: A,
     trail: &mut Trail<A>,
-    conditions: &[MovableExpr<A>],
+    known: &mut Conditions<A>,
+    depth: usize,
+    condition: MovableExpr<A>,
 ) -> Result<(), AllocError>
-    ensures { OnOk result (map step_of trail.new ≡ map step_of trail.old ++ spec.dropping [] conditions.now) }
+    ensures trail { OnOk result (map step_of trail.new ≡ map step_of trail.old ++ (if stands_in condition known.old then below_filters depth (at_root 10 ∷ []) else [])) }
+    ensures known { OnOk result (known.new ≡ planning.with_condition known.old condition) }
+{
+    if algebra::stands_in(&condition, known.as_slice()) {
+        return push_step(alloc, trail, depth, DROP_FILTER);
+    }
+    known.push(condition)
+}
+
+// The conditions that do not repeat one below them; adds the steps that drop the others.
+fn push_dropping_all<A: Heap>(
+    alloc: A,
+    trail: &mut Trail<A>,
+    conditions: Conditions<A>,
+) -> Result<Conditions<A>, AllocError>
+    ensures trail { OnOk result (map step_of trail.new ≡ map step_of trail.old ++ spec.dropping [] conditions) }
+    ensures rest { IfOk result (λ l. l ≡ planning.without_repeats conditions) }
 {
     let mut known = Items::new(alloc);
     let mut depth = conditions.len();
-    for condition in conditions {
+    for condition in conditions.into_vec() {
         depth -= 1;
-        let is_repeated = algebra::stands_in(condition, known.as_slice());
-        push_drop_if(alloc, trail, depth, is_repeated)?;
-        algebra::push_condition(&mut known, condition.copy(alloc)?)?;
+        push_dropping(alloc, trail, &mut known, depth, condition)?;
     }
-    Ok(())
+    Ok(known)
 }
 
 // ---- all of it
-
-// The steps from the written conditions to those that are left of all.
-fn simplifying_steps<A: Heap>(
-    alloc: A,
-    written: &[MovableExpr<A>],
-    parts: &[MovableExpr<A>],
-    all: &[MovableExpr<A>],
-) -> Result<Trail<A>, AllocError>
-    ensures { IfOk result (λ t. map step_of t ≡ spec.simplifying_steps written.now parts.now all.now) }
-{
-    let mut trail = Items::new(alloc);
-    push_simplifying(alloc, &mut trail, written)?;
-    push_parting(alloc, &mut trail, written)?;
-    push_adding_all(alloc, &mut trail, parts)?;
-    push_dropping(alloc, &mut trail, all)?;
-    Ok(trail)
-}
 
 // The written conditions, to which no step leads.
 fn as_written<A: Heap>(alloc: A, written: Conditions<A>) -> Simplified<A>
@@ -288,16 +275,18 @@ pub fn simplify<A: Heap>(alloc: A, query: &BoundQuery<A>) -> Result<Simplified<A
     ensures conditions { IfOk result (λ s. s.conditions ≡ planning.planning_list (bound_query_of query.now)) }
 {
     let written = algebra::written_conditions(alloc, query)?;
-    let parts = algebra::simplified_parts(alloc, written.as_slice())?;
+    let forms = algebra::all_simplified(alloc, written.as_slice())?;
+    let mut trail = Items::new(alloc);
+    push_simplifying(alloc, &mut trail, written.as_slice())?;
+    push_parting(alloc, &mut trail, forms.as_slice())?;
+    let parts = algebra::all_parts(alloc, forms)?;
     if algebra::is_too_long(parts.as_slice()) {
         return Ok(as_written(alloc, written));
     }
-    let all = algebra::with_consequences(alloc, parts.as_slice())?;
+    let all = push_adding_all(alloc, &mut trail, parts.as_slice())?;
     if algebra::is_too_long(all.as_slice()) {
         return Ok(as_written(alloc, written));
     }
-    Ok(Simplified {
-        trail: simplifying_steps(alloc, written.as_slice(), parts.as_slice(), all.as_slice())?,
-        conditions: algebra::without_repeats(alloc, all.as_slice())?,
-    })
+    let conditions = push_dropping_all(alloc, &mut trail, all)?;
+    Ok(Simplified { trail, conditions })
 }

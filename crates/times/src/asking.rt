@@ -6,9 +6,7 @@ use crate::stop::Stop;
 use engine::{Store, explain, serve};
 use output::Output;
 use std::alloc::Global;
-
-/// The most tables.
-const MOST_TABLES: u64 = 8;
+use value::MOST_ENTRIES;
 
 /// The most rows of a table, and the most times.
 const MOST: u64 = 1_000_000;
@@ -46,7 +44,7 @@ fn read_arguments(words: &[String]) -> Option<Arguments> {
     match words {
         [wanted, tables, rows, times] => Some(Arguments {
             wanted: wanted_of(wanted.as_str())?,
-            tables: number_of(tables.as_str(), 1, MOST_TABLES)?,
+            tables: number_of(tables.as_str(), 1, MOST_ENTRIES as u64)?,
             rows: number_of(rows.as_str(), 1, MOST)?,
             times: number_of(times.as_str(), 0, MOST)?,
         }),

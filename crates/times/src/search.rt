@@ -1,6 +1,7 @@
 //! The search for the least code of a query.
 
 ghost use Rattle.std.specs.Prelude.{◌≤◌, IfSome};
+ghost use Rattle.value.specs.Limits.{most_entries};
 
 use crate::numbers::number_of;
 use crate::search_problem::{for_each_entry, setting, table_stats};
@@ -8,9 +9,7 @@ use crate::shape::Shape;
 use crate::stop::Stop;
 use joindp::{Problem, search};
 use std::alloc::{AllocError, Global};
-
-/// The most entries of a query.
-const MOST_ENTRIES: usize = 8;
+use value::MOST_ENTRIES;
 
 // The query that is searched for, and how many times.
 #[derive(Clone, Copy, Debug)]
@@ -23,9 +22,9 @@ struct Arguments {
     times: u64,
 }
 
-// The number of entries that a word says, from 1 to 8.
+// The number of entries that a word says, from 1 to the most of a query.
 fn entries_of(word: &str) -> Option<usize>
-    ensures { IfSome result (λ n. n ≤ 8) }
+    ensures { IfSome result (λ n. n ≤ most_entries) }
 {
     let entries = word.parse::<usize>().ok()?;
     if 0 < entries && entries <= MOST_ENTRIES {
@@ -37,7 +36,7 @@ fn entries_of(word: &str) -> Option<usize>
 
 // The arguments that the words say, if they say any.
 fn read_arguments(words: &[String]) -> Option<Arguments>
-    ensures { IfSome result (λ a. a.entries ≤ 8) }
+    ensures { IfSome result (λ a. a.entries ≤ most_entries) }
 {
     match words {
         [shape, entries, times] => Some(Arguments {
@@ -65,7 +64,7 @@ fn least_cost(
 
 // The cost of the least code of the query that the arguments say, after as many searches as they say.
 fn searched(alloc: Global, arguments: Arguments) -> Result<u128, AllocError>
-    requires { arguments.entries ≤ 8 }
+    requires { arguments.entries ≤ most_entries }
 {
     let setting = setting(alloc, arguments.shape, arguments.entries)?;
     let stats = table_stats(alloc)?;

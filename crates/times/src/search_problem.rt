@@ -4,6 +4,7 @@
 //! id has an index. A condition joins an entry's column for another table to the id of that table.
 
 ghost use Rattle.std.specs.Prelude.{◌≡◌, ◌≤◌, IfOk, length};
+ghost use Rattle.value.specs.Limits.{most_entries};
 
 use crate::shape::Shape;
 use expr::{ColumnId, MovableExpr};
@@ -49,7 +50,7 @@ fn push_joins(
     shape: Shape,
     other: usize,
 ) -> Result<(), AllocError>
-    requires { other ≤ 8 }
+    requires { other ≤ most_entries }
 {
     for one in 0..other {
         if shape.joins(one, other) {
@@ -73,7 +74,7 @@ fn conditions(
     shape: Shape,
     entries: usize,
 ) -> Result<Items<MovableExpr<Global>, Global>, AllocError>
-    requires { entries ≤ 8 }
+    requires { entries ≤ most_entries }
 {
     let mut conditions = Items::new(alloc);
     for other in 0..entries {
@@ -88,7 +89,7 @@ pub(crate) fn setting(
     shape: Shape,
     entries: usize,
 ) -> Result<Setting<Global>, AllocError>
-    requires { entries ≤ 8 }
+    requires { entries ≤ most_entries }
     ensures { IfOk result (λ s. length s.frame ≡ entries) }
 {
     Ok(Setting {

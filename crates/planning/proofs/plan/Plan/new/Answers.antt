@@ -1,16 +1,11 @@
-use Rattle.std.proofs.Common.{◌≡◌, ◌≤◌, ◌∙◌, ◌++◌, true, ap, length, map, subst, sym}
+use Rattle.std.proofs.Common.{◌≡◌, ◌≤◌, ◌∙◌, true, ap, length, map, refl, subst, sym}
 use Rattle.std.proofs.lemmas.List.{length-map}
 use Rattle.expr.specs.View.{bound_query_of, code_of}
 use Rattle.stats.specs.View.{stats_of}
 use Rattle.trailcheck.specs.TuplesView.{guard_of}
-use Rattle.rewrite.specs.Written.{written}
 use Rattle.trailcheck.specs.Admissible.{is_admissible}
-use Rattle.trailcheck.specs.Verdicts.{verdict}
 use Rattle.trailcheck.specs.View.{setting_of}
-use Rattle.trailcheck.specs.declared.verdict.Verdict.TheVariants.{Accepted}
 use Rattle.value.specs.Limits.{most_entries}
-use Rattle.rewrite.specs.Laws.{most_plan_steps}
-use Rattle.rewrite.specs.Placing.{placing}
 use Rattle.joindp.specs.Best.{IsLeast, Problem, estimates}
 use Rattle.joindp.specs.Cost as joindp
 use Rattle.planning.specs.Wanted.{wanted_column}
@@ -28,14 +23,13 @@ invariant_of-result g c =
     let admissible = subst (λ (p : Problem). is_admissible p.setting code ≡ true) same found.admissible in
     let known = subst (λ (p : Problem). cost ≡ joindp.cost (estimates p) code) same found.cost in
     let least = subst (λ (p : Problem). IsLeast p cost code) same found.least in
-    let steps = c.in_ok-trail.ensures ∙ ap (λ l. l ++ placing at code) c.in_ok-simplified.ensures.trail in
     let few : length at.frame ≤ most_entries = subst (λ n. n ≤ most_entries) (sym (length-map c.args.setting.now.frame (λ x. guard_of x))) c.requires.entries in
     let laws = c.law_plans_are_accepted.ensures in
     record {
       admissible = admissible;
       cost = known;
       best = c.law_least_is_best.ensures problem code admissible (subst (λ n. IsLeast problem n code) known least);
-      steps = steps;
-      accepted = subst (λ l. verdict at (written (length at.frame) q) l code ≡ Accepted) (sym steps) (laws.accepted at q code c.requires.conditions few c.requires.conjuncts admissible);
-      short = subst (λ l. length l ≤ most_plan_steps) (sym steps) (laws.short at q code c.requires.conditions few c.requires.conjuncts admissible);
+      steps = refl;
+      accepted = laws.accepted at q code c.requires.conditions few c.requires.conjuncts admissible;
+      short = laws.short at q code c.requires.conditions few c.requires.conjuncts admissible;
     }
