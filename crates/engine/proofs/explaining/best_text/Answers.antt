@@ -19,7 +19,7 @@ use Rattle.engine.proofs.explaining.best_text.Goals as goal
 pub new-requires-clause-each : goal.new-requires-clause-each
 new-requires-clause-each g c =
     let gathered = (rw (c.as_slice-entries.ensures, c.as_slice-frame.ensures) at c.in_ok-statistics.ensures) in
-    ap length c.deref-2.ensures.value
+    ap length c.deref-3.ensures.value
     ∙ sym (length-map c.in_ok-statistics.statistics.items (λ s. stats_of s.now))
     ∙ ap length gathered
     ∙ as_many (λ e. entry_of e) guard_of c.args.store.now c.args.bound.now.entries c.in_ok-setting.setting.frame (as_long _ _ _ _ (c.in_ok-setting.ensures.shows []))
@@ -41,9 +41,9 @@ returns g c =
     let found = c.in_ok-found.found in
     let set = (rw c.catalog.ensures.catalog at c.in_ok-setting.ensures.value) in
     let gathered = (rw (c.as_slice-entries.ensures, c.as_slice-frame.ensures) at c.in_ok-statistics.ensures) in
-    let statistics = ap (map (λ s. stats_of s.now)) c.deref-2.ensures.value ∙ gathered ∙ ap (λ s. known_statistics database b.entries s.frame) set ∙ known_of_each cat role database b.entries in
-    let query = ap bound_query_of c.deref.ensures in
-    let from = problem_is cat role b stats (setting_of c.in_ok-setting.setting) (map (λ s. stats_of s.now) c.deref-2.result.now) (bound_query_of c.deref.result.now) found.problem c.in_ok-found.ensures.problem set statistics query in
+    let statistics = ap (map (λ s. stats_of s.now)) c.deref-3.ensures.value ∙ gathered ∙ ap (λ s. known_statistics database b.entries s.frame) set ∙ known_of_each cat role database b.entries in
+    let query = ap bound_query_of c.deref-2.ensures in
+    let from = problem_is cat role b stats (setting_of c.in_ok-setting.setting) (map (λ s. stats_of s.now) c.deref-3.result.now) (bound_query_of c.deref-2.result.now) found.problem c.in_ok-found.ensures.problem set statistics query in
     let names = ap (map plan_entry_of) c.as_slice-2.ensures ∙ c.in_ok-names.ensures ∙ ap (λ es. plan_entries (entries_of es)) c.as_slice-entries.ensures in
     IfOk-weaker c.write_plan.result _ (λ v. v.items ≡ best_text cat role b stats)
     (λ v h. h ∙ written_best cat role b stats found c.in_ok-plan.ensures.plan (c.in_ok-found.ensures.query ∙ query) from (entries_of c.as_slice-entries.result.now) c.as_slice.result.now (map plan_entry_of c.as_slice-2.result.now) (plan_of c.in_ok-plan.plan)
