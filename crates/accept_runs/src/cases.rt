@@ -1,8 +1,7 @@
 //! The tables of the runs, and the rows of the test: each has a role, a query or its name, the indexes (the number of an entry and that
 //! of a column, with a dot between them), the column by which the rows are wanted in order, `-` for that of the code, or `any` where
-//! they are given to a sink, the code of a plan, its
-//! combinations in their order (the numbers of the rows, from 0, of the entries in the order of FROM; in braces where an index with
-//! equal values leaves their order open), and the steps that are counted.
+//! they are given to a sink, the code of a plan, its combinations in their order (the numbers of the rows, from 0, of the entries in
+//! the order of FROM; in braces where an index with equal values leaves their order open), and the steps that are counted.
 
 /// The statements that make the tables.
 pub const SCHEMA: &str = "CREATE ROLE alice;
@@ -67,8 +66,8 @@ pub fn query_text(text: &str) -> &str {
 /// The rows of the test.
 ///
 /// A full scan takes a step for each row, the scan of an index two, the part of an index one more. A hash join takes one for each
-/// row of both sides and each pair with equal keys; nested loops take as many by the first equality with an entry before, where
-/// these are no more than all pairs, and else one for each pair; a merge takes one for each left row, one for each right row that
+/// row of both sides and each pair with equal keys, of two equalities where there are two; nested loops take as many by the first
+/// equalities with an entry before, where these are no more than all pairs, and else one for each pair; a merge takes one for each left row, one for each right row that
 /// is passed since it is less than a left one, and one for each pair with equal keys. Sorting takes one for each comparison of the
 /// merge sort, which halves a list with the smaller half first. Where no combination is left, no further entry is read. Given to a
 /// sink, a whole index is read as the table stands, and a merge is a hash join.
@@ -128,8 +127,15 @@ root | SELECT id FROM a WHERE FALSE | - | - | empty |  | 0
 root | SELECT id FROM a WHERE 1 = 1 | - | - | 1 f n | 0 1 2 3 4 | 5
 root | SELECT a.id FROM a, c | - | - | 1 f n, 2 f n | 0.0 0.1 0.2 0.3 0.4 1.0 1.1 1.2 1.3 1.4 2.0 2.1 2.2 2.3 2.4 3.0 3.1 3.2 3.3 3.4 4.0 4.1 4.2 4.3 4.4 | 35
 root | SELECT a.id FROM a, c WHERE a.k < c.k | - | - | 1 f n, 2 f n | 0.1 0.4 2.4 3.1 3.4 4.4 | 35
-root | SELECT a.id FROM a, c WHERE a.k = c.k AND a.t = c.t | - | - | 1 f n, 2 f n | 0.0 3.0 | 25
-root | SELECT a.id FROM a, c WHERE a.t = c.t AND a.k = c.k | - | - | 1 f n, 2 f n | 0.0 3.0 | 26
+root | SELECT a.id FROM a, c WHERE a.k = c.k AND a.t = c.t | - | - | 1 f n, 2 f n | 0.0 3.0 | 22
+root | SELECT a.id FROM a, c WHERE a.k = c.k AND a.t = c.t | - | - | 1 f n, 2 f h1 | 0.0 3.0 | 22
+root | SELECT a.id FROM a, c WHERE a.k = c.k AND a.t = c.t | - | - | 1 f n, 2 f h2 | 0.0 3.0 | 22
+root | SELECT a.id FROM a, c WHERE a.k = c.k AND a.t = c.t | - | any | 1 f n, 2 f m1 | 0.0 3.0 | 22
+alice | SELECT a.id FROM a, c WHERE a.k = c.k AND a.t = c.t | - | - | 1 f n, 2 f n | 0.0 3.0 | 19
+root | SELECT a.id FROM a, c WHERE a.k = c.k AND a.id = c.id | - | - | 1 f n, 2 f n | 0.0 | 21
+root | SELECT a.id FROM a, c WHERE a.b = c.b AND a.t = c.t | - | - | 1 f n, 2 f n | 0.0 0.3 3.0 3.3 4.2 | 25
+root | SELECT a.id FROM a, c WHERE a.b = c.b AND a.t = c.t | - | - | 1 f n, 2 f h2 | 0.0 0.3 3.0 3.3 4.2 | 25
+root | SELECT a.id FROM a, c WHERE a.t = c.t AND a.k = c.k | - | - | 1 f n, 2 f n | 0.0 3.0 | 22
 root | SELECT a.id FROM a, c WHERE a.k = c.k AND c.id IN (1, 3) | - | - | 1 f n, 2 f n | 0.0 0.2 3.0 3.2 | 20
 root | SELECT a.id FROM a, c WHERE a.k = c.k AND c.id IN (2, 5) | - | - | 1 f n, 2 f n | 2.1 | 18
 root | SELECT a.id FROM a, c WHERE a.k = c.k AND c.id > 4 | - | - | 1 f n, 2 f n |  | 15

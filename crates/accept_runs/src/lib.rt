@@ -7,6 +7,8 @@ mod cases;
 #[cfg(test)]
 mod code_costs;
 #[cfg(test)]
+mod combination_size;
+#[cfg(test)]
 mod costed_queries;
 #[cfg(test)]
 mod counted;
@@ -30,8 +32,6 @@ mod rows;
 mod runs;
 #[cfg(test)]
 mod set_sizes;
-#[cfg(test)]
-mod slot_size;
 #[cfg(test)]
 mod slow_source;
 #[cfg(test)]

@@ -1,44 +1,37 @@
-//! Columns of one value, and a condition that is never true.
+//! A column of one value, and a condition that is never true.
 
 use joins::{Column, Condition};
 use memory::Heap;
 use tuples::Combo;
 use value::{Lent, Val};
 
-/// A column that is TRUE in each combination.
-#[derive(Drop)]
-pub struct AlwaysTrue {}
-
-impl<A: Heap> Column<A> for AlwaysTrue {
-    ghost use Rattle.std.specs.Prelude.{true};
-    ghost use Rattle.value.specs.Datum.{bool};
-
-    ghost value = { λ s c. bool true };
-
-    fn value(&self, _combination: &Combo<A>) -> Val<'_, A> {
-        Val::Bool(true)
-    }
-
-    fn key(&self, _combination: &Combo<A>) -> Option<Lent<'_>> {
-        Some(Lent::Bool(true))
-    }
+/// A column that is TRUE in each combination, or null in each.
+#[derive(Clone, Copy, PartialEq, Eq)]
+pub struct Always {
+    /// True for null.
+    pub is_null: bool,
 }
 
-/// A column that is null in each combination.
-#[derive(Drop)]
-pub struct AlwaysNull {}
+impl<A: Heap> Column<A> for Always {
+    ghost use Rattle.std.specs.Prelude.{true, if◌then◌else◌};
+    ghost use Rattle.value.specs.Datum.{bool, null};
 
-impl<A: Heap> Column<A> for AlwaysNull {
-    ghost use Rattle.value.specs.Datum.{null};
-
-    ghost value = { λ s c. null };
+    ghost value = { λ s c. if s.is_null then null else bool true };
 
     fn value(&self, _combination: &Combo<A>) -> Val<'_, A> {
-        Val::Null
+        if self.is_null {
+            Val::Null
+        } else {
+            Val::Bool(true)
+        }
     }
 
     fn key(&self, _combination: &Combo<A>) -> Option<Lent<'_>> {
-        None
+        if self.is_null {
+            None
+        } else {
+            Some(Lent::Bool(true))
+        }
     }
 }
 
