@@ -10,11 +10,11 @@ use std::test::Fail;
 use tuples::{Combo, Work};
 
 // The rows of an entry, of which each takes a thousand steps.
-fn rows(alloc: Global, entry: usize, count: u32) -> Result<SlowSource<Global>, AllocError> {
+fn rows(alloc: Global, entry: usize, count: u16) -> Result<SlowSource<Global>, AllocError> {
     let mut combinations = Vec::new(alloc);
     let mut lost = Work::new();
     for row in 0..count {
-        combinations.push(Combo::read(alloc, entry, row, &mut lost)?)?;
+        combinations.push(Combo::read(alloc, entry, u32::from(row), &mut lost)?)?;
     }
     Ok(SlowSource::new(combinations))
 }
@@ -60,7 +60,7 @@ fn columns(way: Way) -> KeyColumns<Always> {
 }
 
 // The steps that a join of so many rows takes, where no pair passes.
-fn steps(alloc: Global, way: Way, left: u32, right: u32) -> Result<u128, AllocError> {
+fn steps(alloc: Global, way: Way, left: u16, right: u16) -> Result<u128, AllocError> {
     let mut work = Work::new();
     let lefts = rows(alloc, 0, left)?;
     let rights = rows(alloc, 1, right)?;
@@ -82,8 +82,8 @@ fn steps(alloc: Global, way: Way, left: u32, right: u32) -> Result<u128, AllocEr
 fn takes(
     rt: &(impl Abort + AllocGlobal),
     way: Way,
-    left: u32,
-    right: u32,
+    left: u16,
+    right: u16,
     want: u128,
 ) -> Result<(), AllocError> {
     let got = steps(rt.alloc(), way, left, right)?;
