@@ -70,7 +70,10 @@ pub fn query_text(text: &str) -> &str {
 /// equalities with an entry before, where these are no more than all pairs, and else one for each pair; a merge takes one for each left row, one for each right row that
 /// is passed since it is less than a left one, and one for each pair with equal keys. Sorting takes one for each comparison of the
 /// merge sort, which halves a list with the smaller half first. Where no combination is left, no further entry is read. Given to a
-/// sink, a whole index is read as the table stands, and a merge is a hash join.
+/// sink, a whole index is read as the table stands, and a merge is a hash join. Rows that nested loops or a hash join would read as
+/// they stand are found by an index on a column of an equality with an entry before, where that is no more than the rows of the
+/// table with one step for each combination and three for each row found, seen or not: it takes one for each combination, two for
+/// each row found and one for each pair.
 pub const ROWS: &str = "root | KEYS | - | - | 1 f n, 2 f n | 0.0 0.2 2.1 3.0 3.2 | 25
 root | KEYS | - | - | 1 f n, 2 f h1 | 0.0 0.2 2.1 3.0 3.2 | 25
 root | KEYS | - | - | 2 f n, 1 f h1 | 0.0 3.0 2.1 0.2 3.2 | 25
@@ -148,6 +151,23 @@ root | BARE | 1.2 2.2 | - | 2 i2 n, 1 i2 m1 |  | 0
 root | SELECT a.id FROM bare, a, c WHERE a.k = c.k | - | - | 1 f n, 2 f n, 3 f h1 |  | 0
 root | SELECT a.id FROM a, c, a d WHERE a.k = c.k AND c.k = d.k AND c.id > 4 | - | - | 1 f n, 2 f n, 3 f h2 |  | 15
 root | SELECT a.id FROM a, c, a d WHERE a.k = c.k AND c.k = d.k AND c.id > 4 | - | any | 1 f n, 2 f n, 3 f m2 |  | 15
+root | SELECT a.id FROM a, c WHERE a.k = c.k AND a.id = 3 | 2.2 | - | 1 f n, 2 f n | 2.1 | 9
+root | SELECT a.id FROM a, c WHERE a.k = c.k AND a.id = 3 | 2.2 | - | 1 f n, 2 f h1 | 2.1 | 9
+root | SELECT a.id FROM a, c WHERE a.k = c.k AND a.id = 3 | 1.1 2.2 | - | 1 r1/2 n, 2 f n | 2.1 | 7
+root | SELECT a.id FROM a, c WHERE a.k = c.k AND a.id = 3 | 2.2 | - | 1 f n, 2 i2 n | 2.1 | 20
+root | SELECT a.id FROM a, c WHERE a.k = c.k AND a.id = 3 | 2.2 | any | 1 f n, 2 i2 n | 2.1 | 9
+root | SELECT a.id FROM a, c WHERE a.k = c.k AND a.id = 3 | 2.2 | any | 1 f n, 2 i2 m1 | 2.1 | 9
+root | SELECT a.id FROM a, c WHERE a.k = c.k AND a.id = 3 | 2.1 | - | 1 f n, 2 f n | 2.1 | 15
+alice | SELECT a.id FROM a, c WHERE a.k = c.k AND a.id = 3 | 2.2 | - | 1 f n, 2 f n |  | 8
+root | SELECT a.id FROM a, c WHERE a.k = c.k AND a.id = 1 | 2.2 | - | 1 f n, 2 f n | 0.0 0.2 | 15
+root | SELECT a.id FROM a, c WHERE a.k = c.k AND a.id = 2 | 2.2 | - | 1 f n, 2 f n |  | 6
+root | SELECT a.id FROM a, c WHERE a.k = c.k AND a.id = 5 | 2.2 | - | 1 f n, 2 f n |  | 6
+root | SELECT a.id FROM a, c WHERE a.k = c.k AND a.id IN (2, 3) | 2.2 | - | 1 f n, 2 f n | 2.1 | 10
+root | SELECT a.id FROM a, c WHERE a.k = c.k AND a.id IN (3, 5) | 2.2 | - | 1 f n, 2 f h1 | 2.1 | 10
+root | SELECT a.id FROM a, c WHERE a.k = c.k AND a.id IN (2, 3, 5) | 2.2 | - | 1 f n, 2 f n | 2.1 | 19
+root | SELECT a.id FROM a, c WHERE a.k = c.k AND a.t = c.t AND a.id = 5 | 2.3 | - | 1 f n, 2 f n |  | 9
+root | SELECT a.id FROM a, c WHERE a.k = c.k AND a.id = 3 AND c.id > 4 | 2.2 | - | 1 f n, 2 f n |  | 8
+root | SELECT a.id FROM a, c, a d WHERE a.k = c.k AND c.id = d.id AND a.id = 3 | 2.2 3.1 | - | 1 f n, 2 f n, 3 f n | 2.1.1 | 13
 root | SELECT id FROM a | 1.1 | any | 1 i1 n | 0 1 2 3 4 | 5
 root | SELECT id FROM a | 1.2 | any | 1 i2 n | 0 1 2 3 4 | 5
 root | SELECT id FROM a WHERE id > 3 | 1.1 | any | 1 r1/1 n | 3 4 | 5

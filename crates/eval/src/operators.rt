@@ -30,10 +30,10 @@ pub(crate) fn operate<'a, A: Heap>(
 pub(crate) fn compare<A: Heap>(operator: Comparison, left: &Val<'_, A>, right: &Val<'_, A>) -> Truth
     ensures { result ≡ comparison_of operator (datum_of left.now) (datum_of right.now) }
 {
-    if eq3(left, right) == Truth::Unknown {
-        return Truth::Unknown;
-    }
-    let order = cmp_values(left, right);
+    let order = match (left, right) {
+        (Val::Null, _) | (_, Val::Null) => return Truth::Unknown,
+        _ => cmp_values(left, right),
+    };
     let holds = match operator {
         Comparison::Equal => order.is_eq(),
         Comparison::NotEqual => order.is_ne(),

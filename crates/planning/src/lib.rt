@@ -6,5 +6,5 @@ mod plan;
 mod wanted;
 
 pub use plan::{Plan, law_least_is_best};
-pub use rewrite::law_shapes_mean_same;
+pub use rewrite::{Simplified, law_shapes_mean_same, simplify};
 pub use wanted::wanted_column;
