@@ -1,5 +1,5 @@
-//! Tests of values, columns, tables, and of conditions over whole columns: rows with expected values from outside the program, or
-//! from one value at a time. docs/ACCEPTANCE.md lists them.
+//! Tests of values, columns, tables, conditions over whole columns, and kept plans: rows with expected values from outside the
+//! program, or from one value at a time. docs/ACCEPTANCE.md lists them.
 #![tactic(auto)]
 
 #[cfg(test)]
@@ -16,6 +16,8 @@ mod conditions;
 mod connectives;
 #[cfg(test)]
 mod deals;
+#[cfg(test)]
+mod kept_plans;
 #[cfg(test)]
 mod memory_refused;
 #[cfg(test)]

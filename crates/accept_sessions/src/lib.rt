@@ -5,8 +5,6 @@
 #[cfg(test)]
 mod changes;
 #[cfg(test)]
-mod kept_plans;
-#[cfg(test)]
 mod limits;
 #[cfg(test)]
 mod memory_refused;

@@ -3,7 +3,7 @@ use Rattle.std.specs.Map.{lookup}
 use Rattle.shared_plans.specs.Recent.{same_key}
 use Rattle.shared_plans.specs.View.{key_of}
 use Rattle.shared_plans.proofs.Looks.{missed}
-use Rattle.accept_sessions.proofs.kept_plans.asked.Goals as goal
+use Rattle.accept_base.proofs.kept_plans.asked.Goals as goal
 
 pub keep-requires : goal.keep-requires
 keep-requires c =
