@@ -10,7 +10,7 @@ rows=${1:-100000}
 some=${2:-3000}
 large=${3:-1000000}
 runs=${4:-5}
-asks=200
+asks=20000
 . "$(dirname "$0")/measure.sh"
 
 # So many rows of a key, each once and in an order of its own, and one of 50 regions.
