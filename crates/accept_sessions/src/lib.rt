@@ -9,6 +9,8 @@ mod limits;
 #[cfg(test)]
 mod memory_refused;
 #[cfg(test)]
+mod plain_machine;
+#[cfg(test)]
 mod plays;
 #[cfg(test)]
 mod refusals;
@@ -18,5 +20,7 @@ mod roles;
 mod script_lines;
 #[cfg(test)]
 mod scripts;
+#[cfg(test)]
+mod shared_plans;
 #[cfg(test)]
 mod texts;

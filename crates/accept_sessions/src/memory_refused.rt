@@ -1,8 +1,8 @@
 //! Each request for memory of the steps of a script refused in turn.
 
-use crate::scripts::{event_of, parts_of, shown};
+use crate::scripts::{core_of, event_of, parts_of, shown};
 use fixtures::{FixtureError, deals};
-use memory::{Failure, Heap, boxed};
+use memory::{Failure, Heap};
 use metered::Metered;
 use session::{Core, Event};
 use std::process::Abort;
@@ -33,7 +33,7 @@ execute 0 p => id,owner / 2,alice / 3,bob / 4,alice
 
 fn deals_core<A: Heap>(alloc: A) -> Result<Box<Core<A>, A>, Failure<FixtureError>> {
     let store = deals(alloc)?;
-    Ok(boxed(alloc, Core::new(alloc, Box::into_inner(store)))?)
+    Ok(core_of(alloc, store)?)
 }
 
 // The sessions over the store, which have to be made.

@@ -1,6 +1,7 @@
 //! Runs of scripts. A row is the line of an event, ` => `, and the text of the reply, with ` / ` for each LF but the last, or
 //! `no event` where the line is none. A load takes the text that its path names.
 
+use engine::Store;
 use fixtures::{FixtureError, OPEN, SALES_DEALS, SALES_REGIONS, sales, store_of};
 use memory::{Failure, Heap, boxed};
 use session::{Core, Event, Reply};
@@ -22,6 +23,13 @@ const NO_NOTE: &str = "id,open,note\n1,t,x\n2,f,\\N\n";
 
 const NO_TRUTH: &str = "id,open,note\n1,true,x\n";
 
+// Regions: one more, none, and one whose number is none.
+const ONE_REGION: &str = "id,name\n3,east\n";
+
+const NO_REGION: &str = "id,name\n";
+
+const WRONG_REGION: &str = "id,name\nx,y\n";
+
 // Rows of a table with one column, and of the deals of two columns.
 const NOTES: &str = "id\n2\n1\n";
 
@@ -36,6 +44,9 @@ fn known_text(path: &str) -> &'static str {
         "wrong_cell" => WRONG_CELL,
         "few_fields" => FEW_FIELDS,
         "cut_row" => CUT_ROW,
+        "one_region" => ONE_REGION,
+        "no_region" => NO_REGION,
+        "wrong_region" => WRONG_REGION,
         "open" => OPEN,
         "no_note" => NO_NOTE,
         "no_truth" => NO_TRUTH,
@@ -121,11 +132,18 @@ pub fn take_all(
     Ok(())
 }
 
-/// The store of sales, and no session. It is boxed, since the whole drop of a store is part of the proof of each function that
-/// has one.
+/// No session over a store. It is boxed, since the whole drop of a store is part of the proof of each function that has one.
+pub fn core_of<A: Heap>(alloc: A, store: Box<Store<A>, A>) -> Result<Box<Core<A>, A>, AllocError> {
+    match Core::new(alloc, Box::into_inner(store)) {
+        Ok(core) => boxed(alloc, core),
+        Err(_) => Err(AllocError),
+    }
+}
+
+/// No session over the store of sales.
 pub fn sales_core<A: Heap>(alloc: A) -> Result<Box<Core<A>, A>, Failure<FixtureError>> {
     let store = sales(alloc)?;
-    Ok(boxed(alloc, Core::new(alloc, Box::into_inner(store)))?)
+    Ok(core_of(alloc, store)?)
 }
 
 /// Takes the events of all rows over the store of sales.
@@ -141,6 +159,6 @@ pub fn run_over(
     rows: &str,
 ) -> Result<(), Failure<FixtureError>> {
     let store = store_of(rt.alloc(), schema)?;
-    let mut core = boxed(rt.alloc(), Core::new(rt.alloc(), Box::into_inner(store)))?;
+    let mut core = core_of(rt.alloc(), store)?;
     Ok(take_all(rt, &mut core, rows)?)
 }

@@ -1,10 +1,10 @@
 -- The analysis of a text before any row is read: its query is bound, or it is refused or denied.
-use Rattle.std.specs.Prelude.{ℕ, List, Option, Some, None, Result, Ok, Err, if◌then◌else◌}
+use Rattle.std.specs.Prelude.{ℕ, Bool, not, ◌||◌, nat_lt, List, length, Option, Some, None, Result, Ok, Err, if◌then◌else◌}
 use Rattle.std.specs.Result.{result_err}
 use Rattle.value.specs.declared.refusal.Refusal.TheVariants as r
 use Rattle.value.specs.Names.{Name}
 use Rattle.row_ast.specs.Ast.{Query}
-use Rattle.syntax.specs.Parsing.{parsed_query}
+use Rattle.syntax.specs.Parsing.{parsed_query, query_bytes}
 use Rattle.syntax.specs.declared.error.ParseError.{ParseError}
 use Rattle.syntax.specs.declared.error.ParseError.TheVariants as parsing
 use Rattle.resolve.specs.BindError.{BindError}
@@ -28,6 +28,10 @@ unless_refused (Ok q) = Ok q
 
 abbrev pub query_read : Catalog → Name → List ℕ → Result Query Reply
 query_read cat role text = if is_role cat role then unless_refused (parsed_query text) else Err (reply.Refused r.UndefinedObject None)
+
+-- there is no such role, or the text is too long: the text is refused before memory is asked for
+abbrev pub is_refused_at_once : Catalog → Name → List ℕ → Bool
+is_refused_at_once cat role text = not (is_role cat role) || nat_lt query_bytes (length text)
 
 -- ---- the names, aggregates, types and keys, and the required privileges
 

@@ -1,6 +1,6 @@
 //! The analysis of a text before any row is read.
 
-ghost use Rattle.std.specs.Prelude.{◌≡◌, IfOk, option_map};
+ghost use Rattle.std.specs.Prelude.{◌≡◌, IfOk, IsOk, option_map, true};
 ghost use Rattle.std.specs.Result.{result_err};
 ghost use Rattle.row_ast.specs.View.{query_of};
 ghost use Rattle.access.specs.Access.{denial};
@@ -9,7 +9,7 @@ ghost use Rattle.access.specs.Needed.{needed};
 ghost use Rattle.resolve.specs.View.{bound_of};
 ghost use Rattle.replies.specs.View.{reply_of};
 ghost use Rattle.analysis.specs.Analysis as spec;
-ghost use Rattle.analysis.specs.Analysis.{denied_reply, refusal_to};
+ghost use Rattle.analysis.specs.Analysis.{denied_reply, is_refused_at_once, refusal_to};
 ghost use Rattle.analysis.specs.View.{admitted_of, read_of};
 
 use access::{RequiredPrivilege, denied, needed};
@@ -115,7 +115,8 @@ pub fn read_query<A: Heap>(
     role: &str,
     text: &str,
 ) -> Result<Result<Query<A>, Reply<A>>, AllocError>
-    ensures { IfOk result (λ read. read_of read ≡ spec.query_read catalog.now role.now text.now) }
+    ensures read { IfOk result (λ read. read_of read ≡ spec.query_read catalog.now role.now text.now) }
+    ensures at_once { is_refused_at_once catalog.now role.now text.now ≡ true → IsOk result }
 {
     if !catalog.is_role(role) {
         return Ok(Err(Reply::Refused {

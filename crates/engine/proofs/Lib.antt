@@ -1,4 +1,5 @@
 pub mod Admitted
+pub mod AtOnce
 pub mod Due
 pub mod ExplainedTexts
 pub mod Few
@@ -6,6 +7,8 @@ pub mod FewConjuncts
 pub mod HiddenRows
 pub mod Indexes
 pub mod Judging
+pub mod Made
+pub mod OfText
 pub mod Planned
 pub mod Readable
 pub mod Statistics

@@ -1,22 +1,19 @@
 -- Contents that are the same in all that a role may read are the same to every text of it.
-use Rattle.std.proofs.Common.{◌≡◌, ℕ, zero, suc, ◌+◌, ◌==◌, ◌<◌, ◌≤◌, Bool, true, false, ◌||◌, if◌then◌else◌, cond, List, [], ◌∷◌, length, map, filter, find, Contains, Option, Some, None, Result, Ok, Err, refl, sym, ap, ap₂, subst, ◌∙◌, arith}
+use Rattle.std.proofs.Common.{◌≡◌, ℕ, zero, suc, ◌+◌, ◌==◌, Bool, true, false, ◌||◌, if◌then◌else◌, cond, List, [], ◌∷◌, map, filter, find, Contains, Option, Some, None, Ok, refl, sym, ap, ap₂, subst, ◌∙◌, arith}
 use Rattle.std.specs.Prelude.{IsPermutation, option_map, slice_index_or, unwrap_or}
 use Rattle.std.specs.List.{All, list_any, slice_get}
 use Rattle.std.specs.Str.{bytes_eq}
 use Rattle.std.proofs.lemmas.Bool.{eqb-true, eq-eqb}
 use Rattle.std.proofs.lemmas.Option.{get_or_from_slice_get, slice_get-map, slice_get_within, unwrap_or-slice_get}
 use Rattle.std.proofs.lemmas.List.{length-map}
-use Rattle.std.proofs.lemmas.List.Elements.{All-contains}
 use Rattle.std.proofs.lemmas.List.Sorted.{IsPermutation-map, IsPermutation-refl}
 use Rattle.std.proofs.lemmas.Simd.{map-map}
 use Rattle.memory.proofs.Cases.{or_second, some_is}
 use Rattle.value.specs.Columns.{Column}
 use Rattle.value.specs.Datum.{Datum, null, Row}
 use Rattle.value.specs.Names.{Name}
-use Rattle.row_ast.specs.Ast as ast
 use Rattle.row_objects.specs.Objects.{Table}
 use Rattle.expr.specs.declared.bound.ColumnId.{ColumnId}
-use Rattle.expr.specs.BoundQuery.{BoundQuery}
 use Rattle.expr.specs.NamedColumns.{named_columns}
 use Rattle.scope.specs.Entry.{Entry}
 use Rattle.catalog.specs.Catalog.{Catalog, table_named}

@@ -1,6 +1,7 @@
 -- The tables of a world are the rows that the role sees of each entry.
 use Rattle.std.proofs.Common.{◌≡◌, ◌<◌, ◌⊎◌, inl, inr, suc, Bool, cond, List, [], ◌∷◌, ◌++◌, length, map, filter, refl, sym, ap, ap₂, ◌∙◌, append_assoc, append-nil, arith}
 use Rattle.std.proofs.lemmas.List.{length-map, map-append}
+use Rattle.std.proofs.lemmas.Simd.{map-map}
 use Rattle.memory.proofs.Cases.{nil_is_not}
 use Rattle.value.specs.Datum.{Row}
 use Rattle.value.specs.Names.{Name}
@@ -33,6 +34,10 @@ module _ {E G : Type 0} (entry : E → Entry) (guard : G → Guard) (cat : Catal
   seen_are (e ∷ es) (g ∷ gs) same =
       ap₂ ◌∷◌ (filter_same (shows role (guard g)) (sees cat role (entry e).table) (λ row. first_is _ _ _ _ (same row)) (rows (entry e).table.name))
       (seen_are es gs (λ row. others_are _ _ _ _ (same row)))
+
+-- guards that show what is seen of entries, by the views of both
+pub seen_by_views : {E G : Type 0} (entry : E → Entry) (guard : G → Guard) (p : Guard → Bool) (q : Entry → Bool) (es : List E) (gs : List G) (frame : List Guard) → map guard gs ≡ frame → map p frame ≡ map q (map entry es) → map (λ g. p (guard g)) gs ≡ map (λ e. q (entry e)) es
+seen_by_views entry guard p q es gs frame is same = sym (map-map p guard gs) ∙ ap (map p) is ∙ same ∙ map-map q entry es
 
 -- lists that are the same by tests are as long
 pub as_long : {X Y : Type 0} (p : X → Bool) (q : Y → Bool) (xs : List X) (ys : List Y) → map p xs ≡ map q ys → length xs ≡ length ys

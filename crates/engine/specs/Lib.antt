@@ -5,11 +5,17 @@ pub mod Guarded
 pub mod Held
 pub mod Hidden
 pub mod Known
+pub mod PlanView
+pub mod Plans
 pub mod Readable
 pub mod Serving
 pub mod Settings
 pub mod View
 pub use Rattle.analysis.specs.Analysis
+pub use Rattle.analysis.specs.Resolved
+pub use Rattle.analysis.specs.View as AnalysisView
+pub use Rattle.resolve.specs.View as BoundView
+pub use Rattle.row_ast.specs.View as QueryView
 pub use Rattle.store.specs.Database
 pub use Rattle.store.specs.Catalog
 pub use Rattle.store.specs.Checks

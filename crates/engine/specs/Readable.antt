@@ -1,5 +1,5 @@
 -- Two contents that are the same to a role in all that it may read.
-use Rattle.std.specs.Prelude.{◌≡◌, ℕ, ◌+◌, true, Bool, List, [], ◌∷◌, map, Contains, IsPermutation, if◌then◌else◌}
+use Rattle.std.specs.Prelude.{◌≡◌, ℕ, ◌+◌, true, List, [], ◌∷◌, map, Contains, IsPermutation, if◌then◌else◌}
 use Rattle.value.specs.Columns.{Column}
 use Rattle.value.specs.Datum.{Row}
 use Rattle.value.specs.Names.{Name}

@@ -1,25 +1,24 @@
 //! Asking.
 
-ghost use Rattle.std.specs.Prelude.{◌≡◌, ◌<◌, ◌≤◌, ℕ, List, None, Some, IfOk, length, true};
+ghost use Rattle.std.specs.Prelude.{◌≡◌, ℕ, List, None, Ok, Some, IfOk, IsOk, true};
 ghost use Rattle.value.specs.Names.{Name};
 ghost use Rattle.row_ast.specs.View.{query_of};
-ghost use Rattle.expr.specs.Conjuncts.{movable_conjuncts};
 ghost use Rattle.expr.specs.View.{bound_items_of};
-ghost use Rattle.value.specs.Limits.{most_conjuncts, most_entries};
-ghost use Rattle.resolve.specs.EntryTables.{AreTables};
 ghost use Rattle.resolve.specs.View.{bound_of};
 ghost use Rattle.catalog.specs.Catalog.{Catalog};
 ghost use Rattle.replies.specs.Reply as report;
 ghost use Rattle.replies.specs.View.{reply_of};
-ghost use Rattle.analysis.specs.Analysis.{admitted_query, refusal_to};
+ghost use Rattle.analysis.specs.Analysis.{is_refused_at_once, query_read, refusal_to};
 ghost use Rattle.store.specs.Database.{Rows, rows_of};
 ghost use Rattle.engine.specs.Answer as spec;
-ghost use Rattle.engine.specs.Answer.{IsAnswer, admitted_reply, answer_reply, reply_to};
+ghost use Rattle.engine.specs.Answer.{IsAnswer, answer_reply, reply_to};
 ghost use Rattle.engine.specs.Held.{HoldsEachTable};
+ghost use Rattle.engine.specs.Plans.{IsAdmitted, IsPlanFor};
 ghost use Rattle.engine.specs.Serving.{IsReply};
-ghost use Rattle.syntax.specs.Limits.{within_limits};
 
 use crate::answer::answer_rows;
+use crate::plans::Plan;
+use crate::preparing::plan;
 use analysis::{admit, read_query};
 use expr::BoundItem;
 use memory::{Failure, Heap, Items, Text};
@@ -28,7 +27,7 @@ use resolve::Bound;
 use row_ast::Query;
 use std::alloc::AllocError;
 use store::Store;
-use syntax::{law_parsing_is_determined, law_queries_have_tables};
+use syntax::law_queries_have_tables;
 use value::Refusal;
 
 fn headings<A: Heap>(alloc: A, items: &[BoundItem<A>]) -> Result<Items<Text<A>, A>, AllocError>
@@ -41,20 +40,21 @@ fn headings<A: Heap>(alloc: A, items: &[BoundItem<A>]) -> Result<Items<Text<A>, 
     Ok(headings)
 }
 
-// The rows of a bound query with their headings, or its first fault.
-fn answer_bound<A: Heap>(
+/// The reply to a role's bound query under its plan: the rows, with their headings, or the first fault of their evaluation. The
+/// guards are those of the plan; rows and indexes are the present ones. It fails where memory runs out.
+pub fn run_plan<A: Heap>(
     alloc: A,
     store: &Store<A>,
     role: &str,
     bound: &Bound<'_, A>,
+    plan: &Plan<A>,
 ) -> Result<Reply<A>, AllocError>
-    requires tables { AreTables store.now.catalog (bound_of bound.now).entries }
-    requires from { 0 < length (bound_of bound.now).entries }
-    requires few { length (bound_of bound.now).entries ≤ most_entries }
-    requires conjuncts { length (movable_conjuncts (bound_of bound.now).query) ≤ most_conjuncts }
+    requires admitted { IsAdmitted store.now.catalog role.now (bound_of bound.now) }
+    requires plan { IsPlanFor store.now role.now (bound_of bound.now) plan.now }
     ensures { IfOk result (λ reply. reply_of reply ≡ answer_reply store.now.catalog (rows_of store.now) role.now (bound_of bound.now)) }
 {
-    match answer_rows(alloc, store, role, bound) {
+    law_queries_have_tables();
+    match answer_rows(alloc, store, role, bound, plan) {
         Ok(rows) => {
             let headings = headings(alloc, bound.query.items.as_slice())?;
             Ok(Reply::Rows { headings, rows })
@@ -64,16 +64,30 @@ fn answer_bound<A: Heap>(
     }
 }
 
+// The rows of a bound query, or its first fault, under a plan of its own.
+fn answer_bound<A: Heap>(
+    alloc: A,
+    store: &Store<A>,
+    role: &str,
+    bound: &Bound<'_, A>,
+) -> Result<Reply<A>, AllocError>
+    requires { IsAdmitted store.now.catalog role.now (bound_of bound.now) }
+    ensures { IfOk result (λ reply. reply_of reply ≡ answer_reply store.now.catalog (rows_of store.now) role.now (bound_of bound.now)) }
+{
+    let plan = plan(alloc, store, role, bound)?;
+    run_plan(alloc, store, role, bound, &plan)
+}
+
 // The refusal or denial of a query, or its rows or first fault.
 fn answer_query<A: Heap>(
     alloc: A,
     store: &Store<A>,
     role: &str,
+    text: &str,
     query: &Query<A>,
 ) -> Result<Reply<A>, AllocError>
-    requires from { 0 < length (query_of query.now).from }
-    requires small { within_limits (query_of query.now) ≡ true }
-    ensures { IfOk result (λ reply. reply_of reply ≡ admitted_reply store.now.catalog (rows_of store.now) role.now (admitted_query store.now.catalog role.now (query_of query.now))) }
+    requires { query_read store.now.catalog role.now text.now ≡ Ok (query_of query.now) }
+    ensures { IfOk result (λ reply. reply_of reply ≡ reply_to store.now.catalog (rows_of store.now) role.now text.now) }
 {
     match admit(alloc, store.catalog(), role, query)? {
         Ok(bound) => answer_bound(alloc, store, role, &bound),
@@ -81,19 +95,19 @@ fn answer_query<A: Heap>(
     }
 }
 
+// The reply to a role's text.
 fn answer<A: Heap>(
     alloc: A,
     store: &Store<A>,
     role: &str,
     text: &str,
 ) -> Result<Reply<A>, AllocError>
-    ensures { IfOk result (λ reply. reply_of reply ≡ reply_to store.now.catalog (rows_of store.now) role.now text.now) }
+    ensures reply { IfOk result (λ reply. reply_of reply ≡ reply_to store.now.catalog (rows_of store.now) role.now text.now) }
+    ensures at_once { is_refused_at_once store.now.catalog role.now text.now ≡ true → IsOk result }
 {
-    law_queries_have_tables();
-    law_parsing_is_determined();
     match read_query(alloc, store.catalog(), role, text)? {
         Ok(query) => {
-            let reply = answer_query(alloc, store, role, &query);
+            let reply = answer_query(alloc, store, role, text, &query);
             drop(query);
             reply
         }
@@ -104,7 +118,9 @@ fn answer<A: Heap>(
 /// The reply to a role's text: a refusal, a denial, the rows, or the first fault of their evaluation. Where memory runs out
 /// it is the refusal 53200. `ask(alloc, &store, "root", "SELECT id FROM t")` is `Reply::Rows` with the heading `id`.
 pub fn ask<A: Heap>(alloc: A, store: &Store<A>, role: &str, text: &str) -> Reply<A>
-    ensures { IsReply (reply_of result) (reply_to store.now.catalog (rows_of store.now) role.now text.now) }
+    ensures reply { IsReply (reply_of result) (reply_to store.now.catalog (rows_of store.now) role.now text.now) }
+    // An unknown role and a text that is too long are refused without memory.
+    ensures at_once { is_refused_at_once store.now.catalog role.now text.now ≡ true → reply_of result ≡ reply_to store.now.catalog (rows_of store.now) role.now text.now }
 {
     match answer(alloc, store, role, text) {
         Ok(reply) => reply,

@@ -97,6 +97,14 @@ impl<'p, A: Heap> Plan<'p, A> {
         &self.code
     }
 
+    /// The code alone.
+    pub fn into_code(self) -> Code<A>
+        ensures code { code_of result ≡ self.entry.code }
+        ensures plan { IsPlan self.entry }
+    {
+        self.code
+    }
+
     /// The cost of the code, in steps of work.
     pub fn cost(&self) -> u128
         ensures cost { result ≡ self.now.cost }

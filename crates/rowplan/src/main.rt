@@ -142,7 +142,9 @@ fn session(
 ) -> Result<(), ProgramError> {
     let schema = read_text(rt, alloc, words.schema)?;
     let store = store_of(rt, alloc, schema.as_str(), words.dir)?;
-    let mut core = Core::new(alloc, store);
+    let Ok(mut core) = Core::new(alloc, store) else {
+        return Err(ProgramError::from(AllocError));
+    };
     if words.frames {
         return answer_frames(rt, alloc, &mut core, words.script);
     }

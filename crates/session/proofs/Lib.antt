@@ -1,2 +1,5 @@
+pub mod AtOnce
 pub mod Cursors
+pub mod Keeping
+pub mod Ready
 pub mod Runs

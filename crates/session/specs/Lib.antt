@@ -1,4 +1,5 @@
 pub mod Event
+pub mod Kept
 pub mod Machine
 pub mod Taking
 pub mod View

@@ -1,35 +1,38 @@
 //! Sessions over a store, and their steps.
 
-ghost use Rattle.std.specs.Prelude.{◌≡◌, ◌++◌, IfErr, List, OnErr, OnOk, map};
+ghost use Rattle.std.specs.Prelude.{◌≡◌, ◌++◌, IfErr, IfOk, IsOk, List, OnErr, OnOk, map, true};
+ghost use Rattle.sessions.specs.AtOnce.{asked_at_once};
 ghost use Rattle.sessions.specs.Events.{declare_text};
 ghost use Rattle.sessions.specs.Reply as spec;
-ghost use Rattle.sessions.specs.State.{at_start};
 ghost use Rattle.sessions.specs.View.{reply_of};
 ghost use Rattle.session.specs.Event as event;
-ghost use Rattle.session.specs.Machine.{IsRun, IsStep, RunsAreTheMachines};
-ghost use Rattle.session.specs.Taking.{IsAnswer, TakesEvent};
+ghost use Rattle.session.specs.Machine.{IsMachineStep, IsRun, IsStep, RunsAreTheMachines, first_core, takes_no_memory};
+ghost use Rattle.session.specs.Taking.{Answers, TakesEvent};
 ghost use Rattle.session.specs.View.{event_of};
 
-use crate::asking::answer;
+use crate::asking::answer_asked;
 use crate::event::Event;
-use engine::Store;
+use engine::{Plan, Store};
 use memory::{Heap, Text};
 use sessions::{Reply, Sessions, refused_by};
+use shared_plans::Plans;
 use std::alloc::{AllocError, AllocFailed};
 use std::marker::Model;
 use value::Refusal;
 
-/// A store with the sessions that are open.
+/// A store with the sessions that are open, and the plans that they share: the 64 most recently used, each for a role's text since
+/// the last change and load.
 #[derive(Drop)]
 pub struct Core<A: Heap> {
     alloc: A,
     sessions: Sessions<A>,
+    plans: Plans<Plan<A>, A>,
 }
 
 impl<A: Heap> Model for Core<A> {
-    ghost use Rattle.sessions.specs.State as state;
+    ghost use Rattle.session.specs.Machine as machine;
 
-    ghost Value = { state.State };
+    ghost Value = { machine.Core };
 
     ghost use Rattle.std.specs.Prelude.{ℕ};
     ghost use Rattle.std.specs.Coded.{codes, coded_ℕ};
@@ -37,90 +40,107 @@ impl<A: Heap> Model for Core<A> {
 
     ghost coded = { Prim.hlevel (codes, movable_expr.the_code ℕ coded_ℕ) };
 
-    ghost view = { λ c. c.sessions };
+    ghost use Rattle.shared_plans.specs.Recent.{recent_of};
+    ghost use Rattle.session.specs.Kept.{AreKept};
+
+    ghost view = { λ c. record { state = c.sessions; recent = recent_of c.plans } };
+
+    ghost invariant = { λ c. AreKept c.sessions.database c.sessions.loads c.plans.entries };
 }
 
 impl<A: Heap> Core<A> {
-    /// A store with no session.
-    pub fn new(alloc: A, store: Store<A>) -> Core<A>
-        ensures { result ≡ at_start store }
+    /// A store with no session. Where memory runs out, the store is given back.
+    pub fn new(alloc: A, store: Store<A>) -> Result<Core<A>, AllocFailed<Store<A>>>
+        ensures core { IfOk result (λ core. core ≡ first_core store) }
+        ensures given_back { IfErr result (λ e. e.value ≡ store) }
     {
-        Core {
-            alloc,
-            sessions: Sessions::new(alloc, store),
+        match Plans::new(alloc) {
+            Ok(plans) => Ok(Core {
+                alloc,
+                sessions: Sessions::new(alloc, store),
+                plans,
+            }),
+            Err(_) => Err(AllocFailed { value: store }),
         }
     }
 
-    // The reply to a text that a session asks.
-    fn ask(&self, session: u64, text: &str) -> Reply<A>
-        ensures { IsStep self.now (event.Ask session text.now) (reply_of result) self.now }
+    /// How many look-ups found a plan; the count stays at its greatest value, 2^64 - 1.
+    pub fn hits(&self) -> u64
+        ensures { result ≡ self.now.recent.hits }
     {
-        match answer(
-            self.alloc,
-            &self.sessions,
-            self.sessions.ask_text(session, text),
-        ) {
-            Ok(reply) => Reply::Engine { reply },
-            Err(code) => refused_by(code),
+        self.plans.hits()
+    }
+
+    // The reply to a text that a session asks.
+    fn ask(&mut self, session: u64, text: &str) -> Result<Reply<A>, AllocError>
+        ensures takes { TakesEvent self.old self.new (event.Ask session text.now) result }
+        ensures at_once { takes_no_memory self.old.state (event.Ask session text.now) ≡ true → IsOk result }
+    {
+        let asked = self.sessions.ask_text(session, text);
+        match answer_asked(self.alloc, &self.sessions, &mut self.plans, asked) {
+            Ok(Ok(reply)) => Ok(Reply::Engine { reply }),
+            Ok(Err(code)) => Ok(refused_by(code)),
+            Err(error) => Err(error),
         }
     }
 
     // The reply to a prepared text of a session.
-    fn execute(&self, session: u64, name: &str) -> Reply<A>
-        ensures { IsStep self.now (event.Execute session name.now) (reply_of result) self.now }
+    fn execute(&mut self, session: u64, name: &str) -> Result<Reply<A>, AllocError>
+        ensures takes { TakesEvent self.old self.new (event.Execute session name.now) result }
+        ensures at_once { takes_no_memory self.old.state (event.Execute session name.now) ≡ true → IsOk result }
     {
-        match answer(
-            self.alloc,
-            &self.sessions,
-            self.sessions.execute_text(session, name),
-        ) {
-            Ok(reply) => Reply::Engine { reply },
-            Err(code) => refused_by(code),
+        let asked = self.sessions.execute_text(session, name);
+        match answer_asked(self.alloc, &self.sessions, &mut self.plans, asked) {
+            Ok(Ok(reply)) => Ok(Reply::Engine { reply }),
+            Ok(Err(code)) => Ok(refused_by(code)),
+            Err(error) => Err(error),
         }
     }
 
     // The reply to the text of a new cursor, or why it is not asked.
     fn answer_cursor(
-        &self,
+        &mut self,
         session: u64,
         name: &str,
         text: &str,
-    ) -> Result<replies::Reply<A>, Refusal>
-        ensures { IsAnswer self.now (declare_text self.now session name.now text.now) result }
+    ) -> Result<Result<replies::Reply<A>, Refusal>, AllocError>
+        ensures state { self.new.state ≡ self.old.state }
+        ensures answers { Answers self.old.state (declare_text self.old.state session name.now text.now) self.old.recent self.new.recent result }
+        ensures at_once { asked_at_once self.old.state (declare_text self.old.state session name.now text.now) ≡ true → IsOk result }
     {
-        answer(
-            self.alloc,
-            &self.sessions,
-            self.sessions.declare_text(session, name, text),
-        )
+        let asked = self.sessions.declare_text(session, name, text);
+        answer_asked(self.alloc, &self.sessions, &mut self.plans, asked)
     }
 
     // A session keeps the rows of a text for a cursor.
     fn declare(&mut self, session: u64, name: Text<A>, text: &str) -> Result<Reply<A>, AllocError>
-        ensures { TakesEvent self.old self.new (event.Declare session name text.now) result }
+        ensures takes { TakesEvent self.old self.new (event.Declare session name text.now) result }
+        ensures at_once { takes_no_memory self.old.state (event.Declare session name text.now) ≡ true → IsOk result }
     {
         match self.answer_cursor(session, name.as_str(), text) {
-            Ok(reply) => self.sessions.keep(session, name, reply),
-            Err(code) => Ok(refused_by(code)),
+            Ok(Ok(reply)) => self.sessions.keep(session, name, reply),
+            Ok(Err(code)) => Ok(refused_by(code)),
+            Err(error) => Err(error),
         }
     }
 
     // Takes an event; where memory runs out the state is as it was.
     fn take(&mut self, event: Event<A>) -> Result<Reply<A>, AllocError>
-        ensures { TakesEvent self.old self.new (event_of event) result }
+        ensures takes { TakesEvent self.old self.new (event_of event) result }
+        ensures at_once { takes_no_memory self.old.state (event_of event) ≡ true → IsOk result }
     {
         match event {
             Event::Login { role } => self.sessions.login(role),
             Event::Logout { session } => Ok(self.sessions.logout(session)),
             Event::SetRole { session, role } => Ok(self.sessions.set_role(session, role)),
             Event::ResetRole { session } => Ok(self.sessions.reset_role(session)),
-            Event::Ask { session, text } => Ok(self.ask(session, text.as_str())),
+            Event::Ask { session, text } => self.ask(session, text.as_str()),
             Event::Prepare {
                 session,
                 name,
                 text,
             } => self.sessions.prepare(session, name, text),
-            Event::Execute { session, name } => Ok(self.execute(session, name.as_str())),
+            Event::Execute { session, name } => self.execute(session, name.as_str()),
             Event::Declare {
                 session,
                 name,
@@ -138,9 +158,12 @@ impl<A: Heap> Core<A> {
     }
 
     /// Takes one event: the reply is that of the session machine, over the present catalogue and the present rows. Where memory
-    /// runs out the reply is the refusal 53200, and nothing changed. A refused event changes nothing.
+    /// runs out the reply is the refusal 53200, and the state is as it was; a plan may have been kept. A refused event changes
+    /// nothing.
     pub fn step(&mut self, event: Event<A>) -> Reply<A>
-        ensures { IsStep self.old (event_of event) (reply_of result) self.new }
+        ensures step { IsStep self.old (event_of event) (reply_of result) self.new }
+        // Memory runs out only where it is asked for.
+        ensures exact { takes_no_memory self.old.state (event_of event) ≡ true → IsMachineStep self.old (event_of event) (reply_of result) self.new }
     {
         match self.take(event) {
             Ok(reply) => reply,
@@ -173,7 +196,8 @@ impl<A: Heap> Core<A> {
     }
 }
 
-/// Where memory does not run out and each row of a load is read, the replies to events are those of the session machine.
+/// Where memory does not run out, the replies to events are those of the session machine, which plans nothing, and the keys and the
+/// hits those of the texts that were asked.
 #[tactic(auto, using(crate::proofs::Runs::runs))]
 pub fn law_runs_are_the_machines()
     ensures { RunsAreTheMachines }

@@ -1,3 +1,5 @@
+pub mod AtOnce
+pub mod Counts
 pub mod Keys
 pub mod Loads
 pub mod Steps

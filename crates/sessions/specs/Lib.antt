@@ -1,3 +1,4 @@
+pub mod AtOnce
 pub mod Events
 pub mod Reply
 pub mod State

@@ -1,5 +1,5 @@
 -- Replies to events.
-use Rattle.std.specs.Prelude.{ℕ, None}
+use Rattle.std.specs.Prelude.{ℕ, Bool, true, false, None}
 use Rattle.value.specs.Names.{Name}
 use Rattle.value.specs.declared.refusal.Refusal.{Refusal}
 use Rattle.tables.specs.declared.LoadError.{LoadError}
@@ -11,6 +11,13 @@ pub data Reply : Type 0 where
   Done : Reply
   Session : (number : ℕ) → Reply
   Data : (table : Name) → (column : Name) → (error : LoadError) → Reply
+
+-- a reply to a text has rows
+abbrev pub has_rows : engine.Reply → Bool
+has_rows (engine.Rows headings rows) = true
+has_rows (engine.Refused code offset) = false
+has_rows (engine.Denied column table) = false
+has_rows (engine.Faulted fault) = false
 
 -- a refusal by a code alone
 abbrev pub refused_by : Refusal → Reply

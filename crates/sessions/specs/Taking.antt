@@ -1,24 +1,20 @@
 -- The contracts of events.
-use Rattle.std.specs.Prelude.{◌≡◌, ◌⊎◌, ◌<◌, ⊤, IsOk, ℕ, List, Some, Result, Ok, Err}
+use Rattle.std.specs.Prelude.{◌≡◌, ⊤, IsOk, ℕ, List, Some, Result, Ok, Err}
 use Rattle.std.specs.Str.{bytes_eq}
 use Rattle.std.specs.Map.{lookup, set_value}
 use Rattle.memory.specs.declared.failure.Failure.{Failure}
 use Rattle.memory.specs.declared.failure.Failure.TheVariants as failure
 use Rattle.value.specs.Names.{Name}
 use Rattle.value.specs.declared.refusal.Refusal.{Refusal}
-use Rattle.csv_records.specs.Left.{records_of}
-use Rattle.tables.specs.declared.LoadError.TheVariants as error
 use Rattle.syntax.specs.declared.error.ParseError.{ParseError}
 use Rattle.replies.specs.Reply as engine
 use Rattle.store.specs.Database.{Database}
-use Rattle.store.specs.Loads.{LoadStops}
-use Rattle.store.specs.declared.store.StoreError.TheVariants as store
 use Rattle.sessions.specs.declared.reply.Reply as declared
 use Rattle.sessions.specs.Reply as reply
 use Rattle.sessions.specs.Reply.{Reply, refused_by}
 use Rattle.sessions.specs.View.{reply_of}
-use Rattle.sessions.specs.State.{State, Session, Cursor, advanced, most_counted, next_rows, session_numbered, with_session}
-use Rattle.sessions.specs.Events.{Step, data_refusal, load, settled}
+use Rattle.sessions.specs.State.{State, Session, Cursor, advanced, next_rows, session_numbered, with_session}
+use Rattle.sessions.specs.Events.{Step, settled}
 
 -- the reply and the new state are those of the stated step
 abbrev pub IsTaken : Result Step Reply → State → State → Reply → Type 0
@@ -28,16 +24,6 @@ IsTaken stated old new reply = (reply ≡ (settled old stated).0) × (new ≡ (s
 abbrev pub Takes : {A E : Type 0} → Result Step Reply → State → State → Result (declared.Reply A) E → Type 0
 Takes stated old new (Ok reply) = IsTaken stated old new (reply_of reply)
 Takes stated old new (Err e) = new ≡ old
-
--- a row of a load was not read, and the rows of the table before it are there and without error; nothing changes
-abbrev pub IsUnread : State → State → Name → List ℕ → Reply → Type 0
-IsUnread old new table bytes reply =
-    (row : ℕ) × (reply ≡ data_refusal old table (error.Reader row)) × (new ≡ old) × (old.loads < most_counted)
-    × LoadStops old.database.tables table (records_of bytes) (Err (failure.Error (store.Data (error.Reader row))))
-
-abbrev pub TakesLoad : {A E : Type 0} → State → State → Name → List ℕ → Result (declared.Reply A) E → Type 0
-TakesLoad old new table bytes (Ok reply) = IsTaken (load old table bytes) old new (reply_of reply) ⊎ IsUnread old new table bytes (reply_of reply)
-TakesLoad old new table bytes (Err e) = new ≡ old
 
 -- the view of a role and a text that is to be asked
 abbrev pub asked_of : {X : Type 0} → (X → List ℕ) → Result (X × X) Refusal → Result (Name × List ℕ) Reply

@@ -1,6 +1,8 @@
 //! Schema statements of roles.
 
+ghost use Rattle.std.specs.Prelude.{◌<◌, IsOk, length};
 ghost use Rattle.row_ast.specs.View.{statement_of};
+ghost use Rattle.syntax.specs.Parsing.{statement_bytes};
 ghost use Rattle.store.specs.Database.{changed_database};
 ghost use Rattle.sessions.specs.Events.{database_after, or_refusal};
 ghost use Rattle.sessions.specs.Taking.{Changes};
@@ -35,7 +37,8 @@ pub(crate) fn apply_text<A: Heap>(
     role: &str,
     text: &str,
 ) -> Result<Reply<A>, AllocError>
-    ensures { Changes store.old store.new (database_after store.old role.now text.now) result }
+    ensures changes { Changes store.old store.new (database_after store.old role.now text.now) result }
+    ensures long { statement_bytes < length text.now → IsOk result }
 {
     match parse_statement(alloc, text) {
         Ok(statement) => {

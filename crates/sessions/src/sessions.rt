@@ -1,20 +1,22 @@
 //! The sessions over a store.
 
-ghost use Rattle.std.specs.Prelude.{◌≡◌, IfOk, OnErr, OnOk, Some, nat_eq, option_copied};
+ghost use Rattle.std.specs.Prelude.{◌≡◌, false, IfOk, IsOk, OnErr, OnOk, Some, nat_eq, option_copied, true};
 ghost use Rattle.std.specs.Str.{bytes_eq};
 ghost use Rattle.std.specs.Map.{remove_entry};
 ghost use Rattle.replies.specs.View.{reply_of as engine_reply_of};
+ghost use Rattle.sessions.specs.AtOnce.{change_at_once, fetch_at_once, load_at_once, login_at_once, prepare_at_once};
 ghost use Rattle.sessions.specs.Events as spec;
 ghost use Rattle.sessions.specs.Events.{may_become};
+ghost use Rattle.sessions.specs.Reply.{has_rows};
 ghost use Rattle.sessions.specs.State as State;
 ghost use Rattle.sessions.specs.State.{at_start, has_login_room, session_numbered, with_session};
-ghost use Rattle.sessions.specs.Taking.{FetchesIn, IsTaken, Takes, TakesLoad, asked_of};
+ghost use Rattle.sessions.specs.Taking.{FetchesIn, IsTaken, Takes, asked_of};
 ghost use Rattle.sessions.specs.View.{reply_of};
 
 use crate::changing::apply_text;
 use crate::cursor::Cursor;
 use crate::entries::index_numbered;
-use crate::loading::data_refusal;
+use crate::loading::{data_refusal, load_bytes};
 use crate::parsing::check_query;
 use crate::reply::{Reply, refused_by, refused_text};
 use crate::session::Session;
@@ -22,7 +24,7 @@ use catalog::Catalog;
 use memory::{Failure, Heap, Text};
 use std::alloc::AllocError;
 use std::marker::Model;
-use store::Store;
+use store::{Store, StoreError};
 use value::Refusal;
 
 /// The most open sessions.
@@ -176,7 +178,9 @@ impl<A: Heap> Sessions<A> {
     /// A role logs in; the reply is the number of the session. It is refused where there is no such role (42704), or where
     /// 256 sessions are open or numbers run out (54000); a refused login uses no number.
     pub fn login(&mut self, role: Text<A>) -> Result<Reply<A>, AllocError>
-        ensures { Takes (spec.login self.old role) self.old self.new result }
+        ensures takes { Takes (spec.login self.old role) self.old self.new result }
+        // A refused login takes no memory.
+        ensures at_once { login_at_once self.old role ≡ true → IsOk result }
     {
         if !self.store.catalog().is_role(role.as_str()) {
             return Ok(refused_by(Refusal::UndefinedObject));
@@ -260,7 +264,8 @@ impl<A: Heap> Sessions<A> {
         name: Text<A>,
         text: Text<A>,
     ) -> Result<Reply<A>, AllocError>
-        ensures { Takes (spec.prepare self.old session name text) self.old self.new result }
+        ensures takes { Takes (spec.prepare self.old session name text) self.old self.new result }
+        ensures at_once { prepare_at_once self.old session name text ≡ true → IsOk result }
     {
         let Some(current) = self.session(session) else {
             return Ok(refused_by(Refusal::ConnectionDoesNotExist));
@@ -324,7 +329,9 @@ impl<A: Heap> Sessions<A> {
         name: Text<A>,
         reply: replies::Reply<A>,
     ) -> Result<Reply<A>, AllocError>
-        ensures { Takes (spec.keep self.old session name (engine_reply_of reply)) self.old self.new result }
+        ensures takes { Takes (spec.keep self.old session name (engine_reply_of reply)) self.old self.new result }
+        // Only rows take memory.
+        ensures at_once { has_rows (engine_reply_of reply) ≡ false → IsOk result }
     {
         let Some(current) = self.session(session) else {
             return Ok(refused_by(Refusal::ConnectionDoesNotExist));
@@ -345,7 +352,8 @@ impl<A: Heap> Sessions<A> {
 
     /// The headings and the next rows of a cursor, at most so many. It is refused where there is no such cursor (34000).
     pub fn fetch(&mut self, session: u64, name: &str, count: u64) -> Result<Reply<A>, AllocError>
-        ensures { Takes (spec.fetch self.old session name.now count) self.old self.new result }
+        ensures takes { Takes (spec.fetch self.old session name.now count) self.old self.new result }
+        ensures at_once { fetch_at_once self.old session name.now ≡ true → IsOk result }
     {
         let Some(current) = self.session(session) else {
             return Ok(refused_by(Refusal::ConnectionDoesNotExist));
@@ -376,7 +384,8 @@ impl<A: Heap> Sessions<A> {
     /// Applies a schema statement, by the current role of a session. It is refused by its length or its first syntax error,
     /// else by the first check of the statement that fails.
     pub fn change(&mut self, session: u64, text: &str) -> Result<Reply<A>, AllocError>
-        ensures { Takes (spec.change self.old session text.now) self.old self.new result }
+        ensures takes { Takes (spec.change self.old session text.now) self.old self.new result }
+        ensures at_once { change_at_once self.old session text.now ≡ true → IsOk result }
     {
         let Some(i) = index_numbered(&self.sessions, session) else {
             return Ok(refused_by(Refusal::ConnectionDoesNotExist));
@@ -388,7 +397,8 @@ impl<A: Heap> Sessions<A> {
     /// Adds the rows of comma-separated bytes to a table, or none. It is refused where numbers of loads run out (54000), where
     /// there is no such table (42P01), or by the first error of the rows.
     pub fn load(&mut self, table: &str, bytes: &[u8]) -> Result<Reply<A>, AllocError>
-        ensures { TakesLoad self.old self.new table.now bytes.now result }
+        ensures takes { Takes (spec.load self.old table.now bytes.now) self.old self.new result }
+        ensures at_once { load_at_once self.old table.now ≡ true → IsOk result }
     {
         if self.loads == u64::MAX {
             return Ok(refused_by(Refusal::ProgramLimitExceeded));
@@ -396,12 +406,17 @@ impl<A: Heap> Sessions<A> {
         if self.store.contents(table).is_none() {
             return Ok(refused_by(Refusal::UndefinedTable));
         }
-        match self.store.append(table, bytes) {
+        match load_bytes(self.alloc, &mut self.store, table, bytes) {
             Ok(()) => {
                 self.loads += 1;
                 Ok(Reply::Done)
             }
-            Err(Failure::Error(error)) => data_refusal(self.alloc, &self.store, table, error),
+            Err(Failure::Error(StoreError::UndefinedTable)) => {
+                Ok(refused_by(Refusal::UndefinedTable))
+            }
+            Err(Failure::Error(StoreError::Data(error))) => {
+                data_refusal(self.alloc, &self.store, table, error)
+            }
             Err(Failure::OutOfMemory) => Err(AllocError),
         }
     }

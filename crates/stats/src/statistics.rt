@@ -54,6 +54,20 @@ impl<A: Heap> Stats<A> {
         Ok(Stats::Known { rows, columns })
     }
 
+    /// A copy. It fails where memory runs out.
+    pub fn copy(&self, alloc: A) -> Result<Stats<A>, AllocError>
+        ensures { IfOk result (λ copy. stats_of copy ≡ stats_of self.now) }
+    {
+        match self {
+            Stats::Unknown => Ok(Stats::Unknown),
+            Stats::Known { rows, columns } => {
+                let columns = Items::from(Vec::from_slice(alloc, columns.as_slice())?);
+                let rows = *rows;
+                Ok(Stats::Known { rows, columns })
+            }
+        }
+    }
+
     /// Those of a table whose rows stay hidden: 1,000 rows, and ten distinct values in each column.
     pub fn unknown() -> Stats<A>
         ensures { stats_of result ≡ spec.Unknown }

@@ -210,3 +210,9 @@ module _ {A X : Type 0} {f : Rule A} {most : ℕ} {fits : A → Type 0} {parsed 
   gives_only (Ok x) g t h l s = sym (d.only text t h l s) ∙ g
   gives_only (Err (Error e)) g t h l s = sym (d.only text t h l s) ∙ g
   gives_only (Err OutOfMemory) g t h l s = tt
+
+-- ---- a text that is too long
+
+pub query_too_long : (text : List ℕ) → nat_lt query_bytes (length text) ≡ true → parsed_query text ≡ Err errors.Limit
+unfolding parsed_query
+query_too_long text e = rw e refl

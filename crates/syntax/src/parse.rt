@@ -1,7 +1,8 @@
 //! Texts, whole.
 
-ghost use Rattle.std.specs.Prelude.{◌≡◌, ◌<◌, ◌≤◌, ◌^◌, List, length, map, IfOk, IfErr, Ok};
+ghost use Rattle.std.specs.Prelude.{◌≡◌, ◌<◌, ◌≤◌, ◌^◌, List, length, map, IfOk, IfErr, IsErrOf, Ok};
 ghost use Rattle.memory.specs.Gives.{Gives};
+ghost use Rattle.memory.specs.declared.failure.Failure.TheVariants.{Error};
 ghost use Rattle.row_ast.specs.Ast as ast;
 ghost use Rattle.row_ast.specs.Statements as statement_ast;
 ghost use Rattle.row_ast.specs.View.{query_of, statement_of};
@@ -12,6 +13,7 @@ ghost use Rattle.row_reader.specs.Reading.{Parses};
 ghost use Rattle.row_statements.specs.Schemas as statements;
 ghost use Rattle.row_tokens.specs.View.{words_of};
 ghost use Rattle.row_tokens.specs.Tokens.{words};
+ghost use Rattle.syntax.specs.declared.error.ParseError.TheVariants as errors;
 ghost use Rattle.syntax.specs.Parsing.{Derives, RefusesQuery, RefusesSchema, RefusesStatement, IsSmall, IsDetermined, Fits, query_bytes, schema_bytes, statement_bytes, read_within, parsed_query, parsed_schema, parsed_statement, offset_of, fault_of};
 
 use crate::error::ParseError;
@@ -157,7 +159,8 @@ fn read_text<A: Heap, P: Parser<A>>(
     most: usize,
 ) -> Result<P::Tree, Failure<ParseError>>
     requires { most < 2 ^ 32 }
-    ensures { Gives P.view result (read_within most P.rule text.now) }
+    ensures reading { Gives P.view result (read_within most P.rule text.now) }
+    ensures long { most < length text.now → IsErrOf result (Error errors.Limit) }
 {
     if text.len() > most {
         return Err(Failure::Error(ParseError::Limit));
@@ -175,7 +178,8 @@ fn read_text<A: Heap, P: Parser<A>>(
 // The query of a text, within limits.
 #[tactic(auto, unfolding(crate::specs::Parsing::parsed_query))]
 fn query_within_limits<A: Heap>(alloc: A, text: &str) -> Result<Query<A>, Failure<ParseError>>
-    ensures { Gives (λ q. query_of q) result (parsed_query text.now) }
+    ensures reading { Gives (λ q. query_of q) result (parsed_query text.now) }
+    ensures long { query_bytes < length text.now → IsErrOf result (Error errors.Limit) }
 {
     let query = read_text::<A, QueryParser>(alloc, text, QUERY_BYTES)?;
     if within_limits(&query) {
@@ -197,6 +201,8 @@ pub fn parse_query<A: Heap>(alloc: A, text: &str) -> Result<Query<A>, Failure<Pa
     ensures only { (q : ast.Query) → Derives queries.query text.now q → length text.now ≤ query_bytes → IsSmall q → Gives (λ q. query_of q) result (Ok q) }
     // A refusal is at the token after the longest viable prefix, or a limit is passed.
     ensures refused { IfErr result (λ e. RefusesQuery text.now e) }
+    // A text that is too long is refused before memory is asked for.
+    ensures long { query_bytes < length text.now → IsErrOf result (Error errors.Limit) }
 {
     query_within_limits(alloc, text)
 }
@@ -230,6 +236,8 @@ pub fn parse_statement<A: Heap>(alloc: A, text: &str) -> Result<Statement<A>, Fa
     ensures only { (act : statement_ast.Statement) → Derives statements.statement text.now act → length text.now ≤ statement_bytes → Gives (λ s. statement_of s) result (Ok act) }
     // A refusal is at the token after the longest viable prefix, or a limit is passed.
     ensures refused { IfErr result (λ e. RefusesStatement text.now e) }
+    // A text that is too long is refused before memory is asked for.
+    ensures long { statement_bytes < length text.now → IsErrOf result (Error errors.Limit) }
 {
     read_text::<A, StatementParser>(alloc, text, STATEMENT_BYTES)
 }

@@ -11,13 +11,13 @@ use Rattle.engine.proofs.explaining.explained.Goals as goal
 
 pub explained_query-explained-requires : goal.explained_query-explained-requires
 explained_query-explained-requires g c =
-    let read = (rw c.catalog.ensures.catalog at c.in_ok-query.ensures) in
+    let read = (rw c.catalog.ensures.catalog at c.in_ok-query.ensures.read) in
     (c.law_parsing_is_determined.ensures.query.found c.args.text.now (query_of c.in-Ok.query) (read_parsed c.args.store.now.catalog c.args.role.now c.args.text.now (query_of c.in-Ok.query) (sym read ∙ ap read_of c.in-Ok.is))).2
 
 pub returns-in-Ok : goal.returns-in-Ok
 returns-in-Ok g c =
     let cat = c.args.store.now.catalog in
     let role = c.args.role.now in
-    let read = (rw c.catalog.ensures.catalog at c.in_ok-query.ensures) in
+    let read = (rw c.catalog.ensures.catalog at c.in_ok-query.ensures.read) in
     subst (λ r. IfOk c.explained_query-explained.result (λ x. IsExplanation x.0.items x.1 (explained_query cat (known cat role (statistics_in c.args.store.now)) role (and_then r (admitted_query cat role)))))
     (sym (sym read ∙ ap read_of c.in-Ok.is)) c.explained_query-explained.ensures

@@ -11,7 +11,7 @@ use Rattle.engine.proofs.writing.serve.Goals as goal
 pub returns-in-Ok-clause-sent : goal.returns-in-Ok-clause-sent
 returns-in-Ok-clause-sent g c =
     let s = c.send.ensures in
-    due_sent reply_text _ _ c.ask-reply.ensures
+    due_sent reply_text _ _ c.ask-reply.ensures.reply
     (text_sent s.whole s.failed s.fine s.beginning (c.deref.ensures.value ∙ c.in-Ok.ensures) c.reply_status-status.ensures.status (λ seven. ap reply_text (only_no_memory _ seven)))
 
 pub returns-in-Ok-clause-hidden : goal.returns-in-Ok-clause-hidden

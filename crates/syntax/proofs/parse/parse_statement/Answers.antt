@@ -7,11 +7,11 @@ use Rattle.syntax.proofs.parse.parse_statement.Goals as goal
 
 pub returns-clause-found : goal.returns-clause-found
 unfolding parsed_statement
-returns-clause-found g c = gives_found statement_determined (λ s. statement_of s) c.args.text.now c.read_text.result c.read_text.ensures
+returns-clause-found g c = gives_found statement_determined (λ s. statement_of s) c.args.text.now c.read_text.result c.read_text.ensures.reading
 
 pub returns-clause-only : goal.returns-clause-only
 unfolding parsed_statement
-returns-clause-only g c = λ t h l. gives_only statement_determined (λ s. statement_of s) c.args.text.now c.read_text.result c.read_text.ensures t h l tt
+returns-clause-only g c = λ t h l. gives_only statement_determined (λ s. statement_of s) c.args.text.now c.read_text.result c.read_text.ensures.reading t h l tt
 
 pub returns-clause-refused : goal.returns-clause-refused
-returns-clause-refused g c = within_refused statement statement_good statement_bytes c.args.text.now (λ s. statement_of s) c.read_text.result c.read_text.ensures
+returns-clause-refused g c = within_refused statement statement_good statement_bytes c.args.text.now (λ s. statement_of s) c.read_text.result c.read_text.ensures.reading
