@@ -94,13 +94,9 @@ fn policies_that_can_fault_are_refused(rt: HostRuntime) -> Result<(), Fail> {
 }
 
 #[test]
-fn prepared_texts_are_asked_anew(rt: HostRuntime) -> Result<(), Fail> {
+fn a_revoke_reaches_prepared_texts_and_no_cursor(rt: HostRuntime) -> Result<(), Fail> {
     run(&rt, EXECUTED)?;
-    Ok(run(&rt, REVOKED)?)
-}
-
-#[test]
-fn cursors_keep_their_answer_after_a_revoke(rt: HostRuntime) -> Result<(), Fail> {
+    run(&rt, REVOKED)?;
     Ok(run(&rt, FETCHED)?)
 }
 

@@ -195,10 +195,6 @@ fn statements_that_are_refused(rt: HostRuntime) -> Result<(), Fail> {
 
 #[test]
 fn refused_loads_add_nothing(rt: HostRuntime) -> Result<(), Fail> {
-    Ok(run(&rt, LOADS)?)
-}
-
-#[test]
-fn nulls_and_truth_values_of_loads(rt: HostRuntime) -> Result<(), Fail> {
+    run(&rt, LOADS)?;
     Ok(run_over(&rt, FLAGS, FLAG_LOADS)?)
 }

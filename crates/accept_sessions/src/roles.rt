@@ -108,17 +108,9 @@ login alice => session 3
 ";
 
 #[test]
-fn members_become_what_they_belong_to(rt: HostRuntime) -> Result<(), Fail> {
-    Ok(run(&rt, SET)?)
-}
-
-#[test]
 fn login_role_decides_what_a_session_becomes(rt: HostRuntime) -> Result<(), Fail> {
-    Ok(run(&rt, LOGIN_ROLES)?)
-}
-
-#[test]
-fn memberships_count_where_a_role_is_set(rt: HostRuntime) -> Result<(), Fail> {
+    run(&rt, SET)?;
+    run(&rt, LOGIN_ROLES)?;
     Ok(run(&rt, MEMBERSHIPS)?)
 }
 

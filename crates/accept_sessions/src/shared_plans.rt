@@ -195,62 +195,22 @@ fn run(rt: &(impl Abort + AllocGlobal), rows: &str) -> Result<(), Failure<Fixtur
 }
 
 #[test]
-fn roles_share_no_plan(rt: HostRuntime) -> Result<(), Fail> {
-    Ok(run(&rt, ROLES)?)
-}
-
-#[test]
-fn plans_are_kept_until_a_load(rt: HostRuntime) -> Result<(), Fail> {
-    Ok(run(&rt, KEPT)?)
-}
-
-#[test]
-fn a_dropped_policy_takes_the_plans(rt: HostRuntime) -> Result<(), Fail> {
-    Ok(run(&rt, DROPPED)?)
-}
-
-#[test]
-fn a_new_policy_takes_the_plans(rt: HostRuntime) -> Result<(), Fail> {
-    Ok(run(&rt, RESTRICTED)?)
-}
-
-#[test]
-fn forced_row_security_takes_the_plans(rt: HostRuntime) -> Result<(), Fail> {
-    Ok(run(&rt, FORCED)?)
-}
-
-#[test]
-fn a_membership_takes_the_plans(rt: HostRuntime) -> Result<(), Fail> {
-    Ok(run(&rt, MEMBERS)?)
-}
-
-#[test]
-fn an_index_takes_the_plans(rt: HostRuntime) -> Result<(), Fail> {
-    Ok(run(&rt, INDEXED)?)
-}
-
-#[test]
-fn refused_texts_have_no_plan(rt: HostRuntime) -> Result<(), Fail> {
+fn roles_and_texts_have_plans_of_their_own(rt: HostRuntime) -> Result<(), Fail> {
+    run(&rt, ROLES)?;
+    run(&rt, EXECUTED)?;
+    run(&rt, SPELLINGS)?;
     Ok(run(&rt, REFUSED)?)
 }
 
 #[test]
-fn executed_texts_and_cursors_share_plans(rt: HostRuntime) -> Result<(), Fail> {
-    Ok(run(&rt, EXECUTED)?)
-}
-
-#[test]
-fn texts_are_keys_byte_by_byte(rt: HostRuntime) -> Result<(), Fail> {
-    Ok(run(&rt, SPELLINGS)?)
-}
-
-#[test]
-fn refused_loads_leave_the_plans(rt: HostRuntime) -> Result<(), Fail> {
-    Ok(run(&rt, LOADED)?)
-}
-
-#[test]
-fn refused_statements_leave_the_plans(rt: HostRuntime) -> Result<(), Fail> {
+fn accepted_statements_and_loads_take_the_plans(rt: HostRuntime) -> Result<(), Fail> {
+    run(&rt, KEPT)?;
+    run(&rt, DROPPED)?;
+    run(&rt, RESTRICTED)?;
+    run(&rt, FORCED)?;
+    run(&rt, MEMBERS)?;
+    run(&rt, INDEXED)?;
+    run(&rt, LOADED)?;
     Ok(run(&rt, STATEMENTS)?)
 }
 
@@ -296,48 +256,17 @@ fn ask_all(
 }
 
 #[test]
-fn of_65_plans_the_first_is_dropped(rt: HostRuntime) -> Result<(), Fail> {
+fn the_least_recently_used_of_65_plans_is_dropped(rt: HostRuntime) -> Result<(), Fail> {
     let mut core = asked_below(&rt, 65)?;
-    Ok(ask_all(&rt, &mut core, [(0, 0), (64, 1)].as_slice())?)
-}
-
-#[test]
-fn of_65_plans_the_least_recently_used_is_dropped(rt: HostRuntime) -> Result<(), Fail> {
+    ask_all(&rt, &mut core, [(0, 0), (64, 1)].as_slice())?;
     let mut core = asked_below(&rt, 64)?;
     let look_ups = [(0, 1), (64, 1), (0, 2), (1, 2), (2, 2), (64, 3)];
-    Ok(ask_all(&rt, &mut core, look_ups.as_slice())?)
-}
-
-#[test]
-fn keys_of_older_numbers_keep_their_places(rt: HostRuntime) -> Result<(), Fail> {
+    ask_all(&rt, &mut core, look_ups.as_slice())?;
+    // Keys of older numbers keep their places.
     let mut core = asked_below(&rt, 63)?;
     take(&rt, &mut core, "change 0 CREATE ROLE y => ok")?;
-    Ok(ask_all(&rt, &mut core, [(0, 0), (1, 0), (0, 1), (1, 2)].as_slice())?)
-}
-
-#[test]
-fn a_text_that_is_too_long_has_no_plan(rt: HostRuntime) -> Result<(), Fail> {
-    let mut core = sales_core(rt.alloc())?;
-    take(&rt, &mut core, "login alice => session 0")?;
-    let mut row = String::from_str(rt.alloc(), "ask 0 ")?;
-    for _ in 0..65_537u64 {
-        row.push_str(" ")?;
-    }
-    row.push_str(" => refused 54000")?;
-    take(&rt, &mut core, row.as_str())?;
-    take(
-        &rt,
-        &mut core,
-        "ask 0 SELECT id FROM deal => id / 1 / 2 / 5",
-    )?;
-    assert_eq!(&rt; core.hits(), 0);
-    take(
-        &rt,
-        &mut core,
-        "ask 0 SELECT id FROM deal => id / 1 / 2 / 5",
-    )?;
-    assert_eq!(&rt; core.hits(), 1);
-    Ok(())
+    let look_ups = [(0, 0), (1, 0), (0, 1), (1, 2)];
+    Ok(ask_all(&rt, &mut core, look_ups.as_slice())?)
 }
 
 const JOIN: &str = "SELECT d.id, r.name FROM deal d, region r WHERE d.region = r.id";

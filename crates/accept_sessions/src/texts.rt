@@ -83,18 +83,14 @@ execute 0 s => id / 1 / 2 / 5
 ";
 
 #[test]
-fn cursors_keep_their_rows(rt: HostRuntime) -> Result<(), Fail> {
-    Ok(run(&rt, KEPT)?)
+fn cursors_keep_their_rows_and_give_them_once(rt: HostRuntime) -> Result<(), Fail> {
+    run(&rt, KEPT)?;
+    Ok(run(&rt, FETCHES)?)
 }
 
 #[test]
 fn refused_declares_make_no_cursor(rt: HostRuntime) -> Result<(), Fail> {
     Ok(run(&rt, NONE_MADE)?)
-}
-
-#[test]
-fn fetches_go_through_the_rows_once(rt: HostRuntime) -> Result<(), Fail> {
-    Ok(run(&rt, FETCHES)?)
 }
 
 #[test]
