@@ -5,6 +5,8 @@
 #[cfg(test)]
 mod changes;
 #[cfg(test)]
+mod kept_plans;
+#[cfg(test)]
 mod limits;
 #[cfg(test)]
 mod memory_refused;
@@ -20,7 +22,5 @@ mod roles;
 mod script_lines;
 #[cfg(test)]
 mod scripts;
-#[cfg(test)]
-mod shared_plans;
 #[cfg(test)]
 mod texts;
