@@ -1,5 +1,6 @@
 pub mod AggregateAgreement
 pub mod Agreement
+pub mod Comparing
 pub mod Conditions
 pub mod Faultless
 pub mod Measures

@@ -1,11 +1,12 @@
 //! Expressions that never fault.
 
-ghost use Rattle.std.specs.Prelude.{◌≡◌, IfSome, List, Ok, true, ℕ};
+ghost use Rattle.std.specs.Prelude.{◌≡◌, Ok, true};
 ghost use Rattle.value.specs.Datum.{datum_of};
 ghost use Rattle.value.specs.Orders as orders;
 ghost use Rattle.expr.specs.View.{bound_expr_of};
 ghost use Rattle.expr.specs.Movable.{movable};
-ghost use Rattle.eval.specs.Meaning.{Cells, holds, is_true_outcome, meaning};
+ghost use Rattle.eval.specs.Comparing as comparing;
+ghost use Rattle.eval.specs.Meaning.{holds, is_true_outcome, meaning};
 ghost use Rattle.eval.specs.Operators.{comparison_of};
 
 use crate::evaluating::eval;
@@ -40,7 +41,7 @@ fn is_true<A: Heap>(value: &Val<'_, A>) -> bool
 
 // The comparison of two columns that an expression is, if it is one.
 fn column_comparison<A: Heap>(expression: &BoundExpr<A>) -> Option<(Comparison, ColumnId, ColumnId)>
-    ensures { IfSome result (λ c. (cells : Cells) (role : List ℕ) → holds cells role (bound_expr_of expression.now) ≡ orders.is_true (comparison_of c.0 (cells.column c.1) (cells.column c.2))) }
+    ensures { result ≡ comparing.column_comparison (bound_expr_of expression.now) }
 {
     let BoundExpr::Comparison {
         operator,
