@@ -1,6 +1,7 @@
 pub mod Combinations
 pub mod Guards
 pub mod Rows
+pub mod Sinks
 pub mod Slots
 pub mod View
 pub mod World
