@@ -1,5 +1,5 @@
 -- The groups of members that come one after the other.
-use Rattle.std.proofs.Common.{◌≡◌, ◌==◌, Bool, true, false, true≢false, arith, length, cond, List, [], ◌∷◌, ◌++◌, map, filter, ◌<◌, refl, sym, ap, ap₂, subst, ◌∙◌, Ordering, Less, Equal, Greater, is_eq, Option, Some, None, unwrap_or, Vec}
+use Rattle.std.proofs.Common.{◌≡◌, ◌==◌, Bool, true, false, arith, length, cond, List, [], ◌∷◌, ◌++◌, map, filter, ◌<◌, refl, sym, ap, ap₂, subst, ◌∙◌, Ordering, Less, Equal, Greater, is_eq, Option, Some, None, unwrap_or, Vec}
 use Rattle.std.specs.List.{AllByRecursion}
 use Rattle.std.specs.List.Sorted.{IsStrictlySortedBy}
 use Rattle.std.specs.Ordering.{match_ordering}

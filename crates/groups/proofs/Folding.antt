@@ -1,27 +1,24 @@
 -- The groups of some combinations, and then of the rest.
 use Rattle.std.proofs.Common.{◌≡◌, List, [], ◌∷◌, ◌++◌, map, refl, sym, ap, ap₂, subst, ◌∙◌, Result, Ok, Err, Option, Some, None}
-use Rattle.std.specs.List.{AllByRecursion, cons_option, filter_map}
+use Rattle.std.specs.List.{AllByRecursion, filter_map}
 use Rattle.std.proofs.lemmas.List.{append-nil, append_assoc}
 use Rattle.memory.specs.Gives.{Gives}
-use Rattle.memory.specs.Results.{and_then}
 use Rattle.memory.specs.declared.failure.Failure.{Failure}
 use Rattle.memory.specs.declared.failure.Failure.TheVariants as failures
 use Rattle.bags.specs.Least.{lesser, least}
 use Rattle.bags.proofs.Least.{lesser_none, lesser_assoc}
-use Rattle.value.specs.Datum.{Row}
 use Rattle.value.specs.Names.{Name}
 use Rattle.value.specs.declared.faults.Fault.{Fault}
 use Rattle.expr.specs.declared.bound.ColumnId.{ColumnId}
 use Rattle.expr.specs.Aggregates.{AggregateCall}
 use Rattle.eval.specs.Meaning.{Cells}
-use Rattle.groups.specs.Stages.{Fate, fault_cmp, fault_in, given_in, gives, stage, unless_fault}
+use Rattle.groups.specs.Stages.{Fate, fault_cmp, fault_in, given_in, gives, unless_fault}
 use Rattle.groups.proofs.FaultOrder.{fault_total}
 use Rattle.groups.specs.declared.members.Member as code
 use Rattle.groups.specs.declared.groups.Groups.{Groups}
-use Rattle.groups.specs.Members.{Member, arguments, key_on, member_on, with_key}
+use Rattle.groups.specs.Members.{Member, member_on}
 use Rattle.groups.specs.Groups.{groups_of}
-use Rattle.groups.specs.GroupRow.{group_rows}
-use Rattle.groups.specs.Running.{RunningGroup, finished_rows, put_running, running_groups}
+use Rattle.groups.specs.Running.{RunningGroup, put_running, running_groups}
 use Rattle.groups.specs.Taking.{Takes, TakesOutcome, totals_in}
 use Rattle.groups.specs.View.{member_of}
 use Rattle.groups.proofs.ClassLaws.{totals_more}

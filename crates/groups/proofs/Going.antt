@@ -1,5 +1,5 @@
 -- A stage goes on: its values so far, and then the rest.
-use Rattle.std.proofs.Common.{◌≡◌, Bool, true, false, List, [], ◌∷◌, ◌++◌, map, refl, sym, ap, ap₂, subst, ◌∙◌, Result, Ok, Err, Option, Some, None}
+use Rattle.std.proofs.Common.{◌≡◌, List, [], ◌∷◌, ◌++◌, map, refl, sym, ap, ap₂, ◌∙◌, Result, Ok, Err, Option, Some, None}
 use Rattle.std.specs.List.{filter_map}
 use Rattle.std.specs.Prelude.{option_map}
 use Rattle.std.proofs.lemmas.List.{append_assoc, append-nil, map-append}
@@ -9,8 +9,8 @@ use Rattle.memory.specs.declared.failure.Failure.TheVariants as failures
 use Rattle.bags.specs.Least.{lesser, least}
 use Rattle.bags.proofs.Least.{lesser_none, lesser_assoc}
 use Rattle.value.specs.declared.faults.Fault.{Fault}
-use Rattle.groups.specs.Stages.{Fate, fault_cmp, fault_in, given_in, gives, gives_if, unless_fault, stage}
-use Rattle.groups.specs.Progress.{Adds, given, given_if}
+use Rattle.groups.specs.Stages.{Fate, fault_cmp, fault_in, given_in, gives, unless_fault, stage}
+use Rattle.groups.specs.Progress.{Adds, given}
 use Rattle.groups.specs.declared.stage.Stage.{Stage}
 use Rattle.groups.proofs.FaultOrder.{fault_total}
 

@@ -1,3 +1,4 @@
+pub mod ArgumentLaws
 pub mod Cells
 pub mod ClassLaws
 pub mod ClassValues

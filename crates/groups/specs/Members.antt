@@ -7,7 +7,7 @@ use Rattle.expr.specs.declared.bound.ColumnId.{ColumnId}
 use Rattle.expr.specs.Bound.{BoundExpr}
 use Rattle.expr.specs.Aggregates.{AggregateCall}
 use Rattle.eval.specs.Meaning.{Cells, Outcome, meaning}
-use Rattle.memory.specs.Results.{first_then}
+use Rattle.memory.specs.Results.{first_then, on_each}
 
 -- the values of the GROUP BY columns, and those of the arguments of all aggregates, in written order
 pub record Member : Type 0 where
@@ -24,6 +24,14 @@ module _ (cells : Cells) (role : Name) where
   abbrev pub arguments : List AggregateCall → Result Row Fault
   arguments [] = Ok []
   arguments (c ∷ calls) = first_then (argument c.argument) (arguments calls)
+
+  -- the outcome of each argument
+  abbrev pub argument_outcomes : List AggregateCall → List Outcome
+  argument_outcomes calls = map (λ c. argument c.argument) calls
+
+-- the values of all outcomes, or the first fault
+abbrev pub all_of : List Outcome → Result Row Fault
+all_of outcomes = on_each (λ o. o) outcomes
 
 abbrev pub key_on : Cells → List ColumnId → Row
 key_on cells columns = map (λ id. cells.column id) columns

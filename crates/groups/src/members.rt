@@ -1,14 +1,14 @@
 //! The members of groups.
 
-ghost use Rattle.std.specs.Prelude.{◌≡◌, IfOk, option_map};
+ghost use Rattle.std.specs.Prelude.{◌≡◌, ◌<◌, List, length, IfOk, Ok, slice_index_or};
 ghost use Rattle.memory.specs.Gives.{Gives};
-ghost use Rattle.value.specs.Datum.{datum_of, row_of};
-ghost use Rattle.expr.specs.View.{aggregate_calls_of, bound_expr_of};
+ghost use Rattle.value.specs.Datum.{datum_of, null, row_of};
+ghost use Rattle.eval.specs.Meaning.{Outcome};
 ghost use Rattle.groups.specs.Members as spec;
 ghost use Rattle.groups.specs.View.{lent_row, member_of};
 
-use eval::{Row, eval};
-use expr::{AggregateCall, BoundExpr, ColumnId};
+use eval::Row;
+use expr::ColumnId;
 use memory::{Failure, Heap, Items};
 use std::alloc::AllocError;
 use value::{Fault, Val, Value};
@@ -37,49 +37,46 @@ fn key_on<A: Heap, R: Row<A>>(
     Ok(key)
 }
 
-// The value of the argument of an aggregate on the row; count(*) has none, and counts every row.
-fn argument_on<'r, A: Heap, R: Row<A>>(
-    alloc: A,
-    argument: Option<&'r BoundExpr<A>>,
-    row: &'r R,
-    role: &'r str,
-) -> Result<Val<'r, A>, Failure<Fault>>
-    ensures { Gives (λ v. datum_of v) result (spec.argument (R.cells row.now) role.now (option_map (λ e. bound_expr_of e.now) argument.entry)) }
-{
-    match argument {
-        None => Ok(Val::Bool(true)),
-        Some(expression) => eval(alloc, expression, row, role),
-    }
+/// The arguments of aggregates on one row.
+pub trait Arguments<A: Heap> {
+    /// Their outcomes, in written order.
+    ghost outcomes: { Self → List Outcome };
+
+    /// How many there are.
+    fn count(&self) -> usize
+        ensures { result ≡ length (outcomes self.now) };
+
+    /// The value of the one at an index, or its fault.
+    fn argument(&self, alloc: A, index: usize) -> Result<Val<'_, A>, Failure<Fault>>
+        requires { index < length (outcomes self.now) }
+        ensures { Gives (λ v. datum_of v) result (slice_index_or (outcomes self.now) index (Ok null)) };
 }
 
-// The values of the arguments of all aggregates on the row, or the first fault.
+// The values of the arguments, or their first fault.
 #[tactic(auto, using(crate::proofs::Walks::walks))]
-fn arguments_on<'r, A: Heap, R: Row<A>>(
+fn values_of<'r, A: Heap, G: Arguments<A>>(
     alloc: A,
-    calls: &[AggregateCall<'r, A>],
-    row: &'r R,
-    role: &'r str,
+    arguments: &'r G,
 ) -> Result<Items<Val<'r, A>, A>, Failure<Fault>>
-    ensures { Gives (λ values. lent_row values) result (spec.arguments (R.cells row.now) role.now (aggregate_calls_of calls.now)) }
+    ensures { Gives (λ values. lent_row values) result (spec.all_of (G.outcomes arguments.now)) }
 {
     let mut values = Items::new(alloc);
-    for call in calls {
-        values.push(argument_on(alloc, call.argument, row, role)?)?;
+    for index in 0..arguments.count() {
+        values.push(arguments.argument(alloc, index)?)?;
     }
     Ok(values)
 }
 
 /// A row's group key and aggregate arguments, or the first fault of the arguments.
-pub fn member_on<'r, A: Heap, R: Row<A>>(
+pub fn member_on<'r, A: Heap, R: Row<A>, G: Arguments<A>>(
     alloc: A,
     columns: &[ColumnId],
-    calls: &[AggregateCall<'r, A>],
-    row: &'r R,
-    role: &'r str,
+    row: &R,
+    arguments: &'r G,
 ) -> Result<Member<'r, A>, Failure<Fault>>
-    ensures { Gives (λ m. member_of m) result (spec.member_on (R.cells row.now) role.now columns.now (aggregate_calls_of calls.now)) }
+    ensures { Gives (λ m. member_of m) result (spec.with_key (spec.key_on (R.cells row.now) columns.now) (spec.all_of (G.outcomes arguments.now))) }
 {
     let key = key_on(alloc, columns, row)?;
-    let arguments = arguments_on(alloc, calls, row, role)?;
+    let arguments = values_of(alloc, arguments)?;
     Ok(Member { key, arguments })
 }
