@@ -1,5 +1,5 @@
 -- What is held, with one more outcome or combination, and the answer from it.
-use Rattle.std.proofs.Common.{◌≡◌, ℕ, zero, suc, ◌+◌, ◌<◌, ◌≤◌, Bool, true, false, List, [], ◌∷◌, ◌++◌, length, get_or, map, take, refl, sym, ap, ap₂, ◌∙◌, subst, arith, Result, Ok, Err, Option, Some, None, OnOk, option_to_list}
+use Rattle.std.proofs.Common.{◌≡◌, ℕ, ◌+◌, ◌<◌, Bool, true, false, List, [], ◌∷◌, ◌++◌, length, get_or, map, take, refl, sym, ap, ap₂, ◌∙◌, subst, Result, Ok, Err, Option, Some, None, OnOk, option_to_list, Vec}
 use Rattle.std.proofs.lemmas.List.{append-nil, map-append, take_more}
 use Rattle.memory.specs.Gives.{IsFailure}
 use Rattle.memory.specs.Results.{and_then}
@@ -14,7 +14,7 @@ use Rattle.expr.specs.Aggregates.{AggregateCall}
 use Rattle.expr.specs.Bound.{BoundExpr}
 use Rattle.expr.specs.BoundQuery.{BoundQuery}
 use Rattle.expr.specs.Conjuncts.{fragile_conjuncts}
-use Rattle.expr.specs.View.{aggregate_calls_of, bound_expr_of}
+use Rattle.expr.specs.View.{aggregate_calls_of}
 use Rattle.expr.specs.declared.bound.ColumnId.{ColumnId}
 use Rattle.expr.specs.declared.query.OutputKey.{OutputKey}
 use Rattle.eval.specs.Meaning.{Cells, ◌>>=◌}
@@ -36,25 +36,26 @@ use Rattle.tuples.specs.declared.slot.Slot.{Slot}
 use Rattle.report.specs.declared.answer_rows.AnswerRows.{AnswerRows}
 use Rattle.report.specs.declared.answering.Answering.{Answering}
 use Rattle.report.specs.declared.gathered.Gathered.{Gathered}
+use Rattle.report.specs.declared.marked.Marked.{Marked}
+use Rattle.report.specs.declared.marks.Marks.{Marks}
 use Rattle.report.specs.Answer.{answer, rows_of_kept}
 use Rattle.report.specs.Answering.{Gathers, HoldsGroups, HoldsRows, Took, all_given, least_fault}
 use Rattle.report.specs.Held.{held}
+use Rattle.report.specs.Marks.{AreMarked, AreMarksOf, exprs_of, seen_of}
+use Rattle.report.proofs.Marking.{with_conditions}
 use Rattle.report.specs.QueryStages.{arguments_fate, keeps, query_aggregates, where_fate}
 
 pub on_ok : {T E P Q : Type 0} (r : Result T E) → (P → Q) → OnOk r P → OnOk r Q
 on_ok (Ok x) f h = f h
 on_ok (Err e) f h = h
 
+pub on_both : {T E P Q R : Type 0} (r : Result T E) → (P → Q → R) → OnOk r P → OnOk r Q → OnOk r R
+on_both (Ok x) f h k = f h k
+on_both (Err e) f h k = h
+
 -- the first elements with the next one
 pub next_taken : {X : Type 0} (xs : List X) (i : ℕ) (x : X) → i < length xs → x ≡ get_or xs i x → take (i + 1) xs ≡ take i xs ++ x ∷ []
 next_taken xs i x lt is = take_more xs i x lt ∙ ap (λ y. take i xs ++ y ∷ []) (sym is)
-
--- and all
-pub all_taken : {X : Type 0} (xs : List X) (n : ℕ) → length xs ≤ n → take n xs ≡ xs
-all_taken [] zero le = refl
-all_taken [] (suc n) le = refl
-all_taken (x ∷ xs) zero le = absurd (omega arith)
-all_taken (x ∷ xs) (suc n) le = ap (λ l. x ∷ l) (all_taken xs n (omega arith))
 
 -- ---- outcomes
 
@@ -149,58 +150,63 @@ module _ {A : Type 0} (w : World) (s : Answering A) (these : List Combination) (
   last_fate : (fate : Fate Combination) → fate_of c ≡ fate → map fate_of these ++ fate ∷ [] ≡ map fate_of (these ++ c ∷ [])
   last_fate fate is = ap (λ f. map fate_of these ++ f ∷ []) (sym is) ∙ sym (map-append fate_of these (c ∷ []))
 
-  pub took_kept : (g : Gathered A) → test ≡ Ok true → Gathers w g (all_given (map fate_of these) ++ c ∷ []) → Took w (record s { gathered = g }) (these ++ c ∷ [])
-  took_kept g is gathered =
+  pub took_kept : (g : Gathered A) (m : Marks A) → AreMarksOf w m → test ≡ Ok true → Gathers w g (all_given (map fate_of these) ++ c ∷ []) → Took w (record s { gathered = g; marks = m }) (these ++ c ∷ [])
+  took_kept g m marks is gathered =
       let last = last_fate (Ok (Some c)) (ap (gives_if c) is) in
       record {
         world = h.world;
-        conditions = h.conditions;
+        marks = marks;
         calls = h.calls;
         fault = h.fault ∙ same_least (map fate_of these) (Some c) ∙ ap least_fault last;
         kept = subst (Gathers w g) (sym (given_more (map fate_of these) (Ok (Some c))) ∙ ap all_given last) gathered;
       }
 
-  pub took_dropped : test ≡ Ok false → Took w s (these ++ c ∷ [])
-  took_dropped is =
+  pub took_dropped : (m : Marks A) → AreMarksOf w m → test ≡ Ok false → Took w (record s { marks = m }) (these ++ c ∷ [])
+  took_dropped m marks is =
       let last = last_fate (Ok None) (ap (gives_if c) is) in
       record {
         world = h.world;
-        conditions = h.conditions;
+        marks = marks;
         calls = h.calls;
         fault = h.fault ∙ same_least (map fate_of these) None ∙ ap least_fault last;
         kept = subst (Gathers w s.gathered) (nothing_given (map fate_of these) (Ok None) refl ∙ ap all_given last) h.kept;
       }
 
-  pub took_fault : (filter : Stage (Unit {0}) A) (failure : Failure Fault) → IsFailure failure test → Adds (Err failure) s.filter filter → Took w (record s { filter = filter }) (these ++ c ∷ [])
-  took_fault filter (failures.Error f) is adds =
+  pub took_fault : (filter : Stage (Unit {0}) A) (m : Marks A) → AreMarksOf w m → (failure : Failure Fault) → IsFailure failure test → Adds (Err failure) s.filter filter → Took w (record s { filter = filter; marks = m }) (these ++ c ∷ [])
+  took_fault filter m marks (failures.Error f) is adds =
       let last = last_fate (Err f) (ap (gives_if c) is) in
       record {
         world = h.world;
-        conditions = h.conditions;
+        marks = marks;
         calls = h.calls;
         fault = adds.1 ∙ ap (λ o. lesser fault_cmp o (Some f)) h.fault ∙ sym (least_more (map fate_of these) (Err f)) ∙ ap least_fault last;
         kept = subst (Gathers w s.gathered) (nothing_given (map fate_of these) (Err f) refl ∙ ap all_given last) h.kept;
       }
-  took_fault filter failures.OutOfMemory is adds = absurd adds
+  took_fault filter m marks failures.OutOfMemory is adds = absurd adds
 
 module _ {A : Type 0} (w : World) (s : Answering A) where
   abbrev conditions : List BoundExpr
-  conditions = map (λ e. bound_expr_of e.now) s.conditions.items
+  conditions = exprs_of s.marks.conditions.items
 
   -- the test of a combination in the world that is asked
   pub test_in : (P : Result Bool Fault → Type 0) (slots : List Slot) (these : List Combination) → Took w s these →
-      (let v = world_of s.world.now in P (keeps (joined_cells (combination_at v.tables slots)) v.role conditions)) → P (keeps (joined_cells (combination_at w.tables slots)) w.role (fragile_conjuncts w.query))
+      (let v = world_of s.world.now in AreMarked v s.marks.conditions.items → P (keeps (joined_cells (combination_at v.tables slots)) v.role conditions)) → P (keeps (joined_cells (combination_at w.tables slots)) w.role (fragile_conjuncts w.query))
   test_in P slots these h p =
-      subst (λ es. P (keeps (joined_cells (combination_at w.tables slots)) w.role es)) h.conditions
-      (subst (λ v. P (keeps (joined_cells (combination_at v.tables slots)) v.role conditions)) h.world p)
+      subst (λ es. P (keeps (joined_cells (combination_at w.tables slots)) w.role es)) h.marks.conditions
+      (subst (λ v. AreMarked v s.marks.conditions.items → P (keeps (joined_cells (combination_at v.tables slots)) v.role conditions)) h.world p h.marks.marked_conditions)
+
+  -- its marks after the test
+  pub tested_in : (cs : Vec (Marked A) A) (these : List Combination) → Took w s these → map (λ c. seen_of c) cs.items ≡ map (λ c. seen_of c) s.marks.conditions.items →
+      (AreMarked (world_of s.world.now) s.marks.conditions.items → AreMarked (world_of s.world.now) cs.items) → AreMarksOf w (record s.marks { conditions = cs })
+  tested_in cs these h same marked = with_conditions w s.marks h.marks cs same (subst (λ v. AreMarked v s.marks.conditions.items → AreMarked v cs.items) h.world marked h.marks.marked_conditions)
 
   -- and what is gathered in it
-  abbrev Gathering : {E : Type 0} → Result (Unit {0}) E → Gathered A → List Slot → World → Type 0
-  Gathering r g slots v = (kept : List Combination) → aggregate_calls_of s.calls ≡ query_aggregates v.query → Gathers v s.gathered kept → OnOk r (Gathers v g (kept ++ combination_at v.tables slots ∷ []))
+  abbrev Gathering : {E : Type 0} → Result (Unit {0}) E → Gathered A → Marks A → List Slot → World → Type 0
+  Gathering r g m slots v = (kept : List Combination) → aggregate_calls_of s.calls ≡ query_aggregates v.query → AreMarksOf v m → Gathers v s.gathered kept → OnOk r (Gathers v g (kept ++ combination_at v.tables slots ∷ []))
 
-  pub gathered_in : {E : Type 0} (r : Result (Unit {0}) E) (g : Gathered A) (slots : List Slot) (these : List Combination) → Took w s these → Gathering r g slots (world_of s.world.now) →
+  pub gathered_in : {E : Type 0} (r : Result (Unit {0}) E) (g : Gathered A) (m : Marks A) (slots : List Slot) (these : List Combination) → Took w s these → AreMarksOf w m → Gathering r g m slots (world_of s.world.now) →
       OnOk r (Gathers w g (all_given (map (where_fate w.role w.query) these) ++ combination_at w.tables slots ∷ []))
-  gathered_in r g slots these h more = subst (Gathering r g slots) h.world more _ h.calls h.kept
+  gathered_in r g m slots these h are more = subst (Gathering r g m slots) h.world more _ h.calls are h.kept
 
   -- ---- the answer
 

@@ -7,8 +7,7 @@ use Rattle.value.specs.declared.faults.Fault.{Fault}
 use Rattle.expr.specs.declared.bound.ColumnId.{ColumnId}
 use Rattle.expr.specs.declared.query.OutputKey.{OutputKey}
 use Rattle.expr.specs.Aggregates.{AggregateCall}
-use Rattle.expr.specs.Conjuncts.{fragile_conjuncts}
-use Rattle.expr.specs.View.{aggregate_calls_of, bound_expr_of}
+use Rattle.expr.specs.View.{aggregate_calls_of}
 use Rattle.groups.specs.Stages.{Fate, fault_cmp, fault_in, given_in}
 use Rattle.groups.specs.declared.groups.Groups.{Groups}
 use Rattle.groups.specs.Groups.{groups_of}
@@ -23,6 +22,7 @@ use Rattle.report.specs.declared.gathered.Gathered as gathered
 use Rattle.report.specs.declared.gathered.Gathered.TheVariants as code
 use Rattle.report.specs.declared.answering.Answering.{Answering}
 use Rattle.report.specs.Held.{held}
+use Rattle.report.specs.Marks.{AreMarksOf}
 use Rattle.report.specs.QueryStages.{where_fate, items_fate, arguments_fate, query_aggregates}
 
 -- ---- of the outcomes of a stage
@@ -55,7 +55,7 @@ Gathers w (code.Rows rows) kept = (w.query.is_grouped ≡ false) × HoldsRows w.
 -- it was asked in this world, and has taken these: the least fault of stage WHERE, and what is held of those that it keeps
 pub record Took {A : Type 0} (w : World) (s : Answering A) (these : List Combination) : Type 0 where
   pub world : world_of s.world.now ≡ w
-  pub conditions : map (λ e. bound_expr_of e.now) s.conditions.items ≡ fragile_conjuncts w.query
+  pub marks : AreMarksOf w s.marks
   pub calls : aggregate_calls_of s.calls ≡ query_aggregates w.query
   pub fault : s.filter.least ≡ least_fault (map (where_fate w.role w.query) these)
   pub kept : Gathers w s.gathered (all_given (map (where_fate w.role w.query) these))

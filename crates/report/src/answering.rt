@@ -9,10 +9,11 @@ ghost use Rattle.tuples.specs.World as spec;
 ghost use Rattle.report.specs.Answer.{answer};
 ghost use Rattle.report.specs.Answering.{Took};
 
+use crate::conditions::keeps_combination;
 use crate::gathered::Gathered;
 use crate::grouped::query_aggregates;
-use crate::ungrouped::keeps_combination;
-use expr::{AggregateCall, BoundExpr, fragile_conjuncts};
+use crate::marks::Marks;
+use expr::AggregateCall;
 use groups::Stage;
 use memory::{Failure, Heap, Items};
 use std::alloc::AllocError;
@@ -25,10 +26,10 @@ use value::{Fault, Value};
 pub struct Answering<'w, A: Heap> {
     alloc: A,
     world: &'w World<'w, A>,
-    // The fragile conjuncts of the query.
-    conditions: Vec<&'w BoundExpr<A>, A>,
-    // Its aggregates.
+    // The aggregates of the query.
     calls: Items<AggregateCall<'w, A>, A>,
+    // Its expressions, with the marks that are made.
+    marks: Marks<'w, A>,
     // The least fault of stage WHERE; no value is given on.
     filter: Stage<(), A>,
     gathered: Gathered<A>,
@@ -39,14 +40,14 @@ impl<'w, A: Heap> Answering<'w, A> {
     pub fn new(alloc: A, world: &'w World<'w, A>) -> Result<Answering<'w, A>, AllocError>
         ensures { IfOk result (λ s. Took (world_of world.now) s []) }
     {
-        let conditions = fragile_conjuncts(alloc, world.query)?;
         let calls = query_aggregates(alloc, world.query)?;
+        let marks = Marks::new(alloc, &*world, calls.as_slice())?;
         let gathered = Gathered::new(alloc, &*world, calls.as_slice())?;
         Ok(Answering {
             alloc,
             world,
-            conditions,
             calls,
+            marks,
             filter: Stage::new(alloc),
             gathered,
         })
@@ -69,18 +70,35 @@ impl<'w, A: Heap> Sink<Combo<A>> for Answering<'w, A> {
     ghost use Rattle.std.specs.Prelude.{map};
     ghost use Rattle.tuples.specs.World.{combination_at};
     ghost use Rattle.report.specs.Answering.{Took};
+    ghost use Rattle.report.specs.Marked.{keeps_row};
 
     ghost took = { λ s w these. Took w s (map (combination_at w.tables) these) };
+
+    ghost wants = { λ w entry number. keeps_row w entry number };
+
+    fn chooses(&self, entry: usize) -> bool {
+        self.marks.chooses(entry)
+    }
+
+    fn wants(&mut self, entry: usize, number: u32) -> Result<bool, AllocError> {
+        self.marks.keeps_row(self.alloc, self.world, entry, number)
+    }
 
     fn take(&mut self, combination: Combo<A>) -> Result<(), AllocError> {
         match keeps_combination(
             self.alloc,
             self.world,
-            self.conditions.as_slice(),
+            &mut self.marks.conditions,
             &combination,
         ) {
             Ok(true) => {
-                self.gathered.add(self.alloc, self.world, self.calls.as_slice(), &combination)
+                self.gathered.add(
+                    self.alloc,
+                    self.world,
+                    self.calls.as_slice(),
+                    &mut self.marks,
+                    &combination,
+                )
             }
             Ok(false) => Ok(()),
             Err(failure) => self.filter.add(Err(failure)),

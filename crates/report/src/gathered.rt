@@ -9,10 +9,12 @@ ghost use Rattle.tuples.specs.View.{world_of};
 ghost use Rattle.tuples.specs.World.{combination_at};
 ghost use Rattle.report.specs.Answer.{rows_of_kept};
 ghost use Rattle.report.specs.Answering.{Gathers};
+ghost use Rattle.report.specs.Marks.{AreMarksOf};
 ghost use Rattle.report.specs.QueryStages.{query_aggregates};
 
 use crate::answer_rows::AnswerRows;
 use crate::grouped::{add_combination, rows_of_groups};
+use crate::marks::Marks;
 use crate::ungrouped::add_items;
 use expr::AggregateCall;
 use groups::Groups;
@@ -54,20 +56,19 @@ impl<A: Heap> Gathered<A> {
         alloc: A,
         world: &World<'_, A>,
         calls: &[AggregateCall<'_, A>],
+        marks: &mut Marks<'_, A>,
         combination: &Combo<A>,
     ) -> Result<(), AllocError>
-        ensures { let w = world_of world.now in (kept : List Combination) → aggregate_calls_of calls.now ≡ query_aggregates w.query → Gathers w self.old kept →
+        ensures taken { let w = world_of world.now in (kept : List Combination) → aggregate_calls_of calls.now ≡ query_aggregates w.query → AreMarksOf w marks.old → Gathers w self.old kept →
             OnOk result (Gathers w self.new (kept ++ combination_at w.tables combination.now ∷ [])) }
+        ensures marks { AreMarksOf (world_of world.now) marks.old → OnOk result (AreMarksOf (world_of world.now) marks.new) }
     {
         match self {
-            Gathered::Groups(groups) => add_combination(
-                alloc,
-                &*world,
-                &*calls,
-                groups,
-                combination,
-            ),
-            Gathered::Rows(rows) => add_items(alloc, world, rows, combination),
+            Gathered::Groups(groups) => {
+                let arguments = &mut marks.arguments;
+                add_combination(alloc, world, calls, arguments, groups, combination)
+            }
+            Gathered::Rows(rows) => add_items(alloc, world, &mut marks.items, rows, combination),
         }
     }
 

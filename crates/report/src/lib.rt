@@ -4,14 +4,19 @@
 
 mod answer_rows;
 mod answering;
+mod conditions;
 mod gathered;
 mod grouped;
 mod laws;
+mod mark_column;
+mod marked;
+mod marked_arguments;
+mod marks;
 mod order_laws;
 mod ordering;
 mod outcomes;
 mod ungrouped;
 
 pub use answering::Answering;
-pub use laws::{law_hidden_rows, law_order_of_combinations};
+pub use laws::{law_dropped_rows, law_hidden_rows, law_order_of_combinations};
 pub use order_laws::law_ordered_rows;

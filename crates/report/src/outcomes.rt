@@ -2,26 +2,23 @@
 
 ghost use Rattle.std.specs.Prelude.{map};
 ghost use Rattle.memory.specs.Gives.{Gives};
-ghost use Rattle.value.specs.Datum.{datum, row_of};
+ghost use Rattle.value.specs.Datum.{datum, datum_of, row_of};
 ghost use Rattle.expr.specs.View.{bound_expr_of, bound_item_of, bound_items_of};
-ghost use Rattle.eval.specs.Meaning.{meaning};
+ghost use Rattle.eval.specs.Meaning.{Outcome, meaning};
 ghost use Rattle.report.specs.QueryStages.{truth_in, keeps, values_of};
 
 use eval::{Row, eval};
 use expr::{BoundExpr, BoundItem};
 use memory::{Failure, Heap, Items};
-use value::{Fault, Truth, Value, as_condition};
+use value::{Fault, Truth, Val, Value, as_condition};
 
-// True where a condition is true on the row.
-fn truth_in<A: Heap, R: Row<A>>(
-    alloc: A,
-    condition: &BoundExpr<A>,
-    row: &R,
-    role: &str,
+/// True where the outcome of a condition is true; null and false are not.
+pub(crate) fn truth_in<A: Heap>(
+    outcome: Result<Val<'_, A>, Failure<Fault>>,
 ) -> Result<bool, Failure<Fault>>
-    ensures { Gives (λ b. b) result (truth_in (meaning (R.cells row.now) role.now (bound_expr_of condition.now))) }
+    ensures { (m : Outcome) → Gives datum_of outcome.entry m → Gives (λ b. b) result (truth_in m) }
 {
-    match eval(alloc, condition, row, role) {
+    match outcome {
         Ok(value) => Ok(as_condition(&value) == Truth::True),
         Err(failure) => Err(failure),
     }
@@ -37,7 +34,7 @@ pub(crate) fn keeps<A: Heap, R: Row<A>>(
     ensures { Gives (λ b. b) result (keeps (R.cells row.now) role.now (map (λ e. bound_expr_of e.now) conditions.now)) }
 {
     for condition in conditions {
-        if !truth_in(alloc, condition, row, role)? {
+        if !truth_in(eval(alloc, condition, row, role))? {
             return Ok(false);
         }
     }

@@ -1,46 +1,74 @@
-//! The stages of a query without groups, of which WHERE is the first of every query.
+//! The items of a query without groups.
 
 ghost use Rattle.std.specs.Prelude.{◌≡◌, ◌++◌, [], ◌∷◌, List, OnOk, map};
 ghost use Rattle.memory.specs.Gives.{Gives};
-ghost use Rattle.expr.specs.View.{bound_expr_of};
-ghost use Rattle.tuples.specs.Combinations.{Combination, joined_cells};
+ghost use Rattle.value.specs.Datum.{datum, row_of};
+ghost use Rattle.groups.specs.Members.{all_of};
+ghost use Rattle.tuples.specs.Combinations.{Combination};
 ghost use Rattle.tuples.specs.View.{world_of};
 ghost use Rattle.tuples.specs.World.{combination_at};
 ghost use Rattle.report.specs.Answering.{HoldsRows};
+ghost use Rattle.report.specs.Marks.{AreMarked, exprs_of, outcome_in, seen_of};
 ghost use Rattle.report.specs.QueryStages as spec;
 
 use crate::answer_rows::AnswerRows;
-use crate::outcomes::{keeps, values};
-use expr::BoundExpr;
-use memory::{Failure, Heap};
+use crate::marked::Marked;
+use crate::marks::make_all;
+use eval::Row;
+use memory::{Failure, Heap, Items};
 use std::alloc::AllocError;
 use tuples::{Combo, JoinedRow, World};
-use value::Fault;
+use value::{Fault, Value};
 
-/// True where the conditions keep the combination.
-pub fn keeps_combination<A: Heap>(
+// The value of an item on a combination: that of its mark, where it is made; or its fault.
+fn item_on<A: Heap, R: Row<A>>(
     alloc: A,
-    world: &World<'_, A>,
-    conditions: &[&BoundExpr<A>],
+    item: &Marked<'_, A>,
     combination: &Combo<A>,
-) -> Result<bool, Failure<Fault>>
-    ensures { Gives (λ b. b) result (spec.keeps (joined_cells (combination_at (world_of world.now).tables combination.now)) world.now.role.now (map (λ e. bound_expr_of e.now) conditions.now)) }
+    row: &R,
+    role: &str,
+) -> Result<Value<A>, Failure<Fault>>
+    ensures { Gives (λ v. datum v) result (outcome_in (R.cells row.now) role.now combination.now item.now) }
 {
-    let row = JoinedRow::new(world.tables, combination);
-    keeps(alloc, conditions, &row, world.role)
+    match item.outcome(alloc, combination, row, role) {
+        Ok(value) => Ok(value.to_value(alloc)?),
+        Err(failure) => Err(failure),
+    }
 }
 
-/// Takes the items of one more combination, or their fault.
+// The values of items on a combination, or the first fault from left to right.
+#[tactic(auto, using(groups::proofs::Walks::walks))]
+fn items_on<A: Heap, R: Row<A>>(
+    alloc: A,
+    items: &[Marked<'_, A>],
+    combination: &Combo<A>,
+    row: &R,
+    role: &str,
+) -> Result<Items<Value<A>, A>, Failure<Fault>>
+    ensures { Gives (λ values. row_of values) result (all_of (map (λ m. outcome_in (R.cells row.now) role.now combination.now m) items.now)) }
+{
+    let mut values = Items::new(alloc);
+    for item in items {
+        values.push(item_on(alloc, item, combination, row, role)?)?;
+    }
+    Ok(values)
+}
+
+/// Takes the items of one more combination, or their fault. Their marks are made, unless they are made already.
 pub fn add_items<A: Heap>(
     alloc: A,
     world: &World<'_, A>,
+    items: &mut Vec<Marked<'_, A>, A>,
     rows: &mut AnswerRows<A>,
     combination: &Combo<A>,
 ) -> Result<(), AllocError>
-    ensures { let w = world_of world.now in (these : List Combination) → HoldsRows w.query.order_by w.query.limit rows.old (map (spec.items_fate w.role w.query) these) →
+    ensures taken { let w = world_of world.now in (these : List Combination) → AreMarked w items.old.items → exprs_of items.old.items ≡ map (λ i. i.value) w.query.items → HoldsRows w.query.order_by w.query.limit rows.old (map (spec.items_fate w.role w.query) these) →
         OnOk result (HoldsRows w.query.order_by w.query.limit rows.new (map (spec.items_fate w.role w.query) (these ++ combination_at w.tables combination.now ∷ []))) }
+    ensures seen { OnOk result (map (λ m. seen_of m) items.new.items ≡ map (λ m. seen_of m) items.old.items) }
+    ensures marked { AreMarked (world_of world.now) items.old.items → OnOk result (AreMarked (world_of world.now) items.new.items) }
 {
+    make_all(alloc, world, items, combination)?;
     let row = JoinedRow::new(world.tables, combination);
-    let outcome = values(alloc, world.query.items.as_slice(), &row, world.role);
+    let outcome = items_on(alloc, items.as_slice(), combination, &row, world.role);
     rows.add(world.query, outcome)
 }

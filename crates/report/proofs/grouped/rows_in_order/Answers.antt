@@ -4,7 +4,8 @@ use Rattle.groups.specs.View.{group_row_of}
 use Rattle.tuples.specs.View.{world_of}
 use Rattle.report.specs.Answering.{HoldsRows}
 use Rattle.report.specs.QueryStages.{group_items_fate}
-use Rattle.report.proofs.Taking.{all_taken, next_taken}
+use Rattle.report.proofs.Marking.{all_taken}
+use Rattle.report.proofs.Taking.{next_taken}
 use Rattle.report.proofs.grouped.rows_in_order.Goals as goal
 
 pub loop-group-init : goal.loop-group-init

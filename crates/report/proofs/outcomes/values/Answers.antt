@@ -1,20 +1,13 @@
-use Rattle.std.proofs.Common.{◌≡◌, ◌++◌, [], ◌∷◌, List, map, Result, Ok, ap, sym, ◌∙◌, arith}
+use Rattle.std.proofs.Common.{map, Ok, ap, sym, ◌∙◌, arith}
 use Rattle.std.proofs.lemmas.List.{append-nil, at_drop_all}
 use Rattle.std.proofs.lemmas.Result.{err_from_is_err_and}
-use Rattle.value.specs.Datum.{Datum, datum, row_of}
-use Rattle.value.specs.declared.types.Value.{Value}
-use Rattle.value.specs.declared.faults.Fault.{Fault}
+use Rattle.value.specs.Datum.{datum, row_of}
 use Rattle.expr.specs.View.{bound_item_of}
-use Rattle.memory.specs.Results.{first_then}
 use Rattle.memory.proofs.Each.{after, after_nothing}
-use Rattle.groups.proofs.Walks.{next, put_next, fails_here}
+use Rattle.groups.proofs.Putting.{put_step}
+use Rattle.groups.proofs.Walks.{next, fails_here}
 use Rattle.report.specs.QueryStages.{values_of}
 use Rattle.report.proofs.outcomes.values.Goals as goal
-
--- a value is put: the part that is done, and then the rest, is still the whole
-put_step : {A : Type 0} (done new : List (Value A)) (v : Value A) (o : Result Datum Fault) (rest here whole : Result (List Datum) Fault) → here ≡ first_then o rest → after (row_of done) here ≡ whole → o ≡ Ok (datum v) → new ≡ done ++ v ∷ [] → after (row_of new) rest ≡ whole
-put_step done new v o rest here whole is so_far given pushed =
-    ap (λ l. after (row_of l) rest) pushed ∙ put_next done v rest ∙ ap (λ x. after (row_of done) (first_then x rest)) (sym given) ∙ ap (after (row_of done)) (sym is) ∙ so_far
 
 pub loop-item-init : goal.loop-item-init
 loop-item-init g c =
@@ -37,7 +30,7 @@ returns-in_err-push g c =
 pub loop-item-preserved : goal.loop-item-preserved
 loop-item-preserved g c =
     let first = next c.args.items.now c.loop-item.item-index c.item-item.result c.loop-item-test.true c.item-item.is in
-    put_step c.loop-item.values _ _ _ _ _ _ (ap (λ l. values_of (g.R.Row.cells c.args.row.now) c.args.role.now (map bound_item_of l)) first) c.loop-item.invariant c.in_ok-item_on.ensures c.in_ok-push.ensures.ok
+    put_step (λ v. datum v) c.loop-item.values _ _ _ _ _ _ (ap (λ l. values_of (g.R.Row.cells c.args.row.now) c.args.role.now (map bound_item_of l)) first) c.loop-item.invariant c.in_ok-item_on.ensures c.in_ok-push.ensures.ok
 
 pub returns : goal.returns
 returns g c =
