@@ -27,6 +27,7 @@ use Rattle.tuples.proofs.OneEntry.{outcome_alike}
 use Rattle.report.specs.Marked.{among, entry_of, mark_on, marked_entry, one_entry, rows_in}
 use Rattle.report.specs.Marks.{AreMarked, AreMarkedArguments, AreMarks, IsMarked, IsMarkedIf, argument_in, arguments_of, exprs_of, mark_at, mark_in, mark_of, or_else, outcome_if, outcome_in, seen_of}
 use Rattle.report.specs.QueryStages.{values_of}
+use Rattle.report.proofs.Restricting.{itself}
 use Rattle.report.specs.declared.mark_column.MarkColumn.{MarkColumn}
 use Rattle.report.specs.declared.marked.Marked.{Marked}
 use Rattle.report.specs.declared.marked.MarkedArgument.{MarkedArgument}
@@ -36,9 +37,6 @@ use Rattle.report.specs.declared.marked.MarkedArgument.{MarkedArgument}
 abbrev IsOne : List ColumnId → Option ℕ → Type 0
 IsOne ids None = Unit {0}
 IsOne ids (Some i) = list_all (λ (id : ColumnId). id.entry == i) ids ≡ true
-
-itself : (k : ℕ) → (k == k) ≡ true
-itself k = grind (arith, nat_tests)
 
 one_is : (ids : List ColumnId) → IsOne ids (one_entry ids)
 one_is [] = tt

@@ -3,10 +3,8 @@ use Rattle.std.proofs.Common.{◌≡◌, ◌≢◌, ◌≤◌, ◌<◌, ◌==◌
 use Rattle.std.proofs.lemmas.Bool.{eq-eqb}
 use Rattle.std.proofs.lemmas.List.{get_or-set_same, get_or-set_other}
 use Rattle.std.proofs.lemmas.List.Elements.{All-get_or}
+use Rattle.memory.proofs.Cases.{some_is}
 use Rattle.report.specs.Marks.{numbered}
-
-some_is : {O : Type 0} (a b : O) → ◌≡◌ {A = Option O} (Some a) (Some b) → a ≡ b
-some_is a b h = cc
 
 module _ {X : Type 0} where
   before_last : (xs : List X) (y : X) (k : ℕ) → k < length xs → slice_get (xs ++ y ∷ []) k ≡ slice_get xs k

@@ -25,7 +25,7 @@ cell_kept i slots (d ∷ ds) (suc k) here =
 pub cell_of_restricted : (slots : List ℕ) (row : Row) (k : ℕ) → list_any (λ c. c == k) slots ≡ true → cell (restricted slots row) k ≡ cell row k
 cell_of_restricted slots row k here = cell_kept 0 slots row k (rw zero-add here)
 
-itself : (k : ℕ) → (k == k) ≡ true
+pub itself : (k : ℕ) → (k == k) ≡ true
 itself k = grind (arith, nat_tests)
 
 -- the index of a column is among those of the columns of its entry

@@ -1,12 +1,14 @@
 //! An expression with its marks.
 
-ghost use Rattle.std.specs.Prelude.{◌≡◌, ◌<◌, ◌==◌, IfOk, OnOk, Some, length, nat_lt, not, option_map, true};
+ghost use Rattle.std.specs.Prelude.{◌≡◌, ◌<◌, ◌==◌, ℕ, IfOk, OnOk, Some, length, nat_lt, not, option_map, true};
 ghost use Rattle.std.specs.List.{list_all};
 ghost use Rattle.memory.specs.Gives.{Gives};
 ghost use Rattle.value.specs.Datum.{datum_of};
 ghost use Rattle.expr.specs.View.{bound_expr_of};
 ghost use Rattle.eval.specs.Marks.{outcome_of};
+ghost use Rattle.tuples.specs.Slots.{slot_at};
 ghost use Rattle.tuples.specs.View.{world_of};
+ghost use Rattle.tuples.specs.declared.slot.Slot.TheVariants as slots;
 ghost use Rattle.report.specs.Marked as spec;
 ghost use Rattle.report.specs.Marks.{IsMarked, mark_at, mark_of, outcome_in, seen_of};
 
@@ -179,6 +181,8 @@ impl<'w, A: Heap> Marked<'w, A> {
     ) -> Result<(), AllocError>
         ensures seen { seen_of self.new ≡ seen_of self.old }
         ensures marked { IsMarked (world_of world.now) self.old → IsMarked (world_of world.now) self.new }
+        ensures made { IsMarked (world_of world.now) self.old → (entry number : ℕ) → self.old.entry ≡ Some entry → slot_at combination.now entry ≡ slots.Row number → number < length (spec.entry_rows (world_of world.now) entry)
+            → OnOk result (mark_at self.new.marks number ≡ Some (spec.mark_on (world_of world.now) entry (bound_expr_of self.old.expression.now) number)) }
     {
         let Some(entry) = self.entry else {
             return Ok(());
