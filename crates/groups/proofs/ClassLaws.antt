@@ -18,6 +18,7 @@ use Rattle.value.specs.Orders.{row_cmp}
 use Rattle.value.proofs.DatumOrder.{row_cmp_total}
 use Rattle.expr.specs.declared.bound.ColumnId.{ColumnId}
 use Rattle.expr.specs.Aggregates.{AggregateCall}
+use Rattle.eval.specs.Meaning.{Outcome}
 use Rattle.groups.specs.Stages.{gives, stage}
 use Rattle.groups.specs.declared.keys.Key.{Key}
 use Rattle.groups.specs.declared.totals.Total as code
@@ -25,7 +26,7 @@ use Rattle.groups.specs.Members.{Member}
 use Rattle.groups.specs.Groups.{Group, same_key, has_key, group_with, all_in_one, classes, groups_of}
 use Rattle.groups.specs.GroupRow.{group_row, group_rows, with_totals}
 use Rattle.groups.specs.Classes.{grouped, put}
-use Rattle.groups.specs.Running.{AreArgumentsInPlace, IsMemberInPlace, RunningGroup, Total, finished_row, finished_rows, fresh, put_running, running, running_group, running_groups, started, totals_for, with_arguments, with_member}
+use Rattle.groups.specs.Running.{AreOutcomesInPlace, IsMemberInPlace, RunningGroup, Total, finished_row, finished_rows, fresh, put_running, running, running_group, running_groups, started, totals_for, with_arguments, with_member}
 use Rattle.groups.specs.View.{key_of, running_in, running_of, total_of, totals_of}
 use Rattle.groups.proofs.KeyLaws.{Rise, each_key, each_rises, put_key, each_key_more, none_has_it}
 use Rattle.groups.proofs.RunningTotals.{all_finished_are, fresh_running, running_more, started_already}
@@ -156,18 +157,18 @@ module _ {A : Type 0} where
       go false more = more
 
   -- a member in place has a group
-  pub has_group : (k : Key A) (arguments : Row) (es : List (Key A × Vec (code.Total A) A)) → lookup (is_at (λ l. row_cmp (key_of k) (key_of l))) es ≡ None →
-      IsMemberInPlace (record { key = key_of k; arguments = arguments }) (running_in es) → ⊥
-  has_group k arguments es none place =
+  pub has_group : (k : Key A) (outcomes : List Outcome) (es : List (Key A × Vec (code.Total A) A)) → lookup (is_at (λ l. row_cmp (key_of k) (key_of l))) es ≡ None →
+      IsMemberInPlace (key_of k) outcomes (running_in es) → ⊥
+  has_group k outcomes es none place =
       let empty : totals_for (key_of k) (running_in es) ≡ [] = totals_there k es ∙ ap held none in
       omega (arith, subst (λ ts. 0 < length ts) empty place.0)
 
   -- its arguments are in place in the totals that are there
-  pub arguments_in_place : (k : Key A) (arguments : Row) (es : List (Key A × Vec (code.Total A) A)) (o : Option (Vec (code.Total A) A)) (start : Vec (code.Total A) A) →
-      o ≡ lookup (is_at (λ l. row_cmp (key_of k) (key_of l))) es → start.items ≡ [] → IsMemberInPlace (record { key = key_of k; arguments = arguments }) (running_in es) →
-      (0 < length (unwrap_or o start).items) × AreArgumentsInPlace (totals_of (unwrap_or o start).items) arguments
-  arguments_in_place k arguments es o start is none place =
-      let there = subst (λ ts. (0 < length ts) × AreArgumentsInPlace ts arguments) (totals_there k es ∙ ap held (sym is) ∙ sym (held_or o start none)) place in
+  pub arguments_in_place : (k : Key A) (outcomes : List Outcome) (es : List (Key A × Vec (code.Total A) A)) (o : Option (Vec (code.Total A) A)) (start : Vec (code.Total A) A) →
+      o ≡ lookup (is_at (λ l. row_cmp (key_of k) (key_of l))) es → start.items ≡ [] → IsMemberInPlace (key_of k) outcomes (running_in es) →
+      (0 < length (unwrap_or o start).items) × AreOutcomesInPlace (totals_of (unwrap_or o start).items) outcomes
+  arguments_in_place k outcomes es o start is none place =
+      let there = subst (λ ts. (0 < length ts) × AreOutcomesInPlace ts outcomes) (totals_there k es ∙ ap held (sym is) ∙ sym (held_or o start none)) place in
       (subst (λ n. 0 < n) (length-map (unwrap_or o start).items (λ t. total_of t)) there.0, there.1)
 
 -- ---- the groups of no members

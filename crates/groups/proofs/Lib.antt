@@ -1,9 +1,9 @@
+pub mod Adding
 pub mod ArgumentLaws
 pub mod Cells
 pub mod ClassLaws
 pub mod ClassValues
 pub mod FaultOrder
-pub mod Folding
 pub mod Going
 pub mod KeyLaws
 pub mod Parts

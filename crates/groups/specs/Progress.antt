@@ -7,6 +7,12 @@ use Rattle.value.specs.declared.faults.Fault.{Fault}
 use Rattle.groups.specs.Stages.{fault_cmp}
 use Rattle.groups.specs.declared.stage.Stage.{Stage}
 
+-- memory did not run out
+abbrev pub HasMemory : {Y : Type 0} → Result Y (Failure Fault) → Type 0
+HasMemory (Ok y) = ⊤
+HasMemory (Err (failures.Error f)) = ⊤
+HasMemory (Err failures.OutOfMemory) = ⊥
+
 -- the outcome of one more is added; out of memory is not
 abbrev pub Adds : {Y A : Type 0} → Result (Option Y) (Failure Fault) → Stage Y A → Stage Y A → Type 0
 Adds (Ok (Some y)) old new = (new.given ≡ old.given ++ y ∷ []) × (new.least ≡ old.least)

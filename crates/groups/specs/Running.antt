@@ -1,5 +1,5 @@
 -- Running totals: the aggregates of the values so far, and the groups of the members so far.
-use Rattle.std.specs.Prelude.{ℕ, ◌+◌, ◌^◌, ◌<◌, ℤ, pos, ◌+ℤ◌, Bool, true, false, List, [], ◌∷◌, map, length, Option, Some, None, Result, Ok, FitsSigned, ⊤, if◌then◌else◌}
+use Rattle.std.specs.Prelude.{ℕ, zero, suc, ◌+◌, ◌^◌, ◌<◌, ℤ, pos, ◌+ℤ◌, Bool, true, false, List, [], ◌∷◌, map, length, Option, Some, None, Result, Ok, Err, FitsSigned, ⊤, if◌then◌else◌}
 use Rattle.std.specs.Int.{w128}
 use Rattle.std.specs.Ordering.{match_ordering}
 use Rattle.bags.specs.Least.{lesser, least}
@@ -10,6 +10,7 @@ use Rattle.value.specs.declared.faults.Fault.{Fault}
 use Rattle.value.specs.declared.operators.Aggregate.{Aggregate}
 use Rattle.value.specs.declared.operators.Aggregate.TheVariants as aggregate
 use Rattle.expr.specs.Aggregates.{AggregateCall}
+use Rattle.eval.specs.Meaning.{Outcome}
 use Rattle.groups.specs.Stages.{gives, stage}
 use Rattle.memory.specs.Results.{first_then}
 use Rattle.groups.specs.Members.{Member}
@@ -73,11 +74,27 @@ with_arguments [] ds = []
 with_arguments (t ∷ ts) [] = t ∷ ts
 with_arguments (t ∷ ts) (d ∷ ds) = with_argument t (not_null d) ∷ with_arguments ts ds
 
--- none of them takes memory
-abbrev pub AreArgumentsInPlace : List Total → Row → Type 0
-AreArgumentsInPlace [] ds = ⊤
-AreArgumentsInPlace (t ∷ ts) [] = ⊤
-AreArgumentsInPlace (t ∷ ts) (d ∷ ds) = IsArgumentInPlace t (not_null d) × AreArgumentsInPlace ts ds
+-- those from an index on
+abbrev pub with_arguments_from : (index : ℕ) → List Total → Row → List Total
+with_arguments_from zero ts ds = with_arguments ts ds
+with_arguments_from (suc i) [] ds = []
+with_arguments_from (suc i) (t ∷ ts) ds = t ∷ with_arguments_from i ts ds
+
+-- that at an index
+abbrev pub with_argument_at : (index : ℕ) → List Total → Option Datum → List Total
+with_argument_at index [] o = []
+with_argument_at zero (t ∷ ts) o = with_argument t o ∷ ts
+with_argument_at (suc i) (t ∷ ts) o = t ∷ with_argument_at i ts o
+
+-- none of them that has a value takes memory
+abbrev pub IsOutcomeInPlace : Total → Outcome → Type 0
+IsOutcomeInPlace t (Ok d) = IsArgumentInPlace t (not_null d)
+IsOutcomeInPlace t (Err f) = ⊤
+
+abbrev pub AreOutcomesInPlace : List Total → List Outcome → Type 0
+AreOutcomesInPlace [] os = ⊤
+AreOutcomesInPlace (t ∷ ts) [] = ⊤
+AreOutcomesInPlace (t ∷ ts) (o ∷ os) = IsOutcomeInPlace t o × AreOutcomesInPlace ts os
 
 -- of no members
 abbrev pub fresh : List AggregateCall → List Total
@@ -124,9 +141,9 @@ abbrev pub totals_for : Row → List RunningGroup → List Total
 totals_for key [] = []
 totals_for key (g ∷ gs) = if same_key key g.key then g.totals else totals_for key gs
 
--- a member takes no memory: its group has totals, and its arguments are in place
-abbrev pub IsMemberInPlace : Member → List RunningGroup → Type 0
-IsMemberInPlace m gs = (0 < length (totals_for m.key gs)) × AreArgumentsInPlace (totals_for m.key gs) m.arguments
+-- a member of a key takes no memory: its group has totals, and the outcomes of its arguments are in place
+abbrev pub IsMemberInPlace : Row → List Outcome → List RunningGroup → Type 0
+IsMemberInPlace key outcomes gs = (0 < length (totals_for key gs)) × AreOutcomesInPlace (totals_for key gs) outcomes
 
 -- the row of a group whose members are all in
 abbrev pub finished_row : List AggregateCall → RunningGroup → Result GroupRow Fault

@@ -1,22 +1,12 @@
--- The views of the Rust types of members, groups and their rows as spec data.
+-- The views of the Rust types of groups and their rows as spec data.
 use Rattle.std.specs.Prelude.{List, map, option_map, Vec}
-use Rattle.value.specs.Datum.{Row, datum, datum_of, row_of}
-use Rattle.value.specs.declared.types.Val.{Val}
-use Rattle.groups.specs.declared.members.Member as member
+use Rattle.value.specs.Datum.{Row, datum, row_of}
 use Rattle.groups.specs.declared.keys.Key as key
 use Rattle.groups.specs.declared.group_row.GroupRow as row
 use Rattle.groups.specs.declared.totals.Total as total
 use Rattle.groups.specs.declared.totals.Total.TheVariants as totals
-use Rattle.groups.specs.Members.{Member}
 use Rattle.groups.specs.GroupRow.{GroupRow}
 use Rattle.groups.specs.Running.{Total, Count, Sum, Best, RunningGroup}
-
--- of lent values
-abbrev pub lent_row : {A : Type 0} → List (Val A) → Row
-lent_row values = map datum_of values
-
-abbrev pub member_of : {A : Type 0} → member.Member A → Member
-member_of m = record { key = row_of m.key; arguments = lent_row m.arguments }
 
 abbrev pub key_of : {A : Type 0} → key.Key A → Row
 key_of k = row_of k.values

@@ -1,24 +1,28 @@
 //! The groups of the members so far, and the row of each.
 
-ghost use Rattle.std.specs.Prelude.{◌≡◌, [], ◌∷◌, map, IfOk, IsOk, None, OnOk};
+ghost use Rattle.std.specs.Prelude.{◌≡◌, [], ◌∷◌, map, IfOk, IsOk, None, Ok, OnOk};
 ghost use Rattle.memory.specs.Gives.{Gives};
+ghost use Rattle.memory.specs.Results.{and_then};
+ghost use Rattle.value.specs.Datum.{row_of};
 ghost use Rattle.expr.specs.View.{aggregate_calls_of};
 ghost use Rattle.groups.specs.Stages.{gives, stage};
 ghost use Rattle.groups.specs.Groups.{all_in_one, groups_of};
+ghost use Rattle.groups.specs.Members.{all_of, with_key};
+ghost use Rattle.groups.specs.Progress.{HasMemory};
 ghost use Rattle.groups.specs.Running.{IsMemberInPlace, finished_row, put_running, running_groups};
-ghost use Rattle.groups.specs.Taking.{IsTakenInPlace, TakesOutcome, rows_of, totals_in};
-ghost use Rattle.groups.specs.View.{group_row_of, key_of, lent_row, member_of, running_in};
+ghost use Rattle.groups.specs.Taking.{Takes, rows_of, totals_in};
+ghost use Rattle.groups.specs.View.{group_row_of, key_of, running_in};
 
 use crate::group_row::{GroupRow, row_of_group};
 use crate::keys::Key;
-use crate::members::Member;
+use crate::members::Arguments;
 use crate::stage::{Stage, gives};
 use crate::totals::{Total, add_arguments, push_fresh};
 use expr::{AggregateCall, ColumnId};
 use memory::{Failure, Heap, Items};
 use std::alloc::AllocError;
 use std::collections::BTreeMap;
-use value::{Fault, Val};
+use value::{Fault, Value};
 
 /// The running totals of the groups, in the order of their keys.
 pub type ByKey<A> = BTreeMap<Key<A>, Vec<Total<A>, A>, A>;
@@ -32,34 +36,20 @@ pub struct Groups<A: Heap> {
     pub(crate) stage: Stage<(), A>,
 }
 
-// Adds the arguments of a member to the totals of its key.
-fn put_arguments<A: Heap>(
+// Adds a member to the totals of its key, or gives the first fault of its arguments.
+fn put_member<A: Heap, G: Arguments<A>>(
     alloc: A,
     calls: &[AggregateCall<'_, A>],
     groups: &mut ByKey<A>,
     key: Key<A>,
-    arguments: &[Val<'_, A>],
-) -> Result<(), AllocError>
-    ensures added { OnOk result (running_in groups.new.entries ≡ put_running (aggregate_calls_of calls.now) (record { key = key_of key; arguments = lent_row arguments.now }) (running_in groups.old.entries)) }
-    ensures in_place { IsMemberInPlace (record { key = key_of key; arguments = lent_row arguments.now }) (running_in groups.old.entries) → IsOk result }
+    arguments: &G,
+) -> Result<(), Failure<Fault>>
+    ensures added { Gives (λ done. running_in groups.new.entries) result (and_then (with_key (key_of key) (all_of (G.outcomes arguments.now))) (λ m. Ok (put_running (aggregate_calls_of calls.now) m (running_in groups.old.entries)))) }
+    ensures in_place { G.are_there arguments.now → IsMemberInPlace (key_of key) (G.outcomes arguments.now) (running_in groups.old.entries) → HasMemory result }
 {
     let totals = groups.entry(key)?.or_insert(Vec::new(alloc));
     add_arguments(alloc, calls, totals, arguments)?;
     Ok(())
-}
-
-// Adds a member to the totals of its key.
-fn put_member<A: Heap>(
-    alloc: A,
-    calls: &[AggregateCall<'_, A>],
-    groups: &mut ByKey<A>,
-    member: Member<'_, A>,
-) -> Result<(), AllocError>
-    ensures added { OnOk result (running_in groups.new.entries ≡ put_running (aggregate_calls_of calls.now) (member_of member.entry) (running_in groups.old.entries)) }
-    ensures in_place { IsMemberInPlace (member_of member.entry) (running_in groups.old.entries) → IsOk result }
-{
-    let key = Key { values: member.key };
-    put_arguments(alloc, calls, groups, key, member.arguments.as_slice())
 }
 
 // The row of each group, or the least fault.
@@ -121,20 +111,22 @@ impl<A: Heap> Groups<A> {
         })
     }
 
-    /// Adds the member of one more combination, or the fault of its arguments. Where memory ran out, it is reported; a fault
-    /// takes none, nor does a member whose group has totals, while counts stay within 64 bits and sums within 128, and there
-    /// is no least or greatest value.
-    pub fn add(
+    /// Adds the member of one more combination, or the first fault of its arguments. Where memory ran out, it is reported. Where the
+    /// group has totals and the arguments are there already, it takes none, while counts stay within 64 bits and sums within 128, and
+    /// there is no least or greatest value.
+    pub fn add<G: Arguments<A>>(
         &mut self,
         alloc: A,
         calls: &[AggregateCall<'_, A>],
-        outcome: Result<Member<'_, A>, Failure<Fault>>,
+        key: Items<Value<A>, A>,
+        arguments: &G,
     ) -> Result<(), AllocError>
-        ensures taken { OnOk result (TakesOutcome (aggregate_calls_of calls.now) outcome.entry self.old self.new) }
-        ensures in_place { IsTakenInPlace outcome.entry self.old → IsOk result }
+        ensures taken { OnOk result (Takes (aggregate_calls_of calls.now) (with_key (row_of key) (all_of (G.outcomes arguments.now))) self.old self.new) }
+        ensures in_place { G.are_there arguments.now → IsMemberInPlace (row_of key) (G.outcomes arguments.now) (totals_in self.old) → IsOk result }
     {
-        match outcome {
-            Ok(member) => put_member(alloc, calls, &mut self.by_key, member),
+        let key = Key { values: key };
+        match put_member(alloc, calls, &mut self.by_key, key, arguments) {
+            Ok(()) => Ok(()),
             Err(failure) => self.stage.add(Err(failure)),
         }
     }

@@ -16,5 +16,5 @@ pub use laws::{
     law_aggregates_of_classes, law_groups_differ, law_no_member_lost, law_order_of_members,
     law_running_totals,
 };
-pub use members::{Arguments, Member, member_on};
+pub use members::{Arguments, key_on};
 pub use stage::{Stage, gives, gives_if};

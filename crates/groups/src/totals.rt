@@ -1,18 +1,23 @@
 //! The running totals of the aggregates of a group.
 
-ghost use Rattle.std.specs.Prelude.{◌≡◌, ◌+◌, ◌+ℤ◌, ◌^◌, ◌<◌, ◌≤◌, ◌++◌, [], length, IfOk, IsOk, OnOk, OnErr, Some, option_map, pos, if◌then◌else◌, FitsSigned};
+ghost use Rattle.std.specs.Prelude.{◌≡◌, ◌+◌, ◌+ℤ◌, ◌^◌, ◌<◌, ◌≤◌, ◌++◌, [], ◌∷◌, List, drop, length, IfOk, IsOk, OnOk, OnErr, Ok, Some, option_map, pos, if◌then◌else◌, FitsSigned};
 ghost use Rattle.std.specs.Int.{w128};
 ghost use Rattle.memory.specs.Gives.{Gives};
+ghost use Rattle.memory.specs.Results.{and_then};
 ghost use Rattle.bags.specs.Least.{lesser};
 ghost use Rattle.value.specs.Datum.{datum, datum_of, row_of};
 ghost use Rattle.value.specs.Exact as exact;
 ghost use Rattle.value.specs.Orders as orders;
 ghost use Rattle.expr.specs.View.{aggregate_calls_of};
+ghost use Rattle.eval.specs.Meaning.{Outcome};
 ghost use Rattle.groups.specs.Aggregates as spec;
 ghost use Rattle.groups.specs.Aggregates.{not_null, or_null, towards};
+ghost use Rattle.groups.specs.Members.{all_of};
+ghost use Rattle.groups.specs.Progress.{HasMemory};
 ghost use Rattle.groups.specs.Running as running;
-ghost use Rattle.groups.specs.View.{lent_row, total_of, totals_of};
+ghost use Rattle.groups.specs.View.{total_of, totals_of};
 
+use crate::members::Arguments;
 use expr::AggregateCall;
 use memory::{Failure, Heap, Items};
 use std::alloc::AllocError;
@@ -200,26 +205,20 @@ pub fn push_fresh<A: Heap>(
     Ok(())
 }
 
-// Adds an argument to each total.
-fn add_each<A: Heap>(
+// Adds an argument to the total at an index, if there is one.
+fn add_at<A: Heap>(
     alloc: A,
-    totals: &mut [Total<A>],
-    arguments: &[Val<'_, A>],
+    totals: &mut Vec<Total<A>, A>,
+    index: usize,
+    argument: &Val<'_, A>,
 ) -> Result<(), AllocError>
-    ensures added { OnOk result (totals_of totals.new ≡ running.with_arguments (totals_of totals.old) (lent_row arguments.now)) }
-    ensures in_place { running.AreArgumentsInPlace (totals_of totals.old) (lent_row arguments.now) → IsOk result }
+    ensures added { OnOk result (totals_of totals.new.items ≡ running.with_argument_at index (totals_of totals.old.items) (not_null (datum_of argument.now))) }
+    ensures in_place { (outcomes : List Outcome) → running.AreOutcomesInPlace (drop index (totals_of totals.old.items)) (Ok (datum_of argument.now) ∷ outcomes) → IsOk result }
 {
-    match totals.split_first_mut() {
-        None => Ok(()),
-        Some((total, totals)) => match arguments.split_first() {
-            None => Ok(()),
-            Some((argument, arguments)) => {
-                total.add(alloc, argument)?;
-                add_each(alloc, totals, arguments)?;
-                Ok(())
-            }
-        },
+    if index < totals.len() {
+        totals[index].add(alloc, argument)?;
     }
+    Ok(())
 }
 
 // Adds the totals of no members, where none is there yet.
@@ -236,18 +235,22 @@ fn start_totals<A: Heap>(
     Ok(())
 }
 
-/// Adds the arguments of a member to the totals of its group, which has none before its first member.
-pub fn add_arguments<A: Heap>(
+/// Adds the arguments of a member to the totals of its group, which has none before its first member, each as it is evaluated, so that
+/// no list is made of them. At the first fault it stops.
+pub fn add_arguments<A: Heap, G: Arguments<A>>(
     alloc: A,
     calls: &[AggregateCall<'_, A>],
     totals: &mut Vec<Total<A>, A>,
-    arguments: &[Val<'_, A>],
-) -> Result<(), AllocError>
-    ensures added { OnOk result (totals_of totals.new.items ≡ running.with_arguments (running.started (aggregate_calls_of calls.now) (totals_of totals.old.items)) (lent_row arguments.now)) }
-    ensures in_place { 0 < length totals.old.items → running.AreArgumentsInPlace (totals_of totals.old.items) (lent_row arguments.now) → IsOk result }
+    arguments: &G,
+) -> Result<(), Failure<Fault>>
+    ensures added { Gives (λ done. totals_of totals.new.items) result (and_then (all_of (G.outcomes arguments.now)) (λ ds. Ok (running.with_arguments (running.started (aggregate_calls_of calls.now) (totals_of totals.old.items)) ds))) }
+    ensures in_place { G.are_there arguments.now → 0 < length totals.old.items → running.AreOutcomesInPlace (totals_of totals.old.items) (G.outcomes arguments.now) → HasMemory result }
 {
     start_totals(totals, calls)?;
-    add_each(alloc, totals.as_mut_slice(), arguments)?;
+    for index in 0..arguments.count() {
+        let argument = arguments.argument(alloc, index)?;
+        add_at(alloc, totals, index, &argument)?;
+    }
     Ok(())
 }
 

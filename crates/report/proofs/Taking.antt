@@ -3,6 +3,7 @@ use Rattle.std.proofs.Common.{◌≡◌, ℕ, ◌+◌, ◌<◌, Bool, true, fals
 use Rattle.std.proofs.lemmas.List.{append-nil, map-append, take_more}
 use Rattle.memory.specs.Gives.{IsFailure}
 use Rattle.memory.specs.Results.{and_then}
+use Rattle.memory.proofs.Cases.{some_is_not}
 use Rattle.memory.specs.declared.failure.Failure.{Failure}
 use Rattle.memory.specs.declared.failure.Failure.TheVariants as failures
 use Rattle.bags.specs.Least.{lesser}
@@ -27,7 +28,7 @@ use Rattle.groups.specs.Groups.{groups_of}
 use Rattle.groups.specs.GroupRow.{group_rows}
 use Rattle.groups.specs.Members.{Member, arguments, key_on, member_on, with_key}
 use Rattle.groups.specs.Running.{finished_rows, put_running, running_groups}
-use Rattle.groups.specs.Taking.{Takes, rows_of}
+use Rattle.groups.specs.Taking.{Takes, rows_of, totals_in}
 use Rattle.groups.proofs.ClassLaws.{rows_finished, totals_more}
 use Rattle.tuples.specs.Combinations.{Combination, joined_cells}
 use Rattle.tuples.specs.View.{world_of}
@@ -108,6 +109,11 @@ finished : (columns : List ColumnId) (calls : List AggregateCall) (known : Optio
 finished columns calls None ms = rows_finished columns calls ms
 finished columns calls (Some f) ms = refl
 
+-- with a fault there is a least one
+some_least : (known : Option Fault) (f : Fault) → lesser fault_cmp known (Some f) ≡ None → ⊥
+some_least None f h = some_is_not f h
+some_least (Some g) f h = some_is_not _ h
+
 module _ {A : Type 0} (columns : List ColumnId) (calls : List AggregateCall) where
   member_more : (cells : Cells) (role : Name) (old new : Groups A) (fates : List (Fate Member)) → HoldsGroups columns calls old fates →
       Takes calls (member_on cells role columns calls) old new → HoldsGroups columns calls new (fates ++ gives (member_on cells role columns calls) ∷ [])
@@ -117,17 +123,22 @@ module _ {A : Type 0} (columns : List ColumnId) (calls : List AggregateCall) whe
       go (Ok args) takes =
           let m : Member = record { key = key_on cells columns; arguments = args } in
           record {
-            totals = takes.0 ∙ ap (put_running calls m) h.totals ∙ totals_more columns calls (all_given fates) m (λ none. ap (key_on cells) none) ∙ ap (λ ms. running_groups calls (groups_of columns ms)) (sym (given_more fates (Ok (Some m))));
+            totals = λ none. takes.0 ∙ ap (put_running calls m) (h.totals (sym takes.1 ∙ none)) ∙ totals_more columns calls (all_given fates) m (λ none. ap (key_on cells) none) ∙ ap (λ ms. running_groups calls (groups_of columns ms)) (sym (given_more fates (Ok (Some m))));
             fault = takes.1 ∙ h.fault ∙ same_least fates (Some m);
           }
       go (Err f) takes = record {
-        totals = takes.0 ∙ h.totals ∙ ap (λ ms. running_groups calls (groups_of columns ms)) (nothing_given fates (Err f) refl);
-        fault = takes.1 ∙ ap (λ o. lesser fault_cmp o (Some f)) h.fault ∙ sym (least_more fates (Err f));
+        totals = λ none. absurd (some_least old.stage.least f (sym takes ∙ none));
+        fault = takes ∙ ap (λ o. lesser fault_cmp o (Some f)) h.fault ∙ sym (least_more fates (Err f));
       }
 
   -- the rows of the groups are those of the stage
   pub rows_are : (s : Groups A) (fates : List (Fate Member)) → HoldsGroups columns calls s fates → rows_of calls s ≡ and_then (stage fates) (group_rows columns calls)
-  rows_are s fates h = ap₂ (λ o gs. and_then (unless_fault o gs) (finished_rows calls)) h.fault h.totals ∙ finished columns calls (least_fault fates) (all_given fates)
+  rows_are s fates h = go s.stage.least refl
+    where
+      go : (o : Option Fault) → s.stage.least ≡ o → rows_of calls s ≡ and_then (stage fates) (group_rows columns calls)
+      go None none = ap₂ (λ o gs. and_then (unless_fault o gs) (finished_rows calls)) h.fault (h.totals none) ∙ finished columns calls (least_fault fates) (all_given fates)
+      go (Some f) some =
+          ap (λ o. and_then (unless_fault o (totals_in s)) (finished_rows calls)) some ∙ sym (ap (λ o. and_then (unless_fault o (all_given fates)) (group_rows columns calls)) (sym h.fault ∙ some))
 
 -- one more combination in the groups of a query
 pub combination_more : {A : Type 0} (role : Name) (q : BoundQuery) (calls : List AggregateCall) (these : List Combination) (c : Combination) (old new : Groups A) → calls ≡ query_aggregates q →

@@ -1,5 +1,5 @@
 -- What is held of the combinations that come one after the other.
-use Rattle.std.specs.Prelude.{◌≡◌, ℕ, true, false, List, map, Option}
+use Rattle.std.specs.Prelude.{◌≡◌, ℕ, true, false, List, map, Option, None}
 use Rattle.std.specs.List.{filter_map}
 use Rattle.bags.specs.Least.{least}
 use Rattle.value.specs.Datum.{Row, row_of}
@@ -40,9 +40,9 @@ pub record HoldsRows {A : Type 0} (keys : List OutputKey) (limit : Option ℕ) (
   pub rows : map (λ r. row_of r) s.rows.items ≡ held keys limit (all_given fates)
   pub fault : s.stage.least ≡ least_fault fates
 
--- the groups of their members with the totals so far, and the least fault
+-- the groups of their members with the totals so far, while there is no fault, and the least fault
 pub record HoldsGroups {A : Type 0} (columns : List ColumnId) (calls : List AggregateCall) (s : Groups A) (fates : List (Fate Member)) : Type 0 where
-  pub totals : totals_in s ≡ running_groups calls (groups_of columns (all_given fates))
+  pub totals : s.stage.least ≡ None → totals_in s ≡ running_groups calls (groups_of columns (all_given fates))
   pub fault : s.stage.least ≡ least_fault fates
 
 -- ---- what is held of these combinations

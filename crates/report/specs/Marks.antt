@@ -1,5 +1,5 @@
 -- Marks: outcomes that are kept by the numbers of rows.
-use Rattle.std.specs.Prelude.{◌≡◌, ℕ, zero, suc, true, false, List, [], ◌∷◌, map, slice_get, get_or, Option, Some, None, option_map, Ok, ⊤}
+use Rattle.std.specs.Prelude.{◌≡◌, ℕ, zero, suc, true, false, List, [], ◌∷◌, map, slice_get, get_or, Option, Some, None, IsSome, option_map, Ok, ⊤}
 use Rattle.value.specs.Datum.{bool}
 use Rattle.expr.specs.Bound.{BoundExpr}
 use Rattle.expr.specs.Conjuncts.{fragile_conjuncts}
@@ -92,6 +92,14 @@ outcome_if cells role slots (Some m) = outcome_in cells role slots m
 
 abbrev pub argument_in : {A : Type 0} → Cells → Name → List Slot → MarkedArgument A → Outcome
 argument_in cells role slots a = outcome_if cells role slots a.marked
+
+-- it is there already: count(*), or one whose mark on the combination is made
+abbrev pub IsThereIf : {A : Type 0} → List Slot → Option (Marked A) → Type 0
+IsThereIf slots None = ⊤
+IsThereIf slots (Some m) = IsSome (mark_of m.marks m.entry slots)
+
+abbrev pub IsThere : {A : Type 0} → List Slot → MarkedArgument A → Type 0
+IsThere slots a = IsThereIf slots a.marked
 
 -- ---- all of a query
 

@@ -21,7 +21,7 @@ use crate::marked_arguments::MarkedArguments;
 use crate::marks::make_arguments;
 use crate::outcomes::{keeps, values};
 use expr::{AggregateCall, BoundCondition, BoundExpr, BoundItem, BoundQuery, push_aggregates};
-use groups::{GroupCells, GroupRow, Groups, Stage, gives_if, member_on};
+use groups::{GroupCells, GroupRow, Groups, Stage, gives_if, key_on};
 use memory::{Failure, Heap, Items};
 use std::alloc::AllocError;
 use tuples::{Combo, JoinedRow, World};
@@ -108,10 +108,8 @@ pub fn add_combination<A: Heap>(
         row: &row,
         role: world.role,
     };
-    let columns = world.query.group_by.as_slice();
-    let member = member_on(alloc, columns, &row, &marked);
-    groups.add(alloc, calls, member)?;
-    Ok(())
+    let key = key_on(alloc, world.query.group_by.as_slice(), &row)?;
+    groups.add(alloc, calls, key, &marked)
 }
 
 // The group, where HAVING is true or absent.

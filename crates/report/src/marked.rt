@@ -1,11 +1,12 @@
 //! An expression with its marks.
 
-ghost use Rattle.std.specs.Prelude.{◌≡◌, ◌<◌, ◌==◌, ℕ, IfOk, OnOk, Some, length, nat_lt, not, option_map, true};
+ghost use Rattle.std.specs.Prelude.{◌≡◌, ◌<◌, ◌==◌, ℕ, IfOk, IsSome, OnOk, Some, length, nat_lt, not, option_map, true};
 ghost use Rattle.std.specs.List.{list_all};
 ghost use Rattle.memory.specs.Gives.{Gives};
 ghost use Rattle.value.specs.Datum.{datum_of};
 ghost use Rattle.expr.specs.View.{bound_expr_of};
 ghost use Rattle.eval.specs.Marks.{outcome_of};
+ghost use Rattle.groups.specs.Progress.{HasMemory};
 ghost use Rattle.tuples.specs.Slots.{slot_at};
 ghost use Rattle.tuples.specs.View.{world_of};
 ghost use Rattle.tuples.specs.declared.slot.Slot.TheVariants as slots;
@@ -203,7 +204,8 @@ impl<'w, A: Heap> Marked<'w, A> {
         }
     }
 
-    /// The value on a combination, whose rows are given: that of the mark, with its text lent, where it is made; or the first fault.
+    /// The value on a combination, whose rows are given: that of the mark, with its text lent and without memory, where it is made; or
+    /// the first fault.
     pub(crate) fn outcome<'r, R: Row<A>>(
         &'r self,
         alloc: A,
@@ -211,7 +213,8 @@ impl<'w, A: Heap> Marked<'w, A> {
         row: &'r R,
         role: &'r str,
     ) -> Result<Val<'r, A>, Failure<Fault>>
-        ensures { Gives datum_of result (outcome_in (R.cells row.now) role.now combination.now self.now) }
+        ensures value { Gives datum_of result (outcome_in (R.cells row.now) role.now combination.now self.now) }
+        ensures in_place { IsSome (mark_of self.now.marks self.now.entry combination.now) → HasMemory result }
     {
         match self.mark(combination) {
             Some(Mark::Value(value)) => Ok(value.as_val()),

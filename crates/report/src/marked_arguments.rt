@@ -2,7 +2,8 @@
 
 ghost use Rattle.memory.specs.Gives.{Gives};
 ghost use Rattle.value.specs.Datum.{datum_of};
-ghost use Rattle.report.specs.Marks.{argument_in};
+ghost use Rattle.groups.specs.Progress.{HasMemory};
+ghost use Rattle.report.specs.Marks.{IsThere, argument_in};
 
 use crate::marked::MarkedArgument;
 use eval::Row;
@@ -32,7 +33,8 @@ fn argument_on<'r, A: Heap, R: Row<A>>(
     row: &'r R,
     role: &'r str,
 ) -> Result<Val<'r, A>, Failure<Fault>>
-    ensures { Gives datum_of result (argument_in (R.cells row.now) role.now combination.now argument.now) }
+    ensures value { Gives datum_of result (argument_in (R.cells row.now) role.now combination.now argument.now) }
+    ensures in_place { IsThere combination.now argument.now → HasMemory result }
 {
     match &argument.marked {
         None => Ok(Val::Bool(true)),
@@ -41,10 +43,12 @@ fn argument_on<'r, A: Heap, R: Row<A>>(
 }
 
 impl<'r, A: Heap, R: Row<A>> Arguments<A> for MarkedArguments<'r, A, R> {
-    ghost use Rattle.std.specs.Prelude.{map};
-    ghost use Rattle.report.specs.Marks.{argument_in};
+    ghost use Rattle.std.specs.Prelude.{All, map};
+    ghost use Rattle.report.specs.Marks.{IsThere, argument_in};
 
     ghost outcomes = { λ s. map (λ m. argument_in (R.cells s.row.now) s.role.now s.combination.now m) s.arguments.now };
+
+    ghost are_there = { λ s. All (IsThere s.combination.now) s.arguments.now };
 
     fn count(&self) -> usize {
         self.arguments.len()

@@ -13,4 +13,4 @@ returns-clause-value g c = λ are.
     let w = world_of c.args.world.now in
     let cells = joined_cells (combination_at w.tables c.args.combination.now) in
     let is = outcome_is w c.make.new.self c.args.combination.now (c.make.ensures.marked are) ∙ ap (λ s. meaning cells w.role s.0) c.make.ensures.seen in
-    subst (λ o. Gives (λ b. b) c.truth_in.result (truth_in o)) is (c.truth_in.ensures _ (rw c.new-row.ensures at c.outcome.ensures))
+    subst (λ o. Gives (λ b. b) c.truth_in.result (truth_in o)) is (c.truth_in.ensures _ (rw c.new-row.ensures at c.outcome.ensures.value))
