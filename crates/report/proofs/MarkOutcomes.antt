@@ -51,7 +51,7 @@ pub record IsOwn (count : ℕ) (e : BoundExpr) (i : ℕ) : Type 0 where
   pub all : list_all (λ (id : ColumnId). id.entry == i) (columns e) ≡ true
   pub below : i < count
 
-below_is : (i count : ℕ) → nat_lt i count ≡ true → i < count
+pub below_is : (i count : ℕ) → nat_lt i count ≡ true → i < count
 below_is i count h = grind (arith, nat_tests)
 
 own_among : (count : ℕ) (e : BoundExpr) (o : Option ℕ) → IsOne (columns e) o → (i : ℕ) → among count o ≡ Some i → IsOwn count e i

@@ -111,12 +111,12 @@ module _ (cells : Cells) (role : Name) (es rest : List BoundExpr) (e : BoundExpr
 
 -- ---- what is seen of them stays
 
-module _ {A : Type 0} (xs ys : List (Marked A)) (same : map (λ m. seen_of m) xs ≡ map (λ m. seen_of m) ys) where
-  pub same_length : length xs ≡ length ys
-  same_length = sym (length-map xs (λ m. seen_of m)) ∙ ap length same ∙ length-map ys (λ m. seen_of m)
+pub same_length : {X Z : Type 0} (f : X → Z) (xs ys : List X) → map f xs ≡ map f ys → length xs ≡ length ys
+same_length f xs ys same = sym (length-map xs f) ∙ ap length same ∙ length-map ys f
 
-  pub same_exprs : exprs_of xs ≡ exprs_of ys
-  same_exprs = sym (map-map (λ s. s.0) (λ m. seen_of m) xs) ∙ ap (map (λ s. s.0)) same ∙ map-map (λ s. s.0) (λ m. seen_of m) ys
+pub same_exprs : {A : Type 0} (xs ys : List (Marked A)) → map (λ m. seen_of m) xs ≡ map (λ m. seen_of m) ys → exprs_of xs ≡ exprs_of ys
+same_exprs xs ys same =
+    sym (map-map (λ s. s.0) (λ m. seen_of m) xs) ∙ ap (map (λ s. s.0)) same ∙ map-map (λ s. s.0) (λ m. seen_of m) ys
 
 pub same_arguments : {A : Type 0} (xs ys : List (MarkedArgument A)) → map (λ a. argument_seen a) xs ≡ map (λ a. argument_seen a) ys → arguments_of xs ≡ arguments_of ys
 same_arguments xs ys same =

@@ -33,7 +33,7 @@ module _ {X O : Type 0} (f : X → O) where
     others zero h = refl
     others (suc k) h = before_last made x k (omega (arith, h))
 
-    put_other : (k : ℕ) → k ≢ n → at (slice_set places n place) (made ++ x ∷ []) k ≡ at places made k
+    pub put_other : (k : ℕ) → k ≢ n → at (slice_set places n place) (made ++ x ∷ []) k ≡ at places made k
     put_other k ne =
         ap (λ p. option_map f (numbered (made ++ x ∷ []) p)) (get_or-set_other places n k place 0 ne)
         ∙ ap (option_map f) (others (get_or places k 0) (bound (length made) places (λ i h. All-get_or (λ p. p ≤ length made) places i 0 h within) k))

@@ -3,12 +3,14 @@ use Rattle.std.specs.Prelude.{ℕ, ◌==◌, nat_lt, Bool, false, not, ◌&&◌,
 use Rattle.std.specs.List.{list_all}
 use Rattle.value.specs.Datum.{Row, row_at}
 use Rattle.value.specs.Conditions.{truth_at}
+use Rattle.value.specs.Names.{Name}
 use Rattle.value.specs.Orders.{is_true}
 use Rattle.expr.specs.declared.bound.ColumnId.{ColumnId}
 use Rattle.expr.specs.Bound.{BoundExpr}
 use Rattle.expr.specs.Columns.{columns}
 use Rattle.expr.specs.Conjuncts.{fragile_conjuncts}
 use Rattle.eval.specs.Meaning.{Outcome, meaning}
+use Rattle.tuples.specs.Guards.{shows}
 use Rattle.tuples.specs.Rows.{cells_of}
 use Rattle.tuples.specs.World.{GuardedTable, World}
 
@@ -44,6 +46,20 @@ entry_rows w entry = rows_in (slice_get w.tables entry)
 -- on the row of a number, counted from 0
 abbrev pub mark_on : World → (entry : ℕ) → BoundExpr → (number : ℕ) → Outcome
 mark_on w entry e number = meaning (cells_of (row_at (entry_rows w entry) number)) w.role e
+
+-- ---- the rows that the role sees
+
+-- a table has the row of this number, and its guard shows it
+abbrev pub sees_in : Name → Option GuardedTable → (number : ℕ) → Bool
+sees_in role None number = false
+sees_in role (Some t) number = nat_lt number (length t.rows) && shows role t.guard (row_at t.rows number)
+
+abbrev pub is_seen : World → (entry number : ℕ) → Bool
+is_seen w entry number = sees_in w.role (slice_get w.tables entry) number
+
+-- the outcome on a row that the role sees, and none on another
+abbrev pub seen_mark : World → (entry : ℕ) → BoundExpr → (number : ℕ) → Option Outcome
+seen_mark w entry e number = if is_seen w entry number then Some (mark_on w entry e number) else None
 
 -- ---- the rows that are dropped
 

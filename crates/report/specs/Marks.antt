@@ -1,5 +1,6 @@
 -- Marks: outcomes that are kept by the numbers of rows.
 use Rattle.std.specs.Prelude.{◌≡◌, ℕ, zero, suc, true, false, List, [], ◌∷◌, map, slice_get, get_or, Option, Some, None, IsSome, option_map, Ok, ⊤}
+use Rattle.std.specs.List.{All}
 use Rattle.value.specs.Datum.{bool}
 use Rattle.expr.specs.Bound.{BoundExpr}
 use Rattle.expr.specs.Conjuncts.{fragile_conjuncts}
@@ -11,7 +12,7 @@ use Rattle.tuples.specs.Slots.{slot_at}
 use Rattle.tuples.specs.World.{World}
 use Rattle.tuples.specs.declared.slot.Slot.{Slot}
 use Rattle.tuples.specs.declared.slot.Slot.TheVariants as slot
-use Rattle.report.specs.Marked.{mark_on, marked_entry}
+use Rattle.report.specs.Marked.{mark_on, marked_entry, seen_mark}
 use Rattle.report.specs.QueryStages.{query_aggregates}
 use Rattle.report.specs.declared.mark_column.MarkColumn.{MarkColumn}
 use Rattle.report.specs.declared.marked.Marked.{Marked}
@@ -32,6 +33,10 @@ mark_at c number = option_map (λ m. outcome_of m) (numbered c.made.items (get_o
 -- each that is made is the outcome on its row
 abbrev pub AreMarks : {A : Type 0} → (outcome : ℕ → Outcome) → MarkColumn A → Type 0
 AreMarks outcome c = (number : ℕ) (m : Outcome) → mark_at c number ≡ Some m → m ≡ outcome number
+
+-- those that are made stay made
+abbrev pub StayMade : {A : Type 0} → (old new : MarkColumn A) → Type 0
+StayMade old new = (number : ℕ) (m : Outcome) → mark_at old number ≡ Some m → mark_at new number ≡ Some m
 
 -- ---- an expression with its marks
 
@@ -64,6 +69,20 @@ IsMarkedIf w (Some m) = IsMarked w m
 abbrev pub AreMarkedArguments : {A : Type 0} → World → List (MarkedArgument A) → Type 0
 AreMarkedArguments w [] = ⊤
 AreMarkedArguments w (a ∷ as_) = IsMarkedIf w a.marked × AreMarkedArguments w as_
+
+-- its marks are made on the rows of its entry that the role sees, and on no other
+abbrev pub IsMade : {A : Type 0} → World → Marked A → Type 0
+IsMade w m = (entry : ℕ) → m.entry ≡ Some entry → (number : ℕ) → mark_at m.marks number ≡ seen_mark w entry (bound_expr_of m.expression.now) number
+
+abbrev pub IsMadeIf : {A : Type 0} → World → Option (Marked A) → Type 0
+IsMadeIf w None = ⊤
+IsMadeIf w (Some m) = IsMade w m
+
+abbrev pub AreMade : {A : Type 0} → World → List (Marked A) → Type 0
+AreMade w ms = All (IsMade w) ms
+
+abbrev pub AreMadeArguments : {A : Type 0} → World → List (MarkedArgument A) → Type 0
+AreMadeArguments w as_ = All (λ a. IsMadeIf w a.marked) as_
 
 -- ---- its outcome on a combination
 
@@ -112,3 +131,9 @@ pub record AreMarksOf {A : Type 0} (w : World) (m : Marks A) : Type 0 where
   pub marked_conditions : AreMarked w m.conditions.items
   pub marked_items : AreMarked w m.items.items
   pub marked_arguments : AreMarkedArguments w m.arguments.items
+
+-- its marks are made on the rows that the role sees, and on no other
+pub record AllMade {A : Type 0} (w : World) (m : Marks A) : Type 0 where
+  pub conditions : AreMade w m.conditions.items
+  pub items : AreMade w m.items.items
+  pub arguments : AreMadeArguments w m.arguments.items

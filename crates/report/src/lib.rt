@@ -19,4 +19,6 @@ mod ungrouped;
 
 pub use answering::Answering;
 pub use laws::{law_dropped_rows, law_hidden_rows, law_order_of_combinations};
+pub use marked::{Marked, MarkedArgument};
+pub use marks::Marks;
 pub use order_laws::law_ordered_rows;

@@ -17,7 +17,7 @@ pub struct MarkColumn<A: Heap> {
 }
 
 impl<A: Heap> MarkColumn<A> {
-    ghost use Rattle.std.specs.Prelude.{◌≡◌, ◌<◌, ◌+◌, ℕ, None, OnOk, Some, length, option_map};
+    ghost use Rattle.std.specs.Prelude.{◌≡◌, ◌≢◌, ◌<◌, ◌+◌, ℕ, None, OnOk, Some, length, option_map};
     ghost use Rattle.eval.specs.Marks.{outcome_of};
     ghost use Rattle.eval.specs.Meaning.{Outcome};
     ghost use Rattle.report.specs.Marks.{AreMarks, mark_at};
@@ -68,6 +68,7 @@ impl<A: Heap> MarkColumn<A> {
         requires { number < length self.old.places.items }
         ensures marks { (outcome : ℕ → Outcome) → AreMarks outcome self.old → outcome_of mark ≡ outcome number → AreMarks outcome self.new }
         ensures put { OnOk result (mark_at self.new number ≡ Some (outcome_of mark)) }
+        ensures others { (k : ℕ) → k ≢ number → mark_at self.new k ≡ mark_at self.old k }
     {
         let place = self.made.len();
         if place >= u32::MAX as usize {
@@ -82,6 +83,7 @@ impl<A: Heap> MarkColumn<A> {
     pub fn put(&mut self, number: u32, mark: Mark<A>) -> Result<(), AllocError>
         ensures marks { (outcome : ℕ → Outcome) → AreMarks outcome self.old → outcome_of mark ≡ outcome number → AreMarks outcome self.new }
         ensures put { OnOk result (mark_at self.new number ≡ Some (outcome_of mark)) }
+        ensures others { (k : ℕ) → k ≢ number → mark_at self.new k ≡ mark_at self.old k }
     {
         self.reach(number as usize)?;
         self.put_in_place(number as usize, mark)

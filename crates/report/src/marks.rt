@@ -5,9 +5,10 @@ ghost use Rattle.expr.specs.View.{aggregate_call_of, aggregate_calls_of, bound_e
 ghost use Rattle.tuples.specs.View.{world_of};
 ghost use Rattle.tuples.specs.World as spec_world;
 ghost use Rattle.report.specs.Marked.{keeps_row, marked_entry};
-ghost use Rattle.report.specs.Marks.{AreMarked, AreMarkedArguments, AreMarksOf, IsMarkedIf, argument_seen, arguments_of, exprs_of, seen_of};
+ghost use Rattle.report.specs.Marks.{AllMade, AreMade, AreMadeArguments, AreMarked, AreMarkedArguments, AreMarksOf, IsMadeIf, IsMarkedIf, argument_seen, arguments_of, exprs_of, seen_of};
 ghost use Rattle.report.specs.QueryStages as spec;
 
+use crate::grouped::query_aggregates;
 use crate::marked::{Marked, MarkedArgument};
 use expr::{AggregateCall, BoundExpr, BoundItem, fragile_conjuncts};
 use memory::Heap;
@@ -122,8 +123,43 @@ impl<'w, A: Heap> Marks<'w, A> {
         })
     }
 
+    /// All marks of the query of a world: of each of its expressions that is over one entry alone, on each row of this entry that the
+    /// role sees. None is made of a hidden row, so that no want of memory depends on one. It fails where memory runs out.
+    pub fn of(alloc: A, world: &World<'w, A>) -> Result<Marks<'w, A>, AllocError>
+        ensures marks { IfOk result (λ m. AreMarksOf (world_of world.now) m) }
+        ensures made { IfOk result (λ m. AllMade (world_of world.now) m) }
+    {
+        let calls = query_aggregates(alloc, world.query)?;
+        let mut marks = Marks::new(alloc, world, calls.as_slice())?;
+        make_all_seen(alloc, world, &mut marks.conditions)?;
+        make_all_seen(alloc, world, &mut marks.items)?;
+        make_seen_arguments(alloc, world, &mut marks.arguments)?;
+        Ok(marks)
+    }
+
+    /// The fragile conjuncts with their marks, in written order.
+    pub fn conditions(&self) -> &[Marked<'w, A>]
+        ensures { result.now ≡ self.now.conditions.items }
+    {
+        self.conditions.as_slice()
+    }
+
+    /// The items of a query without groups, with their marks.
+    pub fn items(&self) -> &[Marked<'w, A>]
+        ensures { result.now ≡ self.now.items.items }
+    {
+        self.items.as_slice()
+    }
+
+    /// The arguments of the aggregates with their marks, in written order; count(*) has none.
+    pub fn arguments(&self) -> &[MarkedArgument<'w, A>]
+        ensures { result.now ≡ self.now.arguments.items }
+    {
+        self.arguments.as_slice()
+    }
+
     /// False only where the first fragile conjunct drops no row of an entry.
-    pub(crate) fn chooses(&self, entry: usize) -> bool
+    pub fn chooses(&self, entry: usize) -> bool
         ensures { (w : spec_world.World) → AreMarksOf w self.now → result ≡ false → (number : ℕ) → keeps_row w entry number ≡ true }
     {
         match self.conditions.first() {
@@ -148,6 +184,71 @@ impl<'w, A: Heap> Marks<'w, A> {
         }
         self.conditions[0].keeps_row(alloc, world, entry, number)
     }
+
+    /// What `keeps_row` answers, by the marks that are made: where that of the first fragile conjunct on the row is not, the conjunct is
+    /// evaluated. It fails where memory runs out.
+    pub fn keeps(
+        &self,
+        alloc: A,
+        world: &World<'_, A>,
+        entry: usize,
+        number: u32,
+    ) -> Result<bool, AllocError>
+        ensures { AreMarksOf (world_of world.now) self.now → IfOk result (λ b. b ≡ keeps_row (world_of world.now) entry number) }
+    {
+        match self.conditions.first() {
+            Some(first) => first.keeps(alloc, world, entry, number),
+            None => Ok(true),
+        }
+    }
+}
+
+// Makes the marks of expressions on the rows that the role sees, and on no other.
+fn make_all_seen<A: Heap>(
+    alloc: A,
+    world: &World<'_, A>,
+    marked: &mut Vec<Marked<'_, A>, A>,
+) -> Result<(), AllocError>
+    ensures seen { OnOk result (map (λ m. seen_of m) marked.new.items ≡ map (λ m. seen_of m) marked.old.items) }
+    ensures marked { AreMarked (world_of world.now) marked.old.items → OnOk result (AreMarked (world_of world.now) marked.new.items) }
+    ensures made { OnOk result (AreMade (world_of world.now) marked.new.items) }
+{
+    for index in 0..marked.len() {
+        marked[index].make_seen(alloc, world)?;
+    }
+    Ok(())
+}
+
+// Makes the marks of an argument on the rows that the role sees, and on no other.
+fn make_seen_argument<A: Heap>(
+    alloc: A,
+    world: &World<'_, A>,
+    argument: &mut MarkedArgument<'_, A>,
+) -> Result<(), AllocError>
+    ensures seen { argument_seen argument.new ≡ argument_seen argument.old }
+    ensures marked { IsMarkedIf (world_of world.now) argument.old.marked → IsMarkedIf (world_of world.now) argument.new.marked }
+    ensures made { OnOk result (IsMadeIf (world_of world.now) argument.new.marked) }
+{
+    match &mut argument.marked {
+        None => Ok(()),
+        Some(marked) => marked.make_seen(alloc, world),
+    }
+}
+
+// Makes the marks of arguments on the rows that the role sees, and on no other.
+fn make_seen_arguments<A: Heap>(
+    alloc: A,
+    world: &World<'_, A>,
+    arguments: &mut Vec<MarkedArgument<'_, A>, A>,
+) -> Result<(), AllocError>
+    ensures seen { OnOk result (map (λ a. argument_seen a) arguments.new.items ≡ map (λ a. argument_seen a) arguments.old.items) }
+    ensures marked { AreMarkedArguments (world_of world.now) arguments.old.items → OnOk result (AreMarkedArguments (world_of world.now) arguments.new.items) }
+    ensures made { OnOk result (AreMadeArguments (world_of world.now) arguments.new.items) }
+{
+    for index in 0..arguments.len() {
+        make_seen_argument(alloc, world, &mut arguments[index])?;
+    }
+    Ok(())
 }
 
 /// Makes the marks of expressions on the rows of a combination, those that are not made.

@@ -15,7 +15,7 @@ loop-index-preserved g c =
     let i = c.loop-index.index in
     let old = c.index_mut.result.now in
     let new = c.is_true_on.new.condition in
-    let count = same_length ms c.args.conditions.now.items c.loop-index.invariant.seen in
+    let count = same_length (λ m. seen_of m) ms c.args.conditions.now.items c.loop-index.invariant.seen in
     let lt : i < length ms = omega (arith, c.loop-index-test.true, c.len-index-end.ensures, c.args.conditions.now.ok.0, count) in
     let here = next_expr ms es i old lt c.index_mut.ensures.value (same_exprs ms c.args.conditions.now.items c.loop-index.invariant.seen) in
     record {
@@ -33,7 +33,7 @@ returns-in-Ok-false-clause-value g c = λ are.
     let es = exprs_of c.args.conditions.now.items in
     let i = c.loop-index.index in
     let old = c.index_mut.result.now in
-    let count = same_length ms c.args.conditions.now.items c.loop-index.invariant.seen in
+    let count = same_length (λ m. seen_of m) ms c.args.conditions.now.items c.loop-index.invariant.seen in
     let lt : i < length ms = omega (arith, c.loop-index-test.true, c.len-index-end.ensures, c.args.conditions.now.ok.0, count) in
     let here = next_expr ms es i old lt c.index_mut.ensures.value (same_exprs ms c.args.conditions.now.items c.loop-index.invariant.seen) in
     dropped_by cells w.role es (drop (i + 1) es) (seen_of old).0 (drop i es) here (c.loop-index.invariant.value are)
@@ -55,7 +55,7 @@ returns-in-Err-clause-value g c = λ are.
     let es = exprs_of c.args.conditions.now.items in
     let i = c.loop-index.index in
     let old = c.index_mut.result.now in
-    let count = same_length ms c.args.conditions.now.items c.loop-index.invariant.seen in
+    let count = same_length (λ m. seen_of m) ms c.args.conditions.now.items c.loop-index.invariant.seen in
     let lt : i < length ms = omega (arith, c.loop-index-test.true, c.len-index-end.ensures, c.args.conditions.now.ok.0, count) in
     let here = next_expr ms es i old lt c.index_mut.ensures.value (same_exprs ms c.args.conditions.now.items c.loop-index.invariant.seen) in
     failed_by cells w.role es (drop (i + 1) es) (seen_of old).0 (drop i es) here (c.loop-index.invariant.value are) c.in-Err.failure
