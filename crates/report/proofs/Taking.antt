@@ -12,7 +12,6 @@ use Rattle.value.specs.Datum.{Row, row_of}
 use Rattle.value.specs.Names.{Name}
 use Rattle.value.specs.declared.faults.Fault.{Fault}
 use Rattle.expr.specs.Aggregates.{AggregateCall}
-use Rattle.expr.specs.Bound.{BoundExpr}
 use Rattle.expr.specs.BoundQuery.{BoundQuery}
 use Rattle.expr.specs.Conjuncts.{fragile_conjuncts}
 use Rattle.expr.specs.View.{aggregate_calls_of}
@@ -196,15 +195,13 @@ module _ {A : Type 0} (w : World) (s : Answering A) (these : List Combination) (
   took_fault filter m marks failures.OutOfMemory is adds = absurd adds
 
 module _ {A : Type 0} (w : World) (s : Answering A) where
-  abbrev conditions : List BoundExpr
-  conditions = exprs_of s.marks.conditions.items
-
-  -- the test of a combination in the world that is asked
-  pub test_in : (P : Result Bool Fault → Type 0) (slots : List Slot) (these : List Combination) → Took w s these →
-      (let v = world_of s.world.now in AreMarked v s.marks.conditions.items → P (keeps (joined_cells (combination_at v.tables slots)) v.role conditions)) → P (keeps (joined_cells (combination_at w.tables slots)) w.role (fragile_conjuncts w.query))
-  test_in P slots these h p =
-      subst (λ es. P (keeps (joined_cells (combination_at w.tables slots)) w.role es)) h.marks.conditions
-      (subst (λ v. AreMarked v s.marks.conditions.items → P (keeps (joined_cells (combination_at v.tables slots)) v.role conditions)) h.world p h.marks.marked_conditions)
+  -- the test of a combination, by marks, in the world that is asked
+  pub test_in : (P : Result Bool Fault → Type 0) (m : Marks A) (slots : List Slot) (these : List Combination) → AreMarksOf w m → Took w s these →
+      (let v = world_of s.world.now in AreMarked v m.conditions.items → P (keeps (joined_cells (combination_at v.tables slots)) v.role (exprs_of m.conditions.items)))
+      → P (keeps (joined_cells (combination_at w.tables slots)) w.role (fragile_conjuncts w.query))
+  test_in P m slots these are h p =
+      subst (λ es. P (keeps (joined_cells (combination_at w.tables slots)) w.role es)) are.conditions
+      (subst (λ v. AreMarked v m.conditions.items → P (keeps (joined_cells (combination_at v.tables slots)) v.role (exprs_of m.conditions.items))) h.world p are.marked_conditions)
 
   -- its marks after the test
   pub tested_in : (cs : Vec (Marked A) A) (these : List Combination) → Took w s these → map (λ c. seen_of c) cs.items ≡ map (λ c. seen_of c) s.marks.conditions.items →

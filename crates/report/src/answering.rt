@@ -1,6 +1,6 @@
 //! The answer of a query over combinations that come one after the other.
 
-ghost use Rattle.std.specs.Prelude.{[], List, IfOk, IsPermutation, map};
+ghost use Rattle.std.specs.Prelude.{[], ◌∷◌, ◌++◌, List, IfOk, IsPermutation, OnOk, map};
 ghost use Rattle.memory.specs.Gives.{Gives};
 ghost use Rattle.value.specs.Datum.{row_of};
 ghost use Rattle.tuples.specs.Combinations.{Combination};
@@ -8,8 +8,9 @@ ghost use Rattle.tuples.specs.View.{world_of};
 ghost use Rattle.tuples.specs.World as spec;
 ghost use Rattle.report.specs.Answer.{answer};
 ghost use Rattle.report.specs.Answering.{Took};
+ghost use Rattle.report.specs.Marks.{AreMarksOf};
 
-use crate::conditions::keeps_combination;
+use crate::conditions::{keeps_by_marks, keeps_combination};
 use crate::gathered::Gathered;
 use crate::grouped::query_aggregates;
 use crate::marks::Marks;
@@ -51,6 +52,27 @@ impl<'w, A: Heap> Answering<'w, A> {
             filter: Stage::new(alloc),
             gathered,
         })
+    }
+
+    /// Takes one more, by marks that are handed in: where one is not made, the expression is evaluated. It fails where memory runs out.
+    pub(crate) fn take_marked(
+        &mut self,
+        marks: &Marks<'_, A>,
+        combination: &Combo<A>,
+    ) -> Result<(), AllocError>
+        ensures { (w : spec.World) (these : List Combination) → AreMarksOf w marks.now → Took w self.old these →
+            OnOk result (Took w self.new (these ++ spec.combination_at w.tables combination.now ∷ [])) }
+    {
+        let conditions = marks.conditions.as_slice();
+        match keeps_by_marks(self.alloc, self.world, conditions, combination) {
+            Ok(true) => {
+                let calls = self.calls.as_slice();
+                self.gathered
+                    .put(self.alloc, self.world, calls, marks, combination)
+            }
+            Ok(false) => Ok(()),
+            Err(failed) => self.filter.add(Err(failed)),
+        }
     }
 
     /// The answer over the combinations that were taken, in any order, on which every movable conjunct is true: its rows in order,

@@ -15,6 +15,19 @@ use memory::{Failure, Heap};
 use tuples::{Combo, JoinedRow, World};
 use value::Fault;
 
+// True where a condition is true on a combination, by its mark, where it is made.
+fn is_true_by_mark<A: Heap>(
+    alloc: A,
+    world: &World<'_, A>,
+    condition: &Marked<'_, A>,
+    combination: &Combo<A>,
+) -> Result<bool, Failure<Fault>>
+    ensures { IsMarked (world_of world.now) condition.now → Gives (λ b. b) result (spec.truth_in (meaning (joined_cells (combination_at (world_of world.now).tables combination.now)) world.now.role.now (seen_of condition.now).0)) }
+{
+    let row = JoinedRow::new(world.tables, combination);
+    truth_in(condition.outcome(alloc, combination, &row, world.role))
+}
+
 // True where a condition is true on a combination. Its mark is made, unless it is made already.
 fn is_true_on<A: Heap>(
     alloc: A,
@@ -27,8 +40,7 @@ fn is_true_on<A: Heap>(
     ensures marked { IsMarked (world_of world.now) condition.old → IsMarked (world_of world.now) condition.new }
 {
     condition.make(alloc, world, combination)?;
-    let row = JoinedRow::new(world.tables, combination);
-    truth_in(condition.outcome(alloc, combination, &row, world.role))
+    is_true_by_mark(alloc, world, &*condition, combination)
 }
 
 /// True where the conditions keep the combination: the first that is not true drops it, the first that faults gives its fault. The
@@ -48,6 +60,23 @@ pub(crate) fn keeps_combination<A: Heap>(
             Ok(true) => {}
             Ok(false) => return Ok(false),
             Err(failure) => return Err(failure),
+        }
+    }
+    Ok(true)
+}
+
+/// True where the conditions keep the combination, as `keeps_combination` says it, by the marks that are made.
+pub(crate) fn keeps_by_marks<A: Heap>(
+    alloc: A,
+    world: &World<'_, A>,
+    conditions: &[Marked<'_, A>],
+    combination: &Combo<A>,
+) -> Result<bool, Failure<Fault>>
+    ensures { AreMarked (world_of world.now) conditions.now → Gives (λ b. b) result (spec.keeps (joined_cells (combination_at (world_of world.now).tables combination.now)) world.now.role.now (exprs_of conditions.now)) }
+{
+    for condition in conditions {
+        if !is_true_by_mark(alloc, world, condition, combination)? {
+            return Ok(false);
         }
     }
     Ok(true)

@@ -13,9 +13,9 @@ ghost use Rattle.report.specs.Marks.{AreMarksOf};
 ghost use Rattle.report.specs.QueryStages.{query_aggregates};
 
 use crate::answer_rows::AnswerRows;
-use crate::grouped::{add_combination, rows_of_groups};
+use crate::grouped::{put_combination, rows_of_groups};
 use crate::marks::Marks;
-use crate::ungrouped::add_items;
+use crate::ungrouped::put_items;
 use expr::AggregateCall;
 use groups::Groups;
 use memory::{Failure, Heap, Items};
@@ -50,7 +50,30 @@ impl<A: Heap> Gathered<A> {
         }
     }
 
-    /// Takes one more that stage WHERE keeps.
+    /// Takes one more that stage WHERE keeps, by the marks that are made.
+    pub fn put(
+        &mut self,
+        alloc: A,
+        world: &World<'_, A>,
+        calls: &[AggregateCall<'_, A>],
+        marks: &Marks<'_, A>,
+        combination: &Combo<A>,
+    ) -> Result<(), AllocError>
+        ensures { let w = world_of world.now in (kept : List Combination) → aggregate_calls_of calls.now ≡ query_aggregates w.query → AreMarksOf w marks.now → Gathers w self.old kept →
+            OnOk result (Gathers w self.new (kept ++ combination_at w.tables combination.now ∷ [])) }
+    {
+        match self {
+            Gathered::Groups(groups) => {
+                let arguments = marks.arguments.as_slice();
+                put_combination(alloc, world, calls, arguments, groups, combination)
+            }
+            Gathered::Rows(rows) => {
+                put_items(alloc, world, marks.items.as_slice(), rows, combination)
+            }
+        }
+    }
+
+    /// Takes one more that stage WHERE keeps. The marks of what is evaluated on it are made, unless they are made already.
     pub fn add(
         &mut self,
         alloc: A,
@@ -63,13 +86,8 @@ impl<A: Heap> Gathered<A> {
             OnOk result (Gathers w self.new (kept ++ combination_at w.tables combination.now ∷ [])) }
         ensures marks { AreMarksOf (world_of world.now) marks.old → OnOk result (AreMarksOf (world_of world.now) marks.new) }
     {
-        match self {
-            Gathered::Groups(groups) => {
-                let arguments = &mut marks.arguments;
-                add_combination(alloc, world, calls, arguments, groups, combination)
-            }
-            Gathered::Rows(rows) => add_items(alloc, world, &mut marks.items, rows, combination),
-        }
+        marks.make_kept(alloc, world, combination)?;
+        self.put(alloc, world, calls, &*marks, combination)
     }
 
     /// Their rows in order and cut by the limit, or the least fault of the first stage that has one.

@@ -11,14 +11,13 @@ ghost use Rattle.tuples.specs.Combinations.{Combination};
 ghost use Rattle.tuples.specs.View.{world_of};
 ghost use Rattle.tuples.specs.World.{combination_at};
 ghost use Rattle.report.specs.Answering.{HoldsGroups};
-ghost use Rattle.report.specs.Marks.{AreMarkedArguments, argument_seen, arguments_of};
+ghost use Rattle.report.specs.Marks.{AreMarkedArguments, arguments_of};
 ghost use Rattle.report.specs.Ordered.{in_order_of};
 ghost use Rattle.report.specs.QueryStages as spec;
 
 use crate::answer_rows::AnswerRows;
 use crate::marked::MarkedArgument;
 use crate::marked_arguments::MarkedArguments;
-use crate::marks::make_arguments;
 use crate::outcomes::{keeps, values};
 use expr::{AggregateCall, BoundCondition, BoundExpr, BoundItem, BoundQuery, push_aggregates};
 use groups::{GroupCells, GroupRow, Groups, Stage, gives_if, key_on};
@@ -84,26 +83,23 @@ fn having_conditions<'q, A: Heap>(
     Ok(conditions)
 }
 
-/// Adds the group key and aggregate arguments of one more combination to the groups, or the first fault of the arguments. Their marks
-/// are made, unless they are made already.
-pub fn add_combination<A: Heap>(
+/// Adds the group key and aggregate arguments of one more combination to the groups, or the first fault of the arguments, by the marks
+/// that are made.
+pub fn put_combination<A: Heap>(
     alloc: A,
     world: &World<'_, A>,
     calls: &[AggregateCall<'_, A>],
-    arguments: &mut Vec<MarkedArgument<'_, A>, A>,
+    arguments: &[MarkedArgument<'_, A>],
     groups: &mut Groups<A>,
     combination: &Combo<A>,
 ) -> Result<(), AllocError>
-    ensures taken { let w = world_of world.now in (these : List Combination) → aggregate_calls_of calls.now ≡ spec.query_aggregates w.query → AreMarkedArguments w arguments.old.items
-        → arguments_of arguments.old.items ≡ map (λ c. c.argument) (spec.query_aggregates w.query) → HoldsGroups w.query.group_by (spec.query_aggregates w.query) groups.old (map (spec.arguments_fate w.role w.query) these) →
+    ensures { let w = world_of world.now in (these : List Combination) → aggregate_calls_of calls.now ≡ spec.query_aggregates w.query → AreMarkedArguments w arguments.now
+        → arguments_of arguments.now ≡ map (λ c. c.argument) (spec.query_aggregates w.query) → HoldsGroups w.query.group_by (spec.query_aggregates w.query) groups.old (map (spec.arguments_fate w.role w.query) these) →
         OnOk result (HoldsGroups w.query.group_by (spec.query_aggregates w.query) groups.new (map (spec.arguments_fate w.role w.query) (these ++ combination_at w.tables combination.now ∷ []))) }
-    ensures seen { OnOk result (map (λ a. argument_seen a) arguments.new.items ≡ map (λ a. argument_seen a) arguments.old.items) }
-    ensures marked { AreMarkedArguments (world_of world.now) arguments.old.items → OnOk result (AreMarkedArguments (world_of world.now) arguments.new.items) }
 {
-    make_arguments(alloc, world, arguments, combination)?;
     let row = JoinedRow::new(world.tables, combination);
     let marked = MarkedArguments {
-        arguments: arguments.as_slice(),
+        arguments,
         combination,
         row: &row,
         role: world.role,

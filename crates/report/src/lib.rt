@@ -5,6 +5,7 @@
 mod answer_rows;
 mod answering;
 mod conditions;
+mod finishing;
 mod gathered;
 mod grouped;
 mod laws;
@@ -18,6 +19,7 @@ mod outcomes;
 mod ungrouped;
 
 pub use answering::Answering;
+pub use finishing::finish_marked;
 pub use laws::{law_dropped_rows, law_hidden_rows, law_order_of_combinations};
 pub use marked::{Marked, MarkedArgument};
 pub use marks::Marks;

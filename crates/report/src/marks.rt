@@ -124,7 +124,7 @@ impl<'w, A: Heap> Marks<'w, A> {
     }
 
     /// All marks of the query of a world: of each of its expressions that is over one entry alone, on each row of this entry that the
-    /// role sees. None is made of a hidden row, so that no want of memory depends on one. It fails where memory runs out.
+    /// role sees. None is made of a hidden row, so that running out of memory depends on none. It fails where memory runs out.
     pub fn of(alloc: A, world: &World<'w, A>) -> Result<Marks<'w, A>, AllocError>
         ensures marks { IfOk result (λ m. AreMarksOf (world_of world.now) m) }
         ensures made { IfOk result (λ m. AllMade (world_of world.now) m) }
@@ -183,6 +183,22 @@ impl<'w, A: Heap> Marks<'w, A> {
             return Ok(true);
         }
         self.conditions[0].keeps_row(alloc, world, entry, number)
+    }
+
+    /// Makes the marks of what is evaluated on a combination that the conditions keep, those that are not made.
+    pub(crate) fn make_kept(
+        &mut self,
+        alloc: A,
+        world: &World<'_, A>,
+        combination: &Combo<A>,
+    ) -> Result<(), AllocError>
+        ensures { AreMarksOf (world_of world.now) self.old → OnOk result (AreMarksOf (world_of world.now) self.new) }
+    {
+        if world.query.is_grouped {
+            make_arguments(alloc, world, &mut self.arguments, combination)
+        } else {
+            make_all(alloc, world, &mut self.items, combination)
+        }
     }
 
     /// What `keeps_row` answers, by the marks that are made: where that of the first fragile conjunct on the row is not, the conjunct is
@@ -251,8 +267,8 @@ fn make_seen_arguments<A: Heap>(
     Ok(())
 }
 
-/// Makes the marks of expressions on the rows of a combination, those that are not made.
-pub(crate) fn make_all<A: Heap>(
+// Makes the marks of expressions on the rows of a combination, those that are not made.
+fn make_all<A: Heap>(
     alloc: A,
     world: &World<'_, A>,
     marked: &mut Vec<Marked<'_, A>, A>,
@@ -283,8 +299,8 @@ fn make_argument<A: Heap>(
     }
 }
 
-/// Makes the marks of arguments on the rows of a combination, those that are not made.
-pub(crate) fn make_arguments<A: Heap>(
+// Makes the marks of arguments on the rows of a combination, those that are not made.
+fn make_arguments<A: Heap>(
     alloc: A,
     world: &World<'_, A>,
     arguments: &mut Vec<MarkedArgument<'_, A>, A>,

@@ -8,12 +8,11 @@ ghost use Rattle.tuples.specs.Combinations.{Combination};
 ghost use Rattle.tuples.specs.View.{world_of};
 ghost use Rattle.tuples.specs.World.{combination_at};
 ghost use Rattle.report.specs.Answering.{HoldsRows};
-ghost use Rattle.report.specs.Marks.{AreMarked, exprs_of, outcome_in, seen_of};
+ghost use Rattle.report.specs.Marks.{AreMarked, exprs_of, outcome_in};
 ghost use Rattle.report.specs.QueryStages as spec;
 
 use crate::answer_rows::AnswerRows;
 use crate::marked::Marked;
-use crate::marks::make_all;
 use eval::Row;
 use memory::{Failure, Heap, Items};
 use std::alloc::AllocError;
@@ -54,21 +53,18 @@ fn items_on<A: Heap, R: Row<A>>(
     Ok(values)
 }
 
-/// Takes the items of one more combination, or their fault. Their marks are made, unless they are made already.
-pub fn add_items<A: Heap>(
+/// Takes the items of one more combination, or their fault, by the marks that are made.
+pub fn put_items<A: Heap>(
     alloc: A,
     world: &World<'_, A>,
-    items: &mut Vec<Marked<'_, A>, A>,
+    items: &[Marked<'_, A>],
     rows: &mut AnswerRows<A>,
     combination: &Combo<A>,
 ) -> Result<(), AllocError>
-    ensures taken { let w = world_of world.now in (these : List Combination) → AreMarked w items.old.items → exprs_of items.old.items ≡ map (λ i. i.value) w.query.items → HoldsRows w.query.order_by w.query.limit rows.old (map (spec.items_fate w.role w.query) these) →
+    ensures { let w = world_of world.now in (these : List Combination) → AreMarked w items.now → exprs_of items.now ≡ map (λ i. i.value) w.query.items → HoldsRows w.query.order_by w.query.limit rows.old (map (spec.items_fate w.role w.query) these) →
         OnOk result (HoldsRows w.query.order_by w.query.limit rows.new (map (spec.items_fate w.role w.query) (these ++ combination_at w.tables combination.now ∷ []))) }
-    ensures seen { OnOk result (map (λ m. seen_of m) items.new.items ≡ map (λ m. seen_of m) items.old.items) }
-    ensures marked { AreMarked (world_of world.now) items.old.items → OnOk result (AreMarked (world_of world.now) items.new.items) }
 {
-    make_all(alloc, world, items, combination)?;
     let row = JoinedRow::new(world.tables, combination);
-    let outcome = items_on(alloc, items.as_slice(), combination, &row, world.role);
+    let outcome = items_on(alloc, items, combination, &row, world.role);
     rows.add(world.query, outcome)
 }

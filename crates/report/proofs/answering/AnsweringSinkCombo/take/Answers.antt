@@ -12,7 +12,7 @@ returns-in-Ok-true g c = λ w these h.
     let s = c.args.self.now in
     let cs = c.keeps_combination.new.conditions in
     let tested = tested_in w s cs _ h c.keeps_combination.ensures.seen c.keeps_combination.ensures.marked in
-    let is = test_in w s (λ r. r ≡ Ok true) c.args.combination _ h (λ are. c.in-Ok-true.ensures.value are ∙ ap Ok c.in-Ok-true.field-0-test) in
+    let is = test_in w s (λ r. r ≡ Ok true) s.marks c.args.combination _ h.marks h (λ are. c.in-Ok-true.ensures.value are ∙ ap Ok c.in-Ok-true.field-0-test) in
     subst (λ l. OnOk c.add.result (Took w (record s { gathered = c.add.new.self; marks = c.add.new.marks }) l)) (sym (map-append (combination_at w.tables) these (c.args.combination ∷ [])))
     (on_both c.add.result (λ gathered marks. took_kept w s _ (combination_at w.tables c.args.combination) h c.add.new.self c.add.new.marks marks is gathered)
     (gathered_in w s c.add.result c.add.new.self (record s.marks { conditions = cs }) c.args.combination _ h tested (rw c.as_slice.ensures at c.add.ensures.taken))
@@ -23,7 +23,7 @@ returns-in-Ok-false g c = λ w these h.
     let s = c.args.self.now in
     let cs = c.keeps_combination.new.conditions in
     let tested = tested_in w s cs _ h c.keeps_combination.ensures.seen c.keeps_combination.ensures.marked in
-    let is = test_in w s (λ r. r ≡ Ok false) c.args.combination _ h (λ are. c.in-Ok-false.ensures.value are ∙ ap Ok c.in-Ok-false.field-0-test) in
+    let is = test_in w s (λ r. r ≡ Ok false) s.marks c.args.combination _ h.marks h (λ are. c.in-Ok-false.ensures.value are ∙ ap Ok c.in-Ok-false.field-0-test) in
     subst (Took w (record s { marks = record s.marks { conditions = cs } })) (sym (map-append (combination_at w.tables) these (c.args.combination ∷ [])))
     (took_dropped w s _ (combination_at w.tables c.args.combination) h (record s.marks { conditions = cs }) tested is)
 
@@ -32,6 +32,6 @@ returns g c = λ w these h.
     let s = c.args.self.now in
     let cs = c.keeps_combination.new.conditions in
     let tested = tested_in w s cs _ h c.keeps_combination.ensures.seen c.keeps_combination.ensures.marked in
-    let is = test_in w s (IsFailure c.in-Err.failure) c.args.combination _ h c.in-Err.ensures.value in
+    let is = test_in w s (IsFailure c.in-Err.failure) s.marks c.args.combination _ h.marks h c.in-Err.ensures.value in
     subst (λ l. OnOk c.add-in-Err.result (Took w (record s { filter = c.add-in-Err.new.self; marks = record s.marks { conditions = cs } }) l)) (sym (map-append (combination_at w.tables) these (c.args.combination ∷ [])))
     (on_ok c.add-in-Err.result (λ adds. took_fault w s _ (combination_at w.tables c.args.combination) h c.add-in-Err.new.self (record s.marks { conditions = cs }) tested c.in-Err.failure is adds) c.add-in-Err.ensures.added)

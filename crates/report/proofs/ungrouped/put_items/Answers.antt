@@ -1,4 +1,4 @@
-use Rattle.std.proofs.Common.{◌≡◌, OnOk, [], ◌∷◌, map, subst, sym, ◌∙◌}
+use Rattle.std.proofs.Common.{◌≡◌, OnOk, [], ◌∷◌, map, subst, sym}
 use Rattle.std.proofs.lemmas.List.{map-append}
 use Rattle.memory.specs.Gives.{Gives}
 use Rattle.value.specs.Datum.{row_of}
@@ -9,17 +9,15 @@ use Rattle.tuples.specs.World.{combination_at}
 use Rattle.report.specs.Answering.{HoldsRows}
 use Rattle.report.specs.Marks.{outcome_in}
 use Rattle.report.specs.QueryStages.{items_fate, values_of}
-use Rattle.report.proofs.Marking.{same_exprs}
 use Rattle.report.proofs.MarkOutcomes.{items_are}
-use Rattle.report.proofs.ungrouped.add_items.Goals as goal
+use Rattle.report.proofs.ungrouped.put_items.Goals as goal
 
-pub returns-clause-taken : goal.returns-clause-taken
-returns-clause-taken g c = λ these are exprs h.
+pub returns : goal.returns
+returns g c = λ these are exprs h.
     let w = world_of c.args.world.now in
     let row = combination_at w.tables c.args.combination.now in
-    let ms = c.make_all.new.marked.items in
     let due = values_of (joined_cells row) w.role w.query.items in
-    let is : all_of (map (λ m. outcome_in (joined_cells row) w.role c.args.combination.now m) ms) ≡ due =
-    items_are w c.args.combination.now ms (c.in_ok-make_all.ensures.marked are) w.query.items (same_exprs ms c.args.items.now.items c.in_ok-make_all.ensures.seen ∙ exprs) in
+    let is : all_of (map (λ m. outcome_in (joined_cells row) w.role c.args.combination.now m) c.args.items.now) ≡ due =
+    items_are w c.args.combination.now c.args.items.now are w.query.items exprs in
     subst (λ l. OnOk c.add.result (HoldsRows w.query.order_by w.query.limit c.add.new.self l)) (sym (map-append (items_fate w.role w.query) these (row ∷ [])))
-    (c.add.ensures due (map (items_fate w.role w.query) these) (subst (Gives (λ r. row_of r) c.items_on-outcome.result) is (rw (c.new-row.ensures, c.as_slice.ensures.value) at c.items_on-outcome.ensures)) h)
+    (c.add.ensures due (map (items_fate w.role w.query) these) (subst (Gives (λ r. row_of r) c.items_on-outcome.result) is (rw c.new-row.ensures at c.items_on-outcome.ensures)) h)
