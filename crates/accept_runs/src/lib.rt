@@ -23,8 +23,6 @@ mod least_codes;
 #[cfg(test)]
 mod least_of_all;
 #[cfg(test)]
-mod nested_loops;
-#[cfg(test)]
 mod planned;
 #[cfg(test)]
 mod rows;
@@ -42,3 +40,5 @@ mod stores;
 mod texts;
 #[cfg(test)]
 mod trivial;
+#[cfg(test)]
+mod without_thirds;

@@ -77,10 +77,14 @@ fn run_code(
 ) -> Result<Option<Items<Combo<Global>, Global>>, AllocError>
     requires { map guard_of setting.now.frame ≡ map (λ t. guard_of t.guard.now) world.now.tables.now }
 {
-    if wanted == "any" {
-        run_into_over(alloc, world, setting, code, work)
+    if wanted != "any" {
+        return run_over(alloc, world, setting, code, column_of(wanted), work);
+    }
+    let mut taken = Items::new(alloc);
+    if run_into_over(alloc, world, setting, code, &mut taken, work)? {
+        Ok(Some(taken))
     } else {
-        run_over(alloc, world, setting, code, column_of(wanted), work)
+        Ok(None)
     }
 }
 

@@ -2,7 +2,7 @@
 
 ghost use Rattle.std.specs.Prelude.{◌≡◌, [], ℕ, IfOk, List, Some, length, map, slice_get, slice_index_or};
 ghost use Rattle.fixture_plans.specs.Worlds.{AreOf};
-ghost use Rattle.tuples.specs.View.{guard_of};
+ghost use Rattle.tuples.specs.View.{guard_of, world_of};
 
 use executor::{run, run_into};
 use expr::{BoundQuery, Code, ColumnId};
@@ -11,7 +11,7 @@ use memory::Items;
 use std::alloc::{AllocError, Global};
 use tables::Table;
 use trailcheck::{Setting, is_admissible};
-use tuples::{Combo, Guard, GuardedTable, Work, World};
+use tuples::{Combo, Guard, GuardedTable, Sink, Work, World};
 
 /// Each table with its guard.
 pub fn tables_of<'w>(
@@ -98,23 +98,24 @@ pub fn run_over(
     Ok(Some(combinations))
 }
 
-/// The combinations that the run of a code gives to a sink, in any order, with indexes that are made for it; none where no plan may
-/// have the code.
-pub fn run_into_over(
+/// Gives a sink, which has taken nothing, the combinations of the run of a code that it wants, in any order, with indexes that are
+/// made for it. False where no plan may have the code, of which it gives nothing.
+pub fn run_into_over<K: Sink<Combo<Global>>>(
     alloc: Global,
     world: &World<'_, Global>,
     setting: &Setting<Global>,
     code: &Code<Global>,
+    sink: &mut K,
     work: &mut Work,
-) -> Result<Option<Items<Combo<Global>, Global>>, AllocError>
-    requires { map guard_of setting.now.frame ≡ map (λ t. guard_of t.guard.now) world.now.tables.now }
+) -> Result<bool, AllocError>
+    requires guards { map guard_of setting.now.frame ≡ map (λ t. guard_of t.guard.now) world.now.tables.now }
+    requires fresh { K.took sink.old (world_of world.now) [] }
 {
     let indexes = indexes_of_tables(alloc, world.tables, setting.indexed.as_slice())?;
     let lent = lent(alloc, indexes.as_slice())?;
     if !is_admissible(alloc, setting, code)? {
-        return Ok(None);
+        return Ok(false);
     }
-    let mut taken = Items::new(alloc);
-    run_into(alloc, world, setting, &lent, code, &mut taken, work)?;
-    Ok(Some(taken))
+    run_into(alloc, world, setting, &lent, code, sink, work)?;
+    Ok(true)
 }
