@@ -101,6 +101,17 @@ alice: SELECT d.id FROM region r CROSS JOIN deal d WHERE d.amount/(d.parts - 5) 
 5
 fault 22012 at 58
 
+-- fault_of_the_first_conjunct_on_a_row_that_joins_nothing
+alice: SELECT d.id FROM region r CROSS JOIN deal d WHERE d.amount/d.parts > 0 AND d.region = r.id AND r.name = 'north'
+0
+id
+1
+
+-- second_conjunct_of_the_same_entry_drops_no_row
+alice: SELECT d.id FROM region r CROSS JOIN deal d WHERE d.amount/d.parts > 0 AND d.id/3 > 0
+5
+fault 22012 at 58
+
 -- null_drops_a_row
 audit: SELECT d.id FROM region r CROSS JOIN deal d WHERE d.amount/d.parts > 0 AND CAST(r.name AS bigint) > 0 AND d.id = 4
 0
