@@ -29,8 +29,9 @@ struct Request {
     status: u8,
 }
 
-// Queries of one table, of a join with a cast and a fragile condition, of a fault, and of groups in an order; a plan, and an audit.
-static REQUESTS: [Request; 6] = [
+// Queries of one table, of a join with a cast and a fragile condition, of a fault, and of groups in an order; two with texts that are
+// made once a row, in a condition that drops rows, in an item and in aggregates; a plan, and an audit.
+static REQUESTS: [Request; 8] = [
     Request {
         text: TEXT,
         asked: Asked::Rows,
@@ -53,6 +54,18 @@ static REQUESTS: [Request; 6] = [
         text: "SELECT owner, count(*), max(owner), sum(id) + 1 AS n FROM deal GROUP BY owner HAVING min(id) > 0 ORDER BY n DESC LIMIT 2",
         asked: Asked::Rows,
         written: "owner,count,max,n\nalice,2,alice,4\n",
+        status: 0,
+    },
+    Request {
+        text: "SELECT CAST(d.id AS text) AS t, e.id AS n FROM deal d, deal e WHERE CAST(d.id AS text) <> '2'",
+        asked: Asked::Rows,
+        written: "t,n\n1,1\n1,2\n",
+        status: 0,
+    },
+    Request {
+        text: "SELECT count(*), min(CAST(d.id AS text)) AS low, max(CAST(e.id AS text)) AS high FROM deal d, deal e WHERE CAST(e.id AS text) <> '1'",
+        asked: Asked::Rows,
+        written: "count,low,high\n2,1,2\n",
         status: 0,
     },
     Request {
