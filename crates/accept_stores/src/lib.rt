@@ -1,6 +1,6 @@
 //! Tests of stores that go through the whole program: opened from a schema text and files, loaded, asked with writers that
-//! fail, with memory that is refused, and what is said of refused texts; calls that take no memory; and rows in aligned columns.
-//! docs/ACCEPTANCE.md lists them.
+//! fail, with memory that is refused, and what is said of refused texts; calls that take no memory, and queries over products that
+//! take little; and rows in aligned columns. docs/ACCEPTANCE.md lists them.
 #![tactic(auto)]
 
 #[cfg(test)]
@@ -15,6 +15,8 @@ mod memory_refused;
 mod no_memory;
 #[cfg(test)]
 mod opening;
+#[cfg(test)]
+mod product_requests;
 #[cfg(test)]
 mod stores;
 #[cfg(test)]
