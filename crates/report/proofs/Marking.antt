@@ -1,5 +1,5 @@
 -- Expressions of a query, each with its marks.
-use Rattle.std.proofs.Common.{Bool, true, false, true≢false, ◌==◌, drop, ◌≡◌, ◌<◌, ◌≤◌, ◌+◌, ℕ, zero, suc, List, [], ◌∷◌, ◌++◌, length, get_or, map, slice_set, take, Option, drop, refl, sym, ap, ap₂, subst, ◌∙◌, option_map, Ok, None, Vec, arith}
+use Rattle.std.proofs.Common.{Bool, true, false, true≢false, ◌==◌, drop, ◌≡◌, ◌<◌, ◌≤◌, ◌+◌, ℕ, zero, suc, List, [], ◌∷◌, ◌++◌, length, get_or, map, slice_set, take, Option, Some, drop, refl, sym, ap, ap₂, subst, ◌∙◌, option_map, Ok, None, Vec, arith}
 use Rattle.std.proofs.lemmas.List.{drop_more, get_or-map, length-map, map-append, map_more}
 use Rattle.memory.specs.Gives.{IsFailure}
 use Rattle.memory.specs.declared.failure.Failure.{Failure}
@@ -8,7 +8,9 @@ use Rattle.value.specs.Names.{Name}
 use Rattle.value.specs.declared.faults.Fault.{Fault}
 use Rattle.eval.specs.Meaning.{Cells, meaning}
 use Rattle.expr.specs.View.{bound_expr_of}
+use Rattle.expr.specs.Aggregates.{AggregateCall}
 use Rattle.expr.specs.Bound.{BoundExpr}
+use Rattle.expr.specs.BoundQuery.{BoundItem}
 use Rattle.groups.proofs.SameGroups.{map-map}
 use Rattle.tuples.specs.World.{World}
 use Rattle.report.specs.Marked.{drops_by, drops_first, marked_entry}
@@ -118,9 +120,24 @@ pub same_exprs : {A : Type 0} (xs ys : List (Marked A)) → map (λ m. seen_of m
 same_exprs xs ys same =
     sym (map-map (λ s. s.0) (λ m. seen_of m) xs) ∙ ap (map (λ s. s.0)) same ∙ map-map (λ s. s.0) (λ m. seen_of m) ys
 
-pub same_arguments : {A : Type 0} (xs ys : List (MarkedArgument A)) → map (λ a. argument_seen a) xs ≡ map (λ a. argument_seen a) ys → arguments_of xs ≡ arguments_of ys
-same_arguments xs ys same =
-    sym (map-map (λ o. option_map (λ s. s.0) o) (λ a. argument_seen a) xs) ∙ ap (map (λ o. option_map (λ s. s.0) o)) same ∙ map-map (λ o. option_map (λ s. s.0) o) (λ a. argument_seen a) ys
+-- the expressions of items and arguments, from what is seen of them
+module _ (entry_of : BoundExpr → Option ℕ) where
+  pub items_seen : {A : Type 0} (ms : List (Marked A)) (is : List BoundItem) → map (λ m. seen_of m) ms ≡ map (λ i. (i.value, entry_of i.value)) is → exprs_of ms ≡ map (λ i. i.value) is
+  items_seen ms is same = sym (map-map (λ (s : BoundExpr × Option ℕ). s.0) (λ m. seen_of m) ms) ∙ ap (map (λ (s : BoundExpr × Option ℕ). s.0)) same ∙ map-map (λ (s : BoundExpr × Option ℕ). s.0) (λ i. (i.value, entry_of i.value)) is
+
+  first_again : (o : Option BoundExpr) → option_map (λ (s : BoundExpr × Option ℕ). s.0) (option_map (λ e. (e, entry_of e)) o) ≡ o
+  first_again None = refl
+  first_again (Some e) = refl
+
+  each_again : (calls : List AggregateCall) → map (λ c. option_map (λ (s : BoundExpr × Option ℕ). s.0) (option_map (λ e. (e, entry_of e)) c.argument)) calls ≡ map (λ c. c.argument) calls
+  each_again [] = refl
+  each_again (c ∷ calls) = ap₂ ◌∷◌ (first_again c.argument) (each_again calls)
+
+  pub arguments_seen : {A : Type 0} (as_ : List (MarkedArgument A)) (calls : List AggregateCall) → map (λ a. argument_seen a) as_ ≡ map (λ c. option_map (λ e. (e, entry_of e)) c.argument) calls
+      → arguments_of as_ ≡ map (λ c. c.argument) calls
+  arguments_seen as_ calls same =
+      sym (map-map (λ o. option_map (λ (s : BoundExpr × Option ℕ). s.0) o) (λ a. argument_seen a) as_) ∙ ap (map (λ o. option_map (λ (s : BoundExpr × Option ℕ). s.0) o)) same
+      ∙ map-map (λ o. option_map (λ (s : BoundExpr × Option ℕ). s.0) o) (λ c. option_map (λ e. (e, entry_of e)) c.argument) calls ∙ each_again calls
 
 -- the expressions and entries of conditions, from both at once
 pub with_entries : {A : Type 0} (w : World) (ms : List (Marked A)) (es : List BoundExpr) → map (λ m. seen_of m) ms ≡ map (λ e. (e, marked_entry w e)) es → (exprs_of ms ≡ es) × (map (λ m. seen_of m) ms ≡ map (λ e. (e, marked_entry w e)) (exprs_of ms))
@@ -152,7 +169,7 @@ module _ {A : Type 0} (w : World) (m : Marks A) (are : AreMarksOf w m) where
   with_items is same marked = record {
     conditions = are.conditions;
     entries = are.entries;
-    items = λ h. same_exprs is.items m.items.items same ∙ are.items h;
+    items = λ h. same ∙ are.items h;
     arguments = are.arguments;
     marked_conditions = are.marked_conditions;
     marked_items = marked;
@@ -164,7 +181,7 @@ module _ {A : Type 0} (w : World) (m : Marks A) (are : AreMarksOf w m) where
     conditions = are.conditions;
     entries = are.entries;
     items = are.items;
-    arguments = same_arguments as_.items m.arguments.items same ∙ are.arguments;
+    arguments = same ∙ are.arguments;
     marked_conditions = are.marked_conditions;
     marked_items = are.marked_items;
     marked_arguments = marked;

@@ -6,7 +6,7 @@ use Rattle.value.specs.Conditions.{truth_at}
 use Rattle.value.specs.Names.{Name}
 use Rattle.value.specs.Orders.{is_true}
 use Rattle.expr.specs.declared.bound.ColumnId.{ColumnId}
-use Rattle.expr.specs.Bound.{BoundExpr}
+use Rattle.expr.specs.Bound.{BoundExpr, Column}
 use Rattle.expr.specs.Columns.{columns}
 use Rattle.expr.specs.Conjuncts.{fragile_conjuncts}
 use Rattle.eval.specs.Meaning.{Outcome, meaning}
@@ -33,6 +33,14 @@ among count (Some entry) = if nat_lt 1 count && nat_lt entry count then Some ent
 -- the entry on whose rows an expression is computed once
 abbrev pub marked_entry : World → BoundExpr → Option ℕ
 marked_entry w e = among (length w.tables) (entry_of e)
+
+abbrev pub unless_column : BoundExpr → Option ℕ → Option ℕ
+unless_column (Column id) entry = None
+unless_column _ entry = entry
+
+-- that of an item or an argument: none of a column, whose cells are there already
+abbrev pub computed_entry : World → BoundExpr → Option ℕ
+computed_entry w e = unless_column e (marked_entry w e)
 
 -- ---- its outcome on the rows
 

@@ -12,7 +12,7 @@ use Rattle.tuples.specs.Slots.{slot_at}
 use Rattle.tuples.specs.World.{World}
 use Rattle.tuples.specs.declared.slot.Slot.{Slot}
 use Rattle.tuples.specs.declared.slot.Slot.TheVariants as slot
-use Rattle.report.specs.Marked.{mark_on, marked_entry, seen_mark}
+use Rattle.report.specs.Marked.{computed_entry, mark_on, marked_entry, seen_mark}
 use Rattle.report.specs.QueryStages.{query_aggregates}
 use Rattle.report.specs.declared.mark_column.MarkColumn.{MarkColumn}
 use Rattle.report.specs.declared.marked.Marked.{Marked}
@@ -122,12 +122,12 @@ IsThere slots a = IsThereIf slots a.marked
 
 -- ---- all of a query
 
--- conditions are the fragile conjuncts, each with its entry; without groups there are the items; and the arguments of the aggregates
+-- conditions are the fragile conjuncts; without groups there are the items; and the arguments of the aggregates; each with its entry
 pub record AreMarksOf {A : Type 0} (w : World) (m : Marks A) : Type 0 where
   pub conditions : exprs_of m.conditions.items ≡ fragile_conjuncts w.query
   pub entries : map (λ c. seen_of c) m.conditions.items ≡ map (λ e. (e, marked_entry w e)) (exprs_of m.conditions.items)
-  pub items : w.query.is_grouped ≡ false → exprs_of m.items.items ≡ map (λ i. i.value) w.query.items
-  pub arguments : arguments_of m.arguments.items ≡ map (λ c. c.argument) (query_aggregates w.query)
+  pub items : w.query.is_grouped ≡ false → map (λ m. seen_of m) m.items.items ≡ map (λ i. (i.value, computed_entry w i.value)) w.query.items
+  pub arguments : map (λ a. argument_seen a) m.arguments.items ≡ map (λ c. option_map (λ e. (e, computed_entry w e)) c.argument) (query_aggregates w.query)
   pub marked_conditions : AreMarked w m.conditions.items
   pub marked_items : AreMarked w m.items.items
   pub marked_arguments : AreMarkedArguments w m.arguments.items

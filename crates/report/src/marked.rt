@@ -74,6 +74,20 @@ fn marked_entry<A: Heap>(
     }
 }
 
+// That of an item or an argument: none of a column, whose cells are there already.
+fn computed_entry<A: Heap>(
+    alloc: A,
+    world: &World<'_, A>,
+    expression: &BoundExpr<A>,
+) -> Result<Option<usize>, AllocError>
+    ensures { IfOk result (λ o. o ≡ spec.computed_entry (world_of world.now) (bound_expr_of expression.now)) }
+{
+    match expression {
+        BoundExpr::Column(_) => Ok(None),
+        _ => marked_entry(alloc, world, expression),
+    }
+}
+
 // True where an entry has a table, and this the row of a number.
 fn has_row<A: Heap>(world: &World<'_, A>, entry: usize, number: u32) -> bool
     ensures entry { result ≡ true → entry < length world.now.tables.now }
@@ -197,16 +211,12 @@ impl<'w, A: Heap> Marked<'w, A> {
         world: &World<'_, A>,
         expression: &'w BoundExpr<A>,
     ) -> Result<Marked<'w, A>, AllocError>
-        ensures expression { IfOk result (λ m. (seen_of m).0 ≡ bound_expr_of expression.now) }
+        ensures seen { IfOk result (λ m. seen_of m ≡ (bound_expr_of expression.now, spec.computed_entry (world_of world.now) (bound_expr_of expression.now))) }
         ensures marked { IfOk result (λ m. IsMarked (world_of world.now) m) }
     {
-        let entry = match expression {
-            BoundExpr::Column(_) => None,
-            _ => marked_entry(alloc, world, expression)?,
-        };
         Ok(Marked {
             expression,
-            entry,
+            entry: computed_entry(alloc, world, expression)?,
             marks: MarkColumn::new(alloc),
         })
     }

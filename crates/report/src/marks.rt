@@ -4,8 +4,8 @@ ghost use Rattle.std.specs.Prelude.{◌≡◌, ℕ, IfOk, OnOk, false, map, opti
 ghost use Rattle.expr.specs.View.{aggregate_call_of, aggregate_calls_of, bound_expr_of, bound_items_of};
 ghost use Rattle.tuples.specs.View.{world_of};
 ghost use Rattle.tuples.specs.World as spec_world;
-ghost use Rattle.report.specs.Marked.{keeps_row, marked_entry};
-ghost use Rattle.report.specs.Marks.{AllMade, AreMade, AreMadeArguments, AreMarked, AreMarkedArguments, AreMarksOf, IsMadeIf, IsMarkedIf, argument_seen, arguments_of, exprs_of, seen_of};
+ghost use Rattle.report.specs.Marked.{computed_entry, keeps_row, marked_entry};
+ghost use Rattle.report.specs.Marks.{AllMade, AreMade, AreMadeArguments, AreMarked, AreMarkedArguments, AreMarksOf, IsMadeIf, IsMarkedIf, argument_seen, seen_of};
 ghost use Rattle.report.specs.QueryStages as spec;
 
 use crate::grouped::query_aggregates;
@@ -48,7 +48,7 @@ fn marked_items<'w, A: Heap>(
     world: &World<'w, A>,
     items: &'w [BoundItem<A>],
 ) -> Result<Vec<Marked<'w, A>, A>, AllocError>
-    ensures seen { IfOk result (λ ms. exprs_of ms.items ≡ map (λ i. i.value) (bound_items_of items.now)) }
+    ensures seen { IfOk result (λ ms. map (λ m. seen_of m) ms.items ≡ map (λ i. (i.value, computed_entry (world_of world.now) i.value)) (bound_items_of items.now)) }
     ensures marked { IfOk result (λ ms. AreMarked (world_of world.now) ms.items) }
 {
     let mut marked = Vec::new(alloc);
@@ -63,7 +63,7 @@ fn query_items<'w, A: Heap>(
     alloc: A,
     world: &World<'w, A>,
 ) -> Result<Vec<Marked<'w, A>, A>, AllocError>
-    ensures seen { IfOk result (λ ms. (world_of world.now).query.is_grouped ≡ false → exprs_of ms.items ≡ map (λ i. i.value) (world_of world.now).query.items) }
+    ensures seen { IfOk result (λ ms. (world_of world.now).query.is_grouped ≡ false → map (λ m. seen_of m) ms.items ≡ map (λ i. (i.value, computed_entry (world_of world.now) i.value)) (world_of world.now).query.items) }
     ensures marked { IfOk result (λ ms. AreMarked (world_of world.now) ms.items) }
 {
     if world.query.is_grouped {
@@ -79,7 +79,7 @@ fn marked_argument<'w, A: Heap>(
     world: &World<'w, A>,
     argument: Option<&'w BoundExpr<A>>,
 ) -> Result<MarkedArgument<'w, A>, AllocError>
-    ensures seen { IfOk result (λ a. option_map (λ s. s.0) (argument_seen a) ≡ option_map (λ e. bound_expr_of e.now) argument.entry) }
+    ensures seen { IfOk result (λ a. argument_seen a ≡ option_map (λ e. (bound_expr_of e.now, computed_entry (world_of world.now) (bound_expr_of e.now))) argument.entry) }
     ensures marked { IfOk result (λ a. IsMarkedIf (world_of world.now) a.marked) }
 {
     let marked = match argument {
@@ -95,7 +95,7 @@ fn marked_arguments<'w, A: Heap>(
     world: &World<'w, A>,
     calls: &[AggregateCall<'w, A>],
 ) -> Result<Vec<MarkedArgument<'w, A>, A>, AllocError>
-    ensures seen { IfOk result (λ ms. arguments_of ms.items ≡ map (λ c. (aggregate_call_of c).argument) calls.now) }
+    ensures seen { IfOk result (λ ms. map (λ a. argument_seen a) ms.items ≡ map (λ c. option_map (λ e. (e, computed_entry (world_of world.now) e)) (aggregate_call_of c).argument) calls.now) }
     ensures marked { IfOk result (λ ms. AreMarkedArguments (world_of world.now) ms.items) }
 {
     let mut marked = Vec::new(alloc);
@@ -124,7 +124,7 @@ impl<'w, A: Heap> Marks<'w, A> {
     }
 
     /// All marks of the query of a world: of each of its expressions that is over one entry alone, on each row of this entry that the
-    /// role sees. None is made of a hidden row, so that running out of memory depends on none. It fails where memory runs out.
+    /// role sees. None is made of a hidden row, so that no hidden row decides whether memory runs out. It fails where memory runs out.
     pub fn of(alloc: A, world: &World<'w, A>) -> Result<Marks<'w, A>, AllocError>
         ensures marks { IfOk result (λ m. AreMarksOf (world_of world.now) m) }
         ensures made { IfOk result (λ m. AllMade (world_of world.now) m) }

@@ -1,9 +1,9 @@
-use Rattle.std.proofs.Common.{ap, map, sym, ◌∙◌}
+use Rattle.std.proofs.Common.{ap, map, option_map, sym, ◌∙◌}
 use Rattle.expr.specs.Conjuncts.{fragile_conjuncts}
 use Rattle.expr.specs.View.{aggregate_call_of, bound_expr_of}
 use Rattle.groups.proofs.SameGroups.{map-map}
 use Rattle.tuples.specs.View.{world_of}
-use Rattle.report.specs.Marked.{marked_entry}
+use Rattle.report.specs.Marked.{computed_entry, marked_entry}
 use Rattle.report.proofs.Marking.{with_entries}
 use Rattle.report.proofs.marks.Marks.new.Goals as goal
 
@@ -17,7 +17,8 @@ returns g c =
       conditions = conditions.0;
       entries = conditions.1;
       items = c.in_ok-query_items.ensures.seen;
-      arguments = c.in_ok-marked_arguments.ensures.seen ∙ sym (map-map (λ a. a.argument) (λ call. aggregate_call_of call) c.args.calls.now) ∙ ap (map (λ a. a.argument)) c.requires.calls;
+      arguments = c.in_ok-marked_arguments.ensures.seen ∙ sym (map-map (λ a. option_map (λ e. (e, computed_entry w e)) a.argument) (λ call. aggregate_call_of call) c.args.calls.now)
+          ∙ ap (map (λ a. option_map (λ e. (e, computed_entry w e)) a.argument)) c.requires.calls;
       marked_conditions = c.in_ok-marked_conditions.ensures.marked;
       marked_items = c.in_ok-query_items.ensures.marked;
       marked_arguments = c.in_ok-marked_arguments.ensures.marked;
