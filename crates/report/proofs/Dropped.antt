@@ -17,10 +17,10 @@ use Rattle.tuples.specs.Slots.{slot_at}
 use Rattle.tuples.specs.World.{World, combination_at}
 use Rattle.tuples.specs.declared.slot.Slot.{Slot}
 use Rattle.tuples.specs.declared.slot.Slot.TheVariants as slot
+use Rattle.row_marks.specs.Marked.{drops, drops_first, entry_rows, is_dropping, is_entry, keeps_row, mark_on, marked_entry}
+use Rattle.row_marks.proofs.MarkOutcomes.{mark_is}
 use Rattle.report.specs.Answer.{answer, rows_of_kept}
-use Rattle.report.specs.Marked.{drops, drops_first, entry_rows, is_dropping, is_entry, keeps_row, mark_on, marked_entry}
 use Rattle.report.specs.QueryStages.{keeps, truth_in, unless_dropped, where_fate, where_stage}
-use Rattle.report.proofs.MarkOutcomes.{mark_is}
 
 -- ---- what a stage gives nothing for may be left out before it
 

@@ -1,12 +1,10 @@
 pub mod Dropped
 pub mod FirstRows
 pub mod HiddenRows
-pub mod MarkOutcomes
-pub mod MarkedRows
-pub mod Marking
+pub mod ItemsByMarks
+pub mod KeptConditions
 pub mod NamedColumns
 pub mod OutputOrder
-pub mod Putting
 pub mod Restricting
 pub mod SameCombinations
 pub mod Taking

@@ -1,7 +1,6 @@
 -- Combinations of restricted rows.
 use Rattle.std.proofs.Common.{◌≡◌, ℕ, zero, suc, ◌+◌, ◌==◌, Bool, true, false, cond, List, [], ◌∷◌, ◌++◌, map, filter, slice_index_or, refl, sym, ap, ◌∙◌, arith, Contains, add-zero, zero-add, subst}
 use Rattle.std.specs.List.{flat_map, list_any}
-use Rattle.std.proofs.lemmas.Bool.Decides.{nat_tests}
 use Rattle.std.proofs.lemmas.List.{map-append}
 use Rattle.memory.proofs.Cases.{or_second}
 use Rattle.value.specs.Datum.{Row, cell}
@@ -11,6 +10,7 @@ use Rattle.groups.proofs.SameGroups.{map-map}
 use Rattle.expr.specs.BoundQuery.{BoundQuery}
 use Rattle.tuples.specs.Combinations.{Combination, combinations, joined_cells}
 use Rattle.expr.specs.NamedColumns.{named_columns}
+use Rattle.row_marks.proofs.MarkOutcomes.{itself}
 use Rattle.report.specs.Restricted.{kept_from, restricted, named_in}
 
 -- ---- a column that is kept is as it was
@@ -24,9 +24,6 @@ cell_kept i slots (d ∷ ds) (suc k) here =
 
 pub cell_of_restricted : (slots : List ℕ) (row : Row) (k : ℕ) → list_any (λ c. c == k) slots ≡ true → cell (restricted slots row) k ≡ cell row k
 cell_of_restricted slots row k here = cell_kept 0 slots row k (rw zero-add here)
-
-pub itself : (k : ℕ) → (k == k) ≡ true
-itself k = grind (arith, nat_tests)
 
 -- the index of a column is among those of the columns of its entry
 pub place_among : (ids : List ColumnId) (id : ColumnId) → Contains ids id → list_any (λ c. c == id.column) (map (λ x. x.column) (filter (λ x. x.entry == id.entry) ids)) ≡ true

@@ -33,25 +33,17 @@ use Rattle.tuples.specs.Combinations.{Combination, joined_cells}
 use Rattle.tuples.specs.View.{world_of}
 use Rattle.tuples.specs.World.{World, combination_at}
 use Rattle.tuples.specs.declared.slot.Slot.{Slot}
+use Rattle.row_marks.specs.declared.marked.Marked.{Marked}
+use Rattle.row_marks.specs.declared.marks.Marks.{Marks}
+use Rattle.row_marks.specs.Marks.{AreMarked, AreMarksOf, exprs_of, seen_of}
+use Rattle.row_marks.proofs.Marking.{with_conditions}
 use Rattle.report.specs.declared.answer_rows.AnswerRows.{AnswerRows}
 use Rattle.report.specs.declared.answering.Answering.{Answering}
 use Rattle.report.specs.declared.gathered.Gathered.{Gathered}
-use Rattle.report.specs.declared.marked.Marked.{Marked}
-use Rattle.report.specs.declared.marks.Marks.{Marks}
 use Rattle.report.specs.Answer.{answer, rows_of_kept}
 use Rattle.report.specs.Answering.{Gathers, HoldsGroups, HoldsRows, Took, all_given, least_fault}
 use Rattle.report.specs.Held.{held}
-use Rattle.report.specs.Marks.{AreMarked, AreMarksOf, exprs_of, seen_of}
-use Rattle.report.proofs.Marking.{with_conditions}
 use Rattle.report.specs.QueryStages.{arguments_fate, keeps, query_aggregates, where_fate}
-
-pub on_ok : {T E P Q : Type 0} (r : Result T E) → (P → Q) → OnOk r P → OnOk r Q
-on_ok (Ok x) f h = f h
-on_ok (Err e) f h = h
-
-pub on_both : {T E P Q R : Type 0} (r : Result T E) → (P → Q → R) → OnOk r P → OnOk r Q → OnOk r R
-on_both (Ok x) f h k = f h k
-on_both (Err e) f h k = h
 
 -- the first elements with the next one
 pub next_taken : {X : Type 0} (xs : List X) (i : ℕ) (x : X) → i < length xs → x ≡ get_or xs i x → take (i + 1) xs ≡ take i xs ++ x ∷ []

@@ -17,12 +17,12 @@ use Rattle.groups.specs.Taking.{totals_in}
 use Rattle.tuples.specs.Combinations.{Combination}
 use Rattle.tuples.specs.View.{world_of}
 use Rattle.tuples.specs.World.{World}
+use Rattle.row_marks.specs.Marks.{AreMarksOf}
 use Rattle.report.specs.declared.answer_rows.AnswerRows.{AnswerRows}
 use Rattle.report.specs.declared.gathered.Gathered as gathered
 use Rattle.report.specs.declared.gathered.Gathered.TheVariants as code
 use Rattle.report.specs.declared.answering.Answering.{Answering}
 use Rattle.report.specs.Held.{held}
-use Rattle.report.specs.Marks.{AreMarksOf}
 use Rattle.report.specs.QueryStages.{where_fate, items_fate, arguments_fate, query_aggregates}
 
 -- ---- of the outcomes of a stage

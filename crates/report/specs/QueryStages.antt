@@ -1,13 +1,11 @@
 -- The stages of a query over the combinations that pass its movable conjuncts.
-use Rattle.std.specs.Prelude.{Bool, true, false, List, [], ◌∷◌, ◌++◌, map, option_to_list, Result, Ok, Err}
-use Rattle.std.specs.List.{flat_map}
+use Rattle.std.specs.Prelude.{Bool, true, false, List, [], ◌∷◌, map, option_to_list, Result, Ok, Err}
 use Rattle.value.specs.Datum.{Row}
 use Rattle.value.specs.Conditions.{truth_at}
 use Rattle.value.specs.Orders.{is_true}
 use Rattle.value.specs.declared.faults.Fault.{Fault}
 use Rattle.value.specs.Names.{Name}
 use Rattle.expr.specs.Bound.{BoundExpr}
-use Rattle.expr.specs.Aggregates.{AggregateCall, aggregates}
 use Rattle.eval.specs.Meaning.{Cells, Outcome, meaning, ◌>>=◌}
 use Rattle.groups.specs.Stages.{Fate, gives, gives_if, stage}
 use Rattle.memory.specs.Results.{first_then}
@@ -16,6 +14,7 @@ use Rattle.groups.specs.GroupRow.{GroupRow, group_cells, group_rows}
 use Rattle.expr.specs.BoundQuery.{BoundItem, BoundQuery}
 use Rattle.expr.specs.Conjuncts.{fragile_conjuncts}
 use Rattle.tuples.specs.Combinations.{Combination, joined_cells}
+pub use Rattle.row_marks.specs.Calls.{item_aggregates, query_aggregates}
 
 -- ---- conditions and items on one row or group
 
@@ -39,13 +38,7 @@ abbrev pub values_of : Cells → Name → List BoundItem → Result Row Fault
 values_of cells role [] = Ok []
 values_of cells role (i ∷ more) = first_then (meaning cells role i.value) (values_of cells role more)
 
--- ---- the aggregates of a query, in written order: of its items and then of HAVING
-
-abbrev pub item_aggregates : BoundItem → List AggregateCall
-item_aggregates i = aggregates i.value
-
-abbrev pub query_aggregates : BoundQuery → List AggregateCall
-query_aggregates q = flat_map item_aggregates q.items ++ flat_map aggregates (option_to_list q.having)
+-- ---- groups
 
 -- the row of a group as the cells of its columns and aggregates
 abbrev pub cells_of_group : BoundQuery → GroupRow → Cells

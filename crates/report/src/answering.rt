@@ -6,17 +6,16 @@ ghost use Rattle.value.specs.Datum.{row_of};
 ghost use Rattle.tuples.specs.Combinations.{Combination};
 ghost use Rattle.tuples.specs.View.{world_of};
 ghost use Rattle.tuples.specs.World as spec;
+ghost use Rattle.row_marks.specs.Marks.{AreMarksOf};
 ghost use Rattle.report.specs.Answer.{answer};
 ghost use Rattle.report.specs.Answering.{Took};
-ghost use Rattle.report.specs.Marks.{AreMarksOf};
 
 use crate::conditions::{keeps_by_marks, keeps_combination};
 use crate::gathered::Gathered;
-use crate::grouped::query_aggregates;
-use crate::marks::Marks;
 use expr::AggregateCall;
 use groups::Stage;
 use memory::{Failure, Heap, Items};
+use row_marks::{Marks, query_aggregates};
 use std::alloc::AllocError;
 use tuples::{Combo, Sink, World};
 use value::{Fault, Value};
@@ -92,7 +91,7 @@ impl<'w, A: Heap> Sink<Combo<A>> for Answering<'w, A> {
     ghost use Rattle.std.specs.Prelude.{map};
     ghost use Rattle.tuples.specs.World.{combination_at};
     ghost use Rattle.report.specs.Answering.{Took};
-    ghost use Rattle.report.specs.Marked.{keeps_row};
+    ghost use Rattle.row_marks.specs.Marked.{keeps_row};
 
     ghost took = { λ s w these. Took w s (map (combination_at w.tables) these) };
 

@@ -6,12 +6,12 @@ ghost use Rattle.eval.specs.Meaning.{meaning};
 ghost use Rattle.tuples.specs.Combinations.{joined_cells};
 ghost use Rattle.tuples.specs.View.{world_of};
 ghost use Rattle.tuples.specs.World.{combination_at};
-ghost use Rattle.report.specs.Marks.{AreMarked, IsMarked, exprs_of, seen_of};
+ghost use Rattle.row_marks.specs.Marks.{AreMarked, IsMarked, exprs_of, seen_of};
 ghost use Rattle.report.specs.QueryStages as spec;
 
-use crate::marked::Marked;
 use crate::outcomes::truth_in;
 use memory::{Failure, Heap};
+use row_marks::Marked;
 use tuples::{Combo, JoinedRow, World};
 use value::Fault;
 

@@ -6,12 +6,12 @@ ghost use Rattle.value.specs.Datum.{row_of};
 ghost use Rattle.tuples.specs.Combinations.{Combination};
 ghost use Rattle.tuples.specs.View.{world_of};
 ghost use Rattle.tuples.specs.World.{combination_at};
+ghost use Rattle.row_marks.specs.Marks.{AreMarksOf};
 ghost use Rattle.report.specs.Answer.{answer};
-ghost use Rattle.report.specs.Marks.{AreMarksOf};
 
 use crate::answering::Answering;
-use crate::marks::Marks;
 use memory::{Failure, Heap, Items};
+use row_marks::Marks;
 use tuples::{Combo, World};
 use value::{Fault, Value};
 

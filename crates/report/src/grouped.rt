@@ -1,69 +1,27 @@
 //! The stages of a query with groups.
 
 ghost use Rattle.std.specs.Prelude.{◌≡◌, ◌++◌, [], ◌∷◌, List, OnOk, IfOk, map, option_map, option_to_list};
-ghost use Rattle.std.specs.List.{flat_map};
 ghost use Rattle.memory.specs.Gives.{Gives};
 ghost use Rattle.value.specs.Datum.{row_of};
-ghost use Rattle.expr.specs.Aggregates.{aggregates};
-ghost use Rattle.expr.specs.View.{aggregate_calls_of, bound_expr_of, bound_items_of, bound_query_of};
+ghost use Rattle.expr.specs.View.{aggregate_calls_of, bound_expr_of, bound_query_of};
 ghost use Rattle.groups.specs.View.{group_row_of};
 ghost use Rattle.tuples.specs.Combinations.{Combination};
 ghost use Rattle.tuples.specs.View.{world_of};
 ghost use Rattle.tuples.specs.World.{combination_at};
+ghost use Rattle.row_marks.specs.Marks.{AreMarkedArguments, arguments_of};
 ghost use Rattle.report.specs.Answering.{HoldsGroups};
-ghost use Rattle.report.specs.Marks.{AreMarkedArguments, arguments_of};
 ghost use Rattle.report.specs.Ordered.{in_order_of};
 ghost use Rattle.report.specs.QueryStages as spec;
 
 use crate::answer_rows::AnswerRows;
-use crate::marked::MarkedArgument;
-use crate::marked_arguments::MarkedArguments;
 use crate::outcomes::{keeps, values};
-use expr::{AggregateCall, BoundCondition, BoundExpr, BoundItem, BoundQuery, push_aggregates};
+use expr::{AggregateCall, BoundExpr, BoundQuery};
 use groups::{GroupCells, GroupRow, Groups, Stage, gives_if, key_on};
 use memory::{Failure, Heap, Items};
+use row_marks::{MarkedArgument, MarkedArguments, query_aggregates};
 use std::alloc::AllocError;
 use tuples::{Combo, JoinedRow, World};
 use value::{Fault, Value};
-
-// Adds the aggregates of the items.
-fn push_item_aggregates<'q, A: Heap>(
-    calls: &mut Items<AggregateCall<'q, A>, A>,
-    items: &'q [BoundItem<A>],
-) -> Result<(), AllocError>
-    ensures { OnOk result (aggregate_calls_of calls.new ≡ aggregate_calls_of calls.old ++ flat_map spec.item_aggregates (bound_items_of items.now)) }
-{
-    for item in items {
-        push_aggregates(calls, &item.value)?;
-    }
-    Ok(())
-}
-
-// Adds those of HAVING.
-fn push_having_aggregates<'q, A: Heap>(
-    calls: &mut Items<AggregateCall<'q, A>, A>,
-    having: &'q BoundCondition<A>,
-) -> Result<(), AllocError>
-    ensures { OnOk result (aggregate_calls_of calls.new ≡ aggregate_calls_of calls.old ++ flat_map aggregates (option_to_list (option_map (λ b. bound_expr_of b.value) having.now))) }
-{
-    match having {
-        Some(predicate) => push_aggregates(calls, predicate),
-        None => Ok(()),
-    }
-}
-
-/// The aggregates of a query, in written order: of its items and then of HAVING.
-pub fn query_aggregates<'q, A: Heap>(
-    alloc: A,
-    query: &'q BoundQuery<A>,
-) -> Result<Items<AggregateCall<'q, A>, A>, AllocError>
-    ensures { IfOk result (λ calls. aggregate_calls_of calls ≡ spec.query_aggregates (bound_query_of query.now)) }
-{
-    let mut calls = Items::new(alloc);
-    push_item_aggregates(&mut calls, query.items.as_slice())?;
-    push_having_aggregates(&mut calls, &query.having)?;
-    Ok(calls)
-}
 
 // HAVING as a list of conditions, none without it.
 fn having_conditions<'q, A: Heap>(

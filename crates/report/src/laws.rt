@@ -8,8 +8,8 @@ ghost use Rattle.tuples.specs.Combinations.{Combination};
 ghost use Rattle.tuples.specs.Sinks.{wants_all};
 ghost use Rattle.tuples.specs.World.{World, combination_at};
 ghost use Rattle.tuples.specs.declared.slot.Slot.{Slot};
+ghost use Rattle.row_marks.specs.Marked.{keeps_row};
 ghost use Rattle.report.specs.Answer.{answer, answer_over};
-ghost use Rattle.report.specs.Marked.{keeps_row};
 ghost use Rattle.report.specs.Restricted.{SeesSame};
 
 /// The order of the combinations makes no difference to the answer.

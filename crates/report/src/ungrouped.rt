@@ -7,14 +7,14 @@ ghost use Rattle.groups.specs.Members.{all_of};
 ghost use Rattle.tuples.specs.Combinations.{Combination};
 ghost use Rattle.tuples.specs.View.{world_of};
 ghost use Rattle.tuples.specs.World.{combination_at};
+ghost use Rattle.row_marks.specs.Marks.{AreMarked, exprs_of, outcome_in};
 ghost use Rattle.report.specs.Answering.{HoldsRows};
-ghost use Rattle.report.specs.Marks.{AreMarked, exprs_of, outcome_in};
 ghost use Rattle.report.specs.QueryStages as spec;
 
 use crate::answer_rows::AnswerRows;
-use crate::marked::Marked;
 use eval::Row;
 use memory::{Failure, Heap, Items};
+use row_marks::Marked;
 use std::alloc::AllocError;
 use tuples::{Combo, JoinedRow, World};
 use value::{Fault, Value};

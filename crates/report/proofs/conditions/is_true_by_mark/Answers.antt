@@ -1,8 +1,8 @@
 use Rattle.std.proofs.Common.{subst}
 use Rattle.memory.specs.Gives.{Gives}
 use Rattle.tuples.specs.View.{world_of}
+use Rattle.row_marks.proofs.MarkOutcomes.{outcome_is}
 use Rattle.report.specs.QueryStages.{truth_in}
-use Rattle.report.proofs.MarkOutcomes.{outcome_is}
 use Rattle.report.proofs.conditions.is_true_by_mark.Goals as goal
 
 pub returns : goal.returns

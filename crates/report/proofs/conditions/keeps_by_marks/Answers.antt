@@ -4,8 +4,9 @@ use Rattle.groups.proofs.Walks.{next}
 use Rattle.tuples.specs.Combinations.{joined_cells}
 use Rattle.tuples.specs.View.{world_of}
 use Rattle.tuples.specs.World.{combination_at}
-use Rattle.report.specs.Marks.{exprs_of}
-use Rattle.report.proofs.Marking.{dropped_by, failed_by, kept_on, marked_at}
+use Rattle.row_marks.specs.Marks.{exprs_of}
+use Rattle.row_marks.proofs.Marking.{marked_at}
+use Rattle.report.proofs.KeptConditions.{dropped_by, failed_by, kept_on}
 use Rattle.report.proofs.conditions.keeps_by_marks.Goals as goal
 
 pub loop-condition-preserved : goal.loop-condition-preserved

@@ -2,8 +2,9 @@ use Rattle.std.proofs.Common.{ap, drop, length, Ok, ◌+◌, ◌<◌, ◌∙◌,
 use Rattle.tuples.specs.Combinations.{joined_cells}
 use Rattle.tuples.specs.View.{world_of}
 use Rattle.tuples.specs.World.{combination_at}
-use Rattle.report.specs.Marks.{exprs_of, seen_of}
-use Rattle.report.proofs.Marking.{dropped_by, failed_by, kept_on, marked_at, marked_set, next_expr, same_exprs, same_length, same_set}
+use Rattle.row_marks.specs.Marks.{exprs_of, seen_of}
+use Rattle.row_marks.proofs.Marking.{marked_at, marked_set, next_expr, same_exprs, same_length, same_set}
+use Rattle.report.proofs.KeptConditions.{dropped_by, failed_by, kept_on}
 use Rattle.report.proofs.conditions.keeps_combination.Goals as goal
 
 pub loop-index-preserved : goal.loop-index-preserved

@@ -2,7 +2,7 @@ use Rattle.std.proofs.Common.{◌≡◌, drop, map}
 use Rattle.tuples.specs.Combinations.{joined_cells}
 use Rattle.tuples.specs.View.{world_of}
 use Rattle.tuples.specs.World.{combination_at}
-use Rattle.report.specs.Marks.{AreMarked, exprs_of, seen_of}
+use Rattle.row_marks.specs.Marks.{AreMarked, exprs_of, seen_of}
 use Rattle.report.specs.QueryStages.{keeps}
 use Rattle.report.proofs.conditions.keeps_combination.Given as goal
 

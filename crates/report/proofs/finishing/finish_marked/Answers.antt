@@ -2,8 +2,8 @@ use Rattle.std.proofs.Common.{[], ◌∷◌, ap, map, subst, sym, take, ◌∙�
 use Rattle.std.proofs.lemmas.List.{map-append}
 use Rattle.tuples.specs.View.{world_of}
 use Rattle.tuples.specs.World.{combination_at}
+use Rattle.row_marks.proofs.Marking.{all_taken}
 use Rattle.report.specs.Answering.{Took}
-use Rattle.report.proofs.Marking.{all_taken}
 use Rattle.report.proofs.Taking.{next_taken}
 use Rattle.report.proofs.finishing.finish_marked.Goals as goal
 

@@ -1,8 +1,8 @@
 use Rattle.std.proofs.Common.{map, take}
 use Rattle.tuples.specs.View.{world_of}
 use Rattle.tuples.specs.World.{combination_at}
+use Rattle.row_marks.specs.Marks.{AreMarksOf}
 use Rattle.report.specs.Answering.{Took}
-use Rattle.report.specs.Marks.{AreMarksOf}
 use Rattle.report.proofs.finishing.finish_marked.Given as goal
 
 abbrev pub invariant-loop-combination : goal.invariant-loop-combination

@@ -2,9 +2,9 @@ use Rattle.std.proofs.Common.{[], ◌∷◌, ap, arith, map, subst, sym, take, �
 use Rattle.std.proofs.lemmas.List.{map-append}
 use Rattle.groups.specs.View.{group_row_of}
 use Rattle.tuples.specs.View.{world_of}
+use Rattle.row_marks.proofs.Marking.{all_taken}
 use Rattle.report.specs.Answering.{HoldsRows}
 use Rattle.report.specs.QueryStages.{group_items_fate}
-use Rattle.report.proofs.Marking.{all_taken}
 use Rattle.report.proofs.Taking.{next_taken}
 use Rattle.report.proofs.grouped.rows_in_order.Goals as goal
 

@@ -6,7 +6,7 @@ use Rattle.groups.specs.Members.{all_of}
 use Rattle.groups.proofs.Putting.{put_step}
 use Rattle.groups.proofs.Walks.{next, fails_here}
 use Rattle.memory.proofs.Each.{after, after_nothing}
-use Rattle.report.specs.Marks.{outcome_in}
+use Rattle.row_marks.specs.Marks.{outcome_in}
 use Rattle.report.proofs.ungrouped.items_on.Goals as goal
 
 pub loop-item-init : goal.loop-item-init

@@ -2,7 +2,7 @@ use Rattle.std.proofs.Common.{◌≡◌, drop, map}
 use Rattle.value.specs.Datum.{row_of}
 use Rattle.groups.specs.Members.{all_of}
 use Rattle.memory.proofs.Each.{after}
-use Rattle.report.specs.Marks.{outcome_in}
+use Rattle.row_marks.specs.Marks.{outcome_in}
 use Rattle.report.proofs.ungrouped.items_on.Given as goal
 
 abbrev pub invariant-loop-item : goal.invariant-loop-item

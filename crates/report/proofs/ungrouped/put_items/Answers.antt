@@ -6,10 +6,10 @@ use Rattle.groups.specs.Members.{all_of}
 use Rattle.tuples.specs.Combinations.{joined_cells}
 use Rattle.tuples.specs.View.{world_of}
 use Rattle.tuples.specs.World.{combination_at}
+use Rattle.row_marks.specs.Marks.{outcome_in}
 use Rattle.report.specs.Answering.{HoldsRows}
-use Rattle.report.specs.Marks.{outcome_in}
 use Rattle.report.specs.QueryStages.{items_fate, values_of}
-use Rattle.report.proofs.MarkOutcomes.{items_are}
+use Rattle.report.proofs.ItemsByMarks.{items_are}
 use Rattle.report.proofs.ungrouped.put_items.Goals as goal
 
 pub returns : goal.returns

@@ -1,10 +1,12 @@
 use Rattle.std.proofs.Common.{◌≡◌, [], ◌∷◌, OnOk, Ok, subst, sym, true, false, ◌∙◌, ap}
 use Rattle.std.proofs.lemmas.List.{map-append}
 use Rattle.memory.specs.Gives.{IsFailure}
+use Rattle.memory.proofs.Cases.{on_ok}
 use Rattle.tuples.specs.World.{combination_at}
+use Rattle.row_marks.specs.Marks.{AreMarksOf}
+use Rattle.row_marks.proofs.Marking.{on_both}
 use Rattle.report.specs.Answering.{Took}
-use Rattle.report.specs.Marks.{AreMarksOf}
-use Rattle.report.proofs.Taking.{gathered_in, on_both, on_ok, test_in, tested_in, took_dropped, took_fault, took_kept}
+use Rattle.report.proofs.Taking.{gathered_in, test_in, tested_in, took_dropped, took_fault, took_kept}
 use Rattle.report.proofs.answering.AnsweringSinkCombo.take.Goals as goal
 
 pub returns-in-Ok-true : goal.returns-in-Ok-true
@@ -34,4 +36,4 @@ returns g c = λ w these h.
     let tested = tested_in w s cs _ h c.keeps_combination.ensures.seen c.keeps_combination.ensures.marked in
     let is = test_in w s (IsFailure c.in-Err.failure) s.marks c.args.combination _ h.marks h c.in-Err.ensures.value in
     subst (λ l. OnOk c.add-in-Err.result (Took w (record s { filter = c.add-in-Err.new.self; marks = record s.marks { conditions = cs } }) l)) (sym (map-append (combination_at w.tables) these (c.args.combination ∷ [])))
-    (on_ok c.add-in-Err.result (λ adds. took_fault w s _ (combination_at w.tables c.args.combination) h c.add-in-Err.new.self (record s.marks { conditions = cs }) tested c.in-Err.failure is adds) c.add-in-Err.ensures.added)
+    (on_ok c.add-in-Err.result _ _ (λ adds. took_fault w s _ (combination_at w.tables c.args.combination) h c.add-in-Err.new.self (record s.marks { conditions = cs }) tested c.in-Err.failure is adds) c.add-in-Err.ensures.added)

@@ -1,0 +1,4 @@
+pub mod MarkOutcomes
+pub mod MarkedRows
+pub mod Marking
+pub mod Putting

@@ -1,0 +1,12 @@
+use Rattle.std.proofs.Common.{◌≡◌, map}
+use Rattle.std.specs.List.{AllWithin}
+use Rattle.tuples.specs.View.{world_of}
+use Rattle.row_marks.specs.Marks.{AreMarked, IsMade, seen_of}
+use Rattle.row_marks.proofs.marks.make_all_seen.Given as goal
+
+abbrev pub invariant-loop-index : goal.invariant-loop-index
+invariant-loop-index g l = record {
+  seen : map (λ m. seen_of m) l.marked.items ≡ map (λ m. seen_of m) l.fn.marked.items;
+  marked : AreMarked (world_of l.world) l.fn.marked.items → AreMarked (world_of l.world) l.marked.items;
+  made : AllWithin (IsMade (world_of l.world)) l.marked.items 0 l.index;
+}
