@@ -9,12 +9,13 @@ use crate::plain_answers::plain_answer;
 use access::frame;
 use engine::ask;
 use expr::Code;
-use fixture_plans::{Random, all_codes, run_into_over, tables_of};
+use fixture_plans::{Random, all_codes, run_into_over, run_marked_over, tables_of};
 use fixtures::{FixtureError, contents, load, store_of};
 use memory::{Failure, Items};
-use report::Answering;
+use report::{Answering, finish_marked};
 use resolve::{Bound, bind};
 use rewrite::simplify;
+use row_marks::Marks;
 use std::alloc::{AllocError, AllocGlobal, Global};
 use std::process::Abort;
 use std::test::Fail;
@@ -28,11 +29,13 @@ const SEED: u64 = 2016;
 // The role of the queries.
 const ROLE: &str = "alice";
 
-// How the answer to a query is found: as it is asked for, or by each code that a plan of it may have.
+// How the answer to a query is found: as it is asked for, or by each code that a plan of it may have, with marks that are made on the way
+// or that are all made before.
 #[derive(Clone, Copy)]
 enum Found {
     Asked,
     ByEachCode,
+    ByMarks,
 }
 
 // The numbers of faults, and of answers that have rows.
@@ -107,6 +110,26 @@ fn answer_by(
     answer_text(rt.alloc(), answering.end())
 }
 
+// The answer over the combinations of a code, by all marks of the query.
+fn answer_by_marks(
+    rt: &(impl Abort + AllocGlobal),
+    world: &World<'_, Global>,
+    setting: &Setting<Global>,
+    code: &Code<Global>,
+) -> Result<String, AllocError>
+    requires { map guard_of setting.now.frame ≡ map (λ t. guard_of t.guard.now) world.now.tables.now }
+{
+    let mut work = Work::new();
+    let marks = Marks::of(rt.alloc(), world)?;
+    match run_marked_over(rt.alloc(), world, setting, code, &marks, &mut work)? {
+        Some(combinations) => {
+            let answer = finish_marked(rt.alloc(), world, combinations.as_slice(), &marks);
+            answer_text(rt.alloc(), answer)
+        }
+        None => panic!(rt; "not admissible"),
+    }
+}
+
 // The answer by each code that a plan may have is this one.
 fn answered_by_each(
     rt: &(impl Abort + AllocGlobal),
@@ -114,13 +137,17 @@ fn answered_by_each(
     setting: &Setting<Global>,
     text: &str,
     want: &str,
+    found: Found,
 ) -> Result<(), AllocError>
     requires { map guard_of setting.now.frame ≡ map (λ t. guard_of t.guard.now) world.now.tables.now }
 {
     let codes = all_codes(rt.alloc(), setting)?;
     assert!(rt; codes.len() > 0, "no code: {text}");
     for code in codes.as_slice() {
-        let got = answer_by(rt, world, setting, code)?;
+        let got = match found {
+            Found::ByMarks => answer_by_marks(rt, world, setting, code)?,
+            Found::Asked | Found::ByEachCode => answer_by(rt, world, setting, code)?,
+        };
         assert_eq!(rt; got.as_str(), want, "{text}");
     }
     Ok(())
@@ -148,7 +175,9 @@ fn bound_answered(
             let got = reply_text(rt.alloc(), ask(rt.alloc(), store, ROLE, text))?;
             assert_eq!(rt; got.as_str(), want.as_str(), "{text}");
         }
-        Found::ByEachCode => answered_by_each(rt, &world, &setting, text, want.as_str())?,
+        Found::ByEachCode | Found::ByMarks => {
+            answered_by_each(rt, &world, &setting, text, want.as_str(), found)?;
+        }
     }
     Ok(want)
 }
@@ -232,4 +261,10 @@ fn each_code_of_drawn_queries_gives_the_answer_of_nested_loops(
     rt: HostRuntime,
 ) -> Result<(), Fail> {
     Ok(all_answered(&rt, Found::ByEachCode, 15)?)
+}
+
+// 50 queries of one entry or two.
+#[test]
+fn each_code_by_marks_gives_the_answer_of_nested_loops(rt: HostRuntime) -> Result<(), Fail> {
+    Ok(all_answered(&rt, Found::ByMarks, 5)?)
 }

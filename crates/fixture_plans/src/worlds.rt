@@ -3,11 +3,14 @@
 ghost use Rattle.std.specs.Prelude.{◌≡◌, [], ℕ, IfOk, List, Some, length, map, slice_get, slice_index_or};
 ghost use Rattle.fixture_plans.specs.Worlds.{AreOf};
 ghost use Rattle.tuples.specs.View.{guard_of, world_of};
+ghost use Rattle.row_marks.specs.Marks.{AreMarksOf};
 
 use executor::{run, run_into};
 use expr::{BoundQuery, Code, ColumnId};
 use indexes::{IndexRows, indexes_of};
+use marked_runs::run_marked;
 use memory::Items;
+use row_marks::Marks;
 use std::alloc::{AllocError, Global};
 use tables::Table;
 use trailcheck::{Setting, is_admissible};
@@ -118,4 +121,26 @@ pub fn run_into_over<K: Sink<Combo<Global>>>(
     }
     run_into(alloc, world, setting, &lent, code, sink, work)?;
     Ok(true)
+}
+
+/// The combinations that the run of a code gives by marks of the query, with indexes that are made for it; none where no plan may have
+/// the code.
+pub fn run_marked_over(
+    alloc: Global,
+    world: &World<'_, Global>,
+    setting: &Setting<Global>,
+    code: &Code<Global>,
+    marks: &Marks<'_, Global>,
+    work: &mut Work,
+) -> Result<Option<Items<Combo<Global>, Global>>, AllocError>
+    requires guards { map guard_of setting.now.frame ≡ map (λ t. guard_of t.guard.now) world.now.tables.now }
+    requires marks { AreMarksOf (world_of world.now) marks.now }
+{
+    let indexes = indexes_of_tables(alloc, world.tables, setting.indexed.as_slice())?;
+    let lent = lent(alloc, indexes.as_slice())?;
+    if !is_admissible(alloc, setting, code)? {
+        return Ok(None);
+    }
+    let combinations = run_marked(alloc, world, setting, &lent, code, marks, work)?;
+    Ok(Some(combinations))
 }
