@@ -105,6 +105,10 @@ impl<'w, A: Heap> Sink<Combo<A>> for Answering<'w, A> {
         self.marks.keeps_row(self.alloc, self.world, entry, number)
     }
 
+    fn reads_once(&mut self, entry: usize) {
+        self.marks.forgo(entry);
+    }
+
     fn take(&mut self, combination: Combo<A>) -> Result<(), AllocError> {
         match keeps_combination(
             self.alloc,

@@ -28,6 +28,8 @@ pub struct Marked<'w, A: Heap> {
     pub expression: &'w BoundExpr<A>,
     // The entry, where marks are made.
     pub entry: Option<usize>,
+    // False where no more marks are made for combinations.
+    pub is_kept: bool,
     pub marks: MarkColumn<A>,
 }
 
@@ -201,6 +203,7 @@ impl<'w, A: Heap> Marked<'w, A> {
         Ok(Marked {
             expression,
             entry: marked_entry(alloc, world, expression)?,
+            is_kept: true,
             marks: MarkColumn::new(alloc),
         })
     }
@@ -217,6 +220,7 @@ impl<'w, A: Heap> Marked<'w, A> {
         Ok(Marked {
             expression,
             entry: computed_entry(alloc, world, expression)?,
+            is_kept: true,
             marks: MarkColumn::new(alloc),
         })
     }
@@ -306,7 +310,18 @@ impl<'w, A: Heap> Marked<'w, A> {
         }
     }
 
-    /// Makes the mark on the row that a combination has of its entry, unless it is made.
+    /// Where its columns are of an entry, `make` makes no more marks.
+    pub fn forgo(&mut self, entry: usize)
+        ensures seen { seen_of self.new ≡ seen_of self.old }
+        ensures marks { self.new.marks ≡ self.old.marks }
+        ensures others { self.old.entry ≢ Some entry → self.new ≡ self.old }
+    {
+        if self.entry == Some(entry) {
+            self.is_kept = false;
+        }
+    }
+
+    /// Makes the mark on the row that a combination has of its entry, unless it is made or `forgo` was called.
     pub fn make(
         &mut self,
         alloc: A,
@@ -315,12 +330,15 @@ impl<'w, A: Heap> Marked<'w, A> {
     ) -> Result<(), AllocError>
         ensures seen { seen_of self.new ≡ seen_of self.old }
         ensures marked { IsMarked (world_of world.now) self.old → IsMarked (world_of world.now) self.new }
-        ensures made { IsMarked (world_of world.now) self.old → (entry number : ℕ) → self.old.entry ≡ Some entry → slot_at combination.now entry ≡ slots.Row number → number < length (spec.entry_rows (world_of world.now) entry)
+        ensures made { IsMarked (world_of world.now) self.old → self.old.is_kept ≡ true → (entry number : ℕ) → self.old.entry ≡ Some entry → slot_at combination.now entry ≡ slots.Row number → number < length (spec.entry_rows (world_of world.now) entry)
             → OnOk result (mark_at self.new.marks number ≡ Some (spec.mark_on (world_of world.now) entry (bound_expr_of self.old.expression.now) number)) }
     {
         let Some(entry) = self.entry else {
             return Ok(());
         };
+        if !self.is_kept {
+            return Ok(());
+        }
         match combination.row(entry) {
             Slot::Row(number) => self.make_on(alloc, world, entry, number),
             Slot::Absent | Slot::NullRow => Ok(()),

@@ -185,6 +185,15 @@ impl<'w, A: Heap> Marks<'w, A> {
         self.conditions[0].keeps_row(alloc, world, entry, number)
     }
 
+    /// Makes no more marks for combinations on the rows of an entry; those that are made stay.
+    pub fn forgo(&mut self, entry: usize)
+        ensures { (w : spec_world.World) → AreMarksOf w self.old → AreMarksOf w self.new }
+    {
+        forgo_all(&mut self.conditions, entry);
+        forgo_all(&mut self.items, entry);
+        forgo_arguments(&mut self.arguments, entry);
+    }
+
     /// Makes the marks of what is evaluated on a combination that the conditions keep, those that are not made.
     pub fn make_kept(
         &mut self,
@@ -265,6 +274,36 @@ fn make_seen_arguments<A: Heap>(
         make_seen_argument(alloc, world, &mut arguments[index])?;
     }
     Ok(())
+}
+
+// Makes no more marks of expressions for combinations on the rows of an entry.
+fn forgo_all<A: Heap>(marked: &mut Vec<Marked<'_, A>, A>, entry: usize)
+    ensures seen { map (λ m. seen_of m) marked.new.items ≡ map (λ m. seen_of m) marked.old.items }
+    ensures marked { (w : spec_world.World) → AreMarked w marked.old.items → AreMarked w marked.new.items }
+{
+    for index in 0..marked.len() {
+        marked[index].forgo(entry);
+    }
+}
+
+// Makes no more marks of an argument for combinations on the rows of an entry.
+fn forgo_argument<A: Heap>(argument: &mut MarkedArgument<'_, A>, entry: usize)
+    ensures seen { argument_seen argument.new ≡ argument_seen argument.old }
+    ensures marked { (w : spec_world.World) → IsMarkedIf w argument.old.marked → IsMarkedIf w argument.new.marked }
+{
+    if let Some(marked) = &mut argument.marked {
+        marked.forgo(entry);
+    }
+}
+
+// Makes no more marks of arguments for combinations on the rows of an entry.
+fn forgo_arguments<A: Heap>(arguments: &mut Vec<MarkedArgument<'_, A>, A>, entry: usize)
+    ensures seen { map (λ a. argument_seen a) arguments.new.items ≡ map (λ a. argument_seen a) arguments.old.items }
+    ensures marked { (w : spec_world.World) → AreMarkedArguments w arguments.old.items → AreMarkedArguments w arguments.new.items }
+{
+    for index in 0..arguments.len() {
+        forgo_argument(&mut arguments[index], entry);
+    }
 }
 
 // Makes the marks of expressions on the rows of a combination, those that are not made.
