@@ -11,7 +11,7 @@ use Rattle.groups.specs.declared.totals.Total as code
 use Rattle.groups.specs.Aggregates.{not_null}
 use Rattle.groups.specs.Members.{with_key}
 use Rattle.groups.specs.Progress.{HasMemory}
-use Rattle.groups.specs.Running.{AreOutcomesInPlace, IsArgumentInPlace, RunningGroup, Total, put_running, with_argument, with_argument_at, with_arguments, with_arguments_from}
+use Rattle.groups.specs.Running.{AreOutcomesInPlace, IsArgumentInPlace, RunningGroup, Total, put_running, with_argument, with_argument_at, with_arguments}
 use Rattle.groups.specs.View.{total_of, totals_of}
 
 -- the memory that a call had is there where `?` hands its failure on
@@ -40,6 +40,11 @@ module _ {A : Type 0} where
   none_at (x ∷ ts) (suc i) o le = ap (λ l. total_of x ∷ l) (none_at ts i o (omega (arith, le)))
 
 -- ---- those from an index on
+
+abbrev pub with_arguments_from : (index : ℕ) → List Total → Row → List Total
+with_arguments_from zero ts ds = with_arguments ts ds
+with_arguments_from (suc i) [] ds = []
+with_arguments_from (suc i) (t ∷ ts) ds = t ∷ with_arguments_from i ts ds
 
 pub none_from : (i : ℕ) (ts : List Total) → with_arguments_from i ts [] ≡ ts
 none_from zero [] = refl

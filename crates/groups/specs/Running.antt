@@ -74,12 +74,6 @@ with_arguments [] ds = []
 with_arguments (t ∷ ts) [] = t ∷ ts
 with_arguments (t ∷ ts) (d ∷ ds) = with_argument t (not_null d) ∷ with_arguments ts ds
 
--- those from an index on
-abbrev pub with_arguments_from : (index : ℕ) → List Total → Row → List Total
-with_arguments_from zero ts ds = with_arguments ts ds
-with_arguments_from (suc i) [] ds = []
-with_arguments_from (suc i) (t ∷ ts) ds = t ∷ with_arguments_from i ts ds
-
 -- that at an index
 abbrev pub with_argument_at : (index : ℕ) → List Total → Option Datum → List Total
 with_argument_at index [] o = []

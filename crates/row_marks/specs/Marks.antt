@@ -96,13 +96,13 @@ abbrev pub mark_of : {A : Type 0} → MarkColumn A → Option ℕ → List Slot 
 mark_of c None slots = None
 mark_of c (Some entry) slots = mark_in c (slot_at slots entry)
 
-abbrev pub or_else : Option Outcome → Outcome → Outcome
-or_else None outcome = outcome
-or_else (Some outcome) other = outcome
+abbrev pub mark_or : Option Outcome → Outcome → Outcome
+mark_or None outcome = outcome
+mark_or (Some outcome) other = outcome
 
 -- its mark, else what it is on the cells
 abbrev pub outcome_in : {A : Type 0} → Cells → Name → List Slot → Marked A → Outcome
-outcome_in cells role slots m = or_else (mark_of m.marks m.entry slots) (meaning cells role (bound_expr_of m.expression.now))
+outcome_in cells role slots m = mark_or (mark_of m.marks m.entry slots) (meaning cells role (bound_expr_of m.expression.now))
 
 -- that of an argument: count(*) counts a value that is never null
 abbrev pub outcome_if : {A : Type 0} → Cells → Name → List Slot → Option (Marked A) → Outcome
