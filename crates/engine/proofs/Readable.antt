@@ -103,7 +103,7 @@ named_granted cat role es k e (id ∷ ids) at h i is = go (id.entry == k) refl (
 
 -- ---- the tables of a bound query
 
-found_in : (name : Name) (ts : List Table) (t : Table) → find (λ t. bytes_eq name t.name) ts ≡ Some t → Contains ts t
+pub found_in : (name : Name) (ts : List Table) (t : Table) → find (λ t. bytes_eq name t.name) ts ≡ Some t → Contains ts t
 found_in name [] t e = absurd (cc)
 found_in name (x ∷ ts) t e = go (bytes_eq name x.name) (found_in name ts t) e
   where
