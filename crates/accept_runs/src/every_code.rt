@@ -8,7 +8,8 @@ use crate::texts::shown;
 use crate::without_thirds::{WithoutThirds, has_no_third};
 use expr::Code;
 use fixture_plans::{
-    Drawn, Random, all_codes, draw, nested_loops, no_query, run_into_over, run_over, tables_of,
+    Drawn, Random, all_codes, draw, nested_loops, no_query, run_into_over, run_over, seen_rows,
+    tables_of,
 };
 use memory::Items;
 use std::alloc::{AllocError, AllocGlobal, Global};
@@ -79,6 +80,23 @@ fn gives(
     are_as(rt, taken.as_slice(), entries, want)
 }
 
+// Of each entry of which the sink is told, the role sees at least as many rows as combinations came.
+fn is_told_rightly(
+    rt: &(impl Abort + AllocGlobal),
+    world: &World<'_, Global>,
+    sink: &WithoutThirds,
+) -> Result<(), AllocError> {
+    for (entry, table) in world.tables.iter().enumerate() {
+        let seen = seen_rows(rt.alloc(), world, entry, table)?;
+        let is_few = sink.taken().len() <= seen.len();
+        assert!(rt;
+            is_few || !sink.reads_once(entry),
+            "more combinations than rows"
+        );
+    }
+    Ok(())
+}
+
 // The code gives these combinations to a sink that wants no others, in no more steps than it takes to give all.
 fn gives_wanted(
     rt: &(impl Abort + AllocGlobal),
@@ -97,6 +115,7 @@ fn gives_wanted(
     let is_run = run_into_over(rt.alloc(), world, setting, code, &mut sink, &mut work)?;
     assert!(rt; is_run, "not admissible");
     assert!(rt; work.count() <= most.count(), "more steps");
+    is_told_rightly(rt, world, &sink)?;
     are_as(rt, sink.taken(), world.tables.len(), want)
 }
 

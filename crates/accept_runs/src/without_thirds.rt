@@ -1,4 +1,4 @@
-//! A sink that does not want each third row of an entry.
+//! A sink that does not want each third row of an entry, and notes which entries it is told of.
 
 use memory::Items;
 use std::alloc::{AllocError, Global};
@@ -8,6 +8,13 @@ use tuples::{Combo, Sink, Slot};
 #[derive(Drop)]
 pub struct WithoutThirds {
     taken: Items<Combo<Global>, Global>,
+    // A bit for each entry of which no fewer rows were read than combinations come.
+    once: u8,
+}
+
+// The bit of an entry; those from the eighth on share the last one.
+fn bit_of(entry: usize) -> u8 {
+    1 << entry.min(7)
 }
 
 impl WithoutThirds {
@@ -19,12 +26,18 @@ impl WithoutThirds {
     {
         WithoutThirds {
             taken: Items::new(alloc),
+            once: 0,
         }
     }
 
     /// The combinations that it took.
     pub fn taken(&self) -> &[Combo<Global>] {
         self.taken.as_slice()
+    }
+
+    /// True where it was told that no more combinations come than rows of an entry were read.
+    pub fn reads_once(&self, entry: usize) -> bool {
+        self.once & bit_of(entry) != 0
     }
 }
 
@@ -41,6 +54,10 @@ impl Sink<Combo<Global>> for WithoutThirds {
 
     fn wants(&mut self, _entry: usize, number: u32) -> Result<bool, AllocError> {
         Ok(number % 3 != 2)
+    }
+
+    fn reads_once(&mut self, entry: usize) {
+        self.once |= bit_of(entry);
     }
 
     fn take(&mut self, combination: Combo<Global>) -> Result<(), AllocError> {
