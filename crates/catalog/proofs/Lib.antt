@@ -8,6 +8,7 @@ pub mod Named
 pub mod NoLoop
 pub mod Policies
 pub mod Positions
+pub mod Reached
 pub mod Revoked
 pub mod Roles
 pub mod TableChanges

@@ -11,6 +11,7 @@ pub mod GrantSelect
 pub mod Granted
 pub mod PolicyPredicate
 pub mod PredicateChecks
+pub mod Reached
 pub mod RevokeRole
 pub mod RevokeSelect
 pub mod RowSecurity

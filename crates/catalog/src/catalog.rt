@@ -4,11 +4,13 @@ ghost use Rattle.std.specs.Prelude.{◌≡◌, ◌<◌, length, IfOk, IfSome, op
 ghost use Rattle.std.specs.List.{list_all};
 ghost use Rattle.row_objects.specs.Policies as policies;
 ghost use Rattle.row_objects.specs.View.{table_of};
+ghost use Rattle.catalog.specs.Reached.{AreMarksOf};
 ghost use Rattle.catalog.specs.Catalog.{at_first, belongs, bypasses_rls, is_index, is_known, is_role, is_superuser, is_table, owns, table_named, table_index};
 
 use memory::{Heap, Text};
 use row_objects::{
-    ByName, Membership, Role, Table, TableDef, any_index, belongs_by, has_policy_room,
+    ByName, Membership, Role, RoleMarks, Table, TableDef, any_index, belongs_by, has_policy_room,
+    is_reached, reached_by,
 };
 use std::alloc::AllocError;
 use std::marker::Model;
@@ -127,6 +129,21 @@ impl<A: Heap> Catalog<A> {
         ensures { result ≡ belongs self.now r.now s.now }
     {
         belongs_by(&self.roles, self.memberships.as_slice(), r, s)
+    }
+
+    /// The roles that a role belongs to, found once for many questions. It takes no memory.
+    pub fn reached(&self, role: &str) -> RoleMarks
+        ensures { AreMarksOf self.now role.now result }
+    {
+        reached_by(&self.roles, self.memberships.as_slice(), role)
+    }
+
+    /// True where r is s, or memberships lead from r to s, by the marks of the roles that r belongs to.
+    pub fn reaches(&self, marks: &RoleMarks, r: &str, s: &str) -> bool
+        requires { AreMarksOf self.now r.now marks.now }
+        ensures { result ≡ belongs self.now r.now s.now }
+    {
+        is_reached(&self.roles, marks, r, s)
     }
 
     /// The table of that name.

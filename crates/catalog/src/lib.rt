@@ -20,4 +20,4 @@ mod set_owner;
 pub use catalog::Catalog;
 pub use create_table::{MOST_COLUMNS, MOST_TABLES};
 pub use laws::{law_granted_again, law_no_loop, law_revoked, law_tables_keep_their_columns};
-pub use row_objects::{MOST_POLICIES, MOST_ROLES, column_index, is_qualified};
+pub use row_objects::{MOST_POLICIES, MOST_ROLES, RoleMarks, column_index, is_qualified};

@@ -5,6 +5,7 @@ use Rattle.std.proofs.lemmas.List.Folds.{list_any-append}
 use Rattle.std.proofs.lemmas.Slice.Eq.{bytes_eq-Decides}
 use Rattle.std.specs.List.{list_all}
 use Rattle.value.specs.Names.{Name}
+use Rattle.row_objects.specs.HeldColumns.{on_column}
 use Rattle.row_objects.specs.Grants.{Grant, grants_to, grants_to_all, has_grant, same_grant, same_part, with_grant, with_grants, IsFront}
 
 -- ---- lists that grow at the end
@@ -14,7 +15,7 @@ front_on a b c p q = (p.0 ++ q.0, q.1 ∙ ap (λ l. l ++ q.0) p.1 ∙ append_ass
 
 -- ---- grants are a set
 
-bytes_same : (name : Name) → bytes_eq name name ≡ true
+pub bytes_same : (name : Name) → bytes_eq name name ≡ true
 bytes_same name = (bytes_eq-Decides name name).1 refl
 
 part_same : (part : Option Name) → same_part part part ≡ true
@@ -59,7 +60,7 @@ none_added gs (g ∷ more) h = go (has_grant gs g) h (none_added gs more)
 
 -- ---- grants to one more role
 
-granted_on : (gs some more : List Grant) → with_grants gs (some ++ more) ≡ with_grants (with_grants gs some) more
+pub granted_on : (gs some more : List Grant) → with_grants gs (some ++ more) ≡ with_grants (with_grants gs some) more
 granted_on gs [] more = refl
 granted_on gs (g ∷ some) more = granted_on (with_grant gs g) some more
 
@@ -70,3 +71,11 @@ next_role columns roles k role gs new l is e =
     ap (λ n. with_grants n (grants_to_all columns (drop (k + 1) roles))) e
     ∙ sym (granted_on gs (grants_to columns role) (grants_to_all columns (drop (k + 1) roles)))
     ∙ sym (ap (λ rs. with_grants gs (grants_to_all columns rs)) d)
+
+-- ---- a grant on one more column
+
+pub next_column : (to : Name) (columns : List Name) (k : ℕ) (column : Name) (gs new : List Grant) → k < length columns → column ≡ get_or columns k column → new ≡ with_grant gs (on_column to column)
+    → with_grants new (grants_to (Some (drop (k + 1) columns)) to) ≡ with_grants gs (grants_to (Some (drop k columns)) to)
+next_column to columns k column gs new l is e =
+    let d : drop k columns ≡ column ∷ drop (k + 1) columns = drop_more columns k column l ∙ ap (λ (c : Name). c ∷ drop (k + 1) columns) (sym is) in
+    ap (λ n. with_grants n (grants_to (Some (drop (k + 1) columns)) to)) e ∙ sym (ap (λ cs. with_grants gs (grants_to (Some cs) to)) d)

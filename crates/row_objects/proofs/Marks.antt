@@ -1,5 +1,5 @@
 -- Marks that are filled until no membership leads further are the roles that are reached.
-use Rattle.std.proofs.Common.{◌≡◌, ℕ, zero, suc, ◌+◌, ◌<◌, ◌≤◌, Bool, true, false, not, ◌&&◌, cond, List, [], ◌∷◌, length, get_or, set, replicate, Option, Some, None, is_some, refl, sym, ap, ◌∙◌, subst, arith, bytes_eq, Contains, ⊎_elim, true≢false}
+use Rattle.std.proofs.Common.{◌≡◌, ℕ, zero, suc, ◌+◌, ◌<◌, ◌≤◌, Bool, true, false, not, ◌&&◌, ◌||◌, cond, List, [], ◌∷◌, length, get_or, set, replicate, Option, Some, None, is_some, refl, sym, ap, ◌∙◌, subst, arith, bytes_eq, Contains, ⊎_elim, true≢false}
 use Rattle.std.proofs.lemmas.Bool.{and_parts, cases_eq}
 use Rattle.std.proofs.lemmas.List.{get_or-set_same, get_or-set_other}
 use Rattle.std.proofs.lemmas.List.Sums.{sum_by-set}
@@ -9,7 +9,7 @@ use Rattle.memory.proofs.Cases.{some_is, none_is_not, some_is_not}
 use Rattle.row_objects.specs.Named.{index_named}
 use Rattle.value.specs.Names.{Name}
 use Rattle.row_objects.specs.Memberships.{Membership, belongs_by, Leads}
-use Rattle.row_objects.specs.Reached.{mark_at, is_marked, next_group, is_of_roles}
+use Rattle.row_objects.specs.Reached.{mark_at, is_marked, is_reached, next_group, is_of_roles}
 use Rattle.row_objects.proofs.Paths.{text_same, same_text, itself, joined, step, reached}
 
 -- ---- indices
@@ -49,7 +49,7 @@ no_mark zero i = refl
 no_mark (suc n) zero = refl
 no_mark (suc n) (suc i) = no_mark n i
 
-false_is_not : {X : Type 0} → false ≡ true → X
+pub false_is_not : {X : Type 0} → false ≡ true → X
 false_is_not h = absurd (true≢false (sym h))
 
 module _ {V : Type 0} (roles : List (Name × V)) where
@@ -176,10 +176,33 @@ module _ {V : Type 0} (roles : List (Name × V)) where
     member_known (n ∷ all) m known (zero, below, is) = subst (λ (p : Membership). is_some (index_named p.member roles) ≡ true) is (and_parts _ _ (and_parts _ _ known).0).0
     member_known (n ∷ all) m known (suc k, below, is) = member_known all m (and_parts _ _ known).1 (k, omega (arith, below), is)
 
+    -- so is the role itself, which is marked
+    pub all_reached_by : (marks : List Bool) (r s : Name) → is_marked roles marks s ≡ belongs_by ms r s → is_reached roles r marks s ≡ belongs_by ms r s
+    all_reached_by marks r s e = go (bytes_eq r s) refl
+      where
+        go : (b : Bool) → bytes_eq r s ≡ b → (b || is_marked roles marks s) ≡ belongs_by ms r s
+        go true h = sym (subst (λ t. belongs_by ms r t ≡ true) (text_same r s h) (itself ms r))
+        go false h = e
+
     -- a name that is no role reaches itself alone
-    pub no_role : (r s : Name) → index_named r roles ≡ None → bytes_eq r s ≡ belongs_by ms r s
+    no_role : (r s : Name) → index_named r roles ≡ None → bytes_eq r s ≡ belongs_by ms r s
     no_role r s none = both_ways _ _ (λ same. subst (λ t. belongs_by ms r t ≡ true) (text_same r s same) (itself ms r)) (λ there. let found = reached ms r s there in by found.0 found.1)
       where
         by : (path : List Membership) → Leads ms r s path → bytes_eq r s ≡ true
         by [] lead = same_text r s lead
         by (m ∷ path) lead = false_is_not (sym (ap is_some (sym (ap (λ n. index_named n roles) lead.1) ∙ none)) ∙ member_known ms m known lead.0)
+
+    unmarked : (k : ℕ) (s : Name) → is_marked roles (replicate k false) s ≡ false
+    unmarked k s = go (index_named s roles)
+      where
+        go : (o : Option ℕ) → mark_at (replicate k false) o ≡ false
+        go None = refl
+        go (Some i) = no_mark k i
+
+    -- and nothing is marked for it
+    pub none_reached : (k : ℕ) (r s : Name) → index_named r roles ≡ None → is_reached roles r (replicate k false) s ≡ belongs_by ms r s
+    none_reached k r s none = go (bytes_eq r s) (no_role r s none)
+      where
+        go : (b : Bool) → b ≡ belongs_by ms r s → (b || is_marked roles (replicate k false) s) ≡ belongs_by ms r s
+        go true e = e
+        go false e = unmarked k s ∙ e

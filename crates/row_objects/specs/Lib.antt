@@ -1,5 +1,7 @@
 pub mod ColumnNames
+pub mod EachOnce
 pub mod Grants
+pub mod HeldColumns
 pub mod Indexes
 pub mod Lends
 pub mod MembershipView

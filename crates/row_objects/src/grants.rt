@@ -1,11 +1,13 @@
 //! The set of grants on a table and its columns (PostgreSQL: GRANT, REVOKE).
 
-ghost use Rattle.std.specs.Prelude.{◌≡◌, IfOk, OnErr, OnOk, Some, not, option_copied};
+ghost use Rattle.std.specs.Prelude.{◌≡◌, ◌||◌, ◌++◌, ◌∷◌, [], IfOk, List, None, OnErr, OnOk, Some, not, option_copied, ℕ};
 ghost use Rattle.std.specs.Str.{bytes_eq};
 ghost use Rattle.std.specs.List.{list_any};
 ghost use Rattle.row_objects.specs.Grants.{grants_to, grants_to_all, has_grant, is_revoked, same_grant, takes, with_grant, with_grants, without_grants, IsFront};
+ghost use Rattle.row_objects.specs.HeldColumns.{on_column, AreHeld};
 ghost use Rattle.row_objects.specs.View.{grant_of, grants_of};
 
+use crate::once::{each_once, each_once_of, is_among};
 use memory::{Heap, Items, Text};
 use std::alloc::AllocError;
 use std::mem::replace;
@@ -60,16 +62,80 @@ fn push_grant<A: Heap>(
     to: &str,
     column: Option<&str>,
 ) -> Result<(), AllocError>
-    ensures done { OnOk result (grants_of grants.new.items ≡ with_grant (grants_of grants.old.items) (record { to = to.now; column = option_copied column.entry })) }
+    ensures done { OnOk result (grants_of grants.new.items ≡ grants_of grants.old.items ++ record { to = to.now; column = option_copied column.entry } ∷ []) }
     ensures front { IsFront grants.old.items grants.new.items }
 {
-    if has_grant(grants.as_slice(), to, column) {
-        return Ok(());
-    }
     let to = Text::new(alloc, to)?;
     let column = copy_name(alloc, column)?;
     grants.push(Grant { to, column })?;
     Ok(())
+}
+
+fn push_on_table<A: Heap>(
+    alloc: A,
+    grants: &mut Vec<Grant<A>, A>,
+    to: &str,
+) -> Result<(), AllocError>
+    ensures done { OnOk result (grants_of grants.new.items ≡ with_grant (grants_of grants.old.items) (record { to = to.now; column = None })) }
+    ensures front { IsFront grants.old.items grants.new.items }
+{
+    if has_grant(grants.as_slice(), to, None) {
+        return Ok(());
+    }
+    push_grant(alloc, grants, to, None)
+}
+
+// Notes the column of a grant to the role.
+fn push_held<A: Heap>(
+    alloc: A,
+    held: &mut Items<Text<A>, A>,
+    to: &str,
+    grant: &Grant<A>,
+) -> Result<(), AllocError>
+    ensures { OnOk result ((column : List ℕ) → list_any (bytes_eq column) held.new ≡ (list_any (bytes_eq column) held.old || same_grant (grant_of grant.now) (on_column to.now column))) }
+{
+    if grant.to.as_str() != to {
+        return Ok(());
+    }
+    match &grant.column {
+        Some(column) => held.push(Text::new(alloc, column.as_str())?),
+        None => Ok(()),
+    }
+}
+
+// The columns on which a role holds grants.
+fn held_columns<A: Heap>(
+    alloc: A,
+    grants: &[Grant<A>],
+    to: &str,
+) -> Result<Items<Text<A>, A>, AllocError>
+    ensures { IfOk result (λ held. AreHeld (grants_of grants.now) to.now held) }
+{
+    let mut held = Items::new(alloc);
+    for grant in grants {
+        push_held(alloc, &mut held, to, grant)?;
+    }
+    Ok(held)
+}
+
+// Adds a grant on a column, unless it is held, and notes it.
+fn push_on_column<A: Heap>(
+    alloc: A,
+    grants: &mut Vec<Grant<A>, A>,
+    held: &mut Items<Text<A>, A>,
+    to: &str,
+    column: &str,
+) -> Result<(), AllocError>
+    requires { AreHeld (grants_of grants.old.items) to.now held.old }
+    ensures done { OnOk result (grants_of grants.new.items ≡ with_grant (grants_of grants.old.items) (on_column to.now column.now)) }
+    ensures held { OnOk result (AreHeld (grants_of grants.new.items) to.now held.new) }
+    ensures front { IsFront grants.old.items grants.new.items }
+{
+    if is_among(held.as_slice(), column) {
+        return Ok(());
+    }
+    push_grant(alloc, grants, to, Some(column))?;
+    held.push(Text::new(alloc, column)?)
 }
 
 fn push_columns<A: Heap>(
@@ -81,8 +147,9 @@ fn push_columns<A: Heap>(
     ensures done { OnOk result (grants_of grants.new.items ≡ with_grants (grants_of grants.old.items) (grants_to (Some columns.now) to.now)) }
     ensures front { IsFront grants.old.items grants.new.items }
 {
+    let mut held = held_columns(alloc, grants.as_slice(), to)?;
     for column in columns {
-        push_grant(alloc, grants, to, Some(column.as_str()))?;
+        push_on_column(alloc, grants, &mut held, to, column.as_str())?;
     }
     Ok(())
 }
@@ -97,7 +164,7 @@ fn push_to<A: Heap>(
     ensures front { IsFront grants.old.items grants.new.items }
 {
     match columns {
-        None => push_grant(alloc, grants, to, None),
+        None => push_on_table(alloc, grants, to),
         Some(columns) => push_columns(alloc, grants, to, columns.as_slice()),
     }
 }
@@ -117,9 +184,8 @@ fn push_all<A: Heap>(
     Ok(())
 }
 
-/// Adds grants to roles on the whole table, or on each of the columns. One that is there already stays as it is. The
-/// grants stay as they were where memory runs out: those that were added are cut off.
-pub fn add_grants<A: Heap>(
+// Adds grants to roles. Where memory runs out, those that were added are cut off.
+fn add_all<A: Heap>(
     alloc: A,
     grants: &mut Items<Grant<A>, A>,
     columns: &Option<Items<Text<A>, A>>,
@@ -143,18 +209,23 @@ pub fn add_grants<A: Heap>(
     }
 }
 
-// ---- fewer grants
-
-fn is_among<A: Heap>(names: &[Text<A>], name: &str) -> bool
-    ensures { result ≡ list_any (bytes_eq name.now) names.now }
+/// Adds grants to roles on the whole table, or on each of the columns. One that is there already stays as it is. The
+/// grants stay as they were where memory runs out. A name that the statement repeats is looked up once.
+pub fn add_grants<A: Heap>(
+    alloc: A,
+    grants: &mut Items<Grant<A>, A>,
+    columns: &Option<Items<Text<A>, A>>,
+    roles: &[Text<A>],
+) -> Result<(), AllocError>
+    ensures done { OnOk result (grants_of grants.new ≡ with_grants (grants_of grants.old) (grants_to_all columns.now roles.now)) }
+    ensures unchanged { OnErr result (grants.new ≡ grants.old) }
 {
-    for other in names {
-        if name == other.as_str() {
-            return true;
-        }
-    }
-    false
+    let columns = each_once_of(alloc, columns)?;
+    let roles = each_once(alloc, roles)?;
+    add_all(alloc, grants, &columns, roles.as_slice())
 }
+
+// ---- fewer grants
 
 fn takes<A: Heap>(columns: &Option<Items<Text<A>, A>>, column: &Option<Text<A>>) -> bool
     ensures { result ≡ takes columns.now column.now }

@@ -10,6 +10,7 @@ mod indexes;
 mod memberships;
 mod names;
 mod objects;
+mod once;
 mod policies;
 mod table_defs;
 
@@ -20,8 +21,8 @@ pub use changes::{
 pub use grants::{Grant, add_grants, remove_grants};
 pub use indexes::{any_index, is_indexed, new_index};
 pub use memberships::{
-    MOST_ROLES, Membership, add_membership, belongs_by, closes_loop, law_belongs_by_paths,
-    law_no_loop, remove_membership,
+    MOST_ROLES, Membership, RoleMarks, add_membership, belongs_by, closes_loop, is_reached,
+    law_belongs_by_paths, law_no_loop, reached_by, remove_membership,
 };
 pub use names::{are_columns, column_index, column_named, has_name_twice, is_qualified};
 pub use objects::{Index, Policy, Role, Table, TableDef};

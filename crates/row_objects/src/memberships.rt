@@ -5,12 +5,13 @@ ghost use Rattle.std.specs.List.{list_all, list_any};
 ghost use Rattle.value.specs.Names.{Name};
 ghost use Rattle.row_objects.specs.Memberships as spec;
 ghost use Rattle.row_objects.specs.Memberships.{belongs_by, closes_loop, is_membership, most_roles, with_membership, without_membership, Leads, HasNoLoop};
-ghost use Rattle.row_objects.specs.Reached.{is_marked, is_of_roles, next_group};
+ghost use Rattle.row_objects.specs.Reached.{is_marked, is_of_roles, is_reached, next_group};
 ghost use Rattle.row_objects.specs.MembershipView.{memberships_of};
 
 use crate::by_name::ByName;
 use memory::{Heap, Text};
 use std::alloc::AllocError;
+use std::marker::Model;
 
 /// A member, and the group whose rights it has (PostgreSQL: Role Membership).
 #[derive(Drop)]
@@ -53,8 +54,52 @@ fn next_group<V, A: Heap>(
     None
 }
 
-/// True where r is s, or finitely many memberships lead from r to s. Marks the roles that are reached until no
-/// membership leads to a further one: as many look-ups as there are memberships, for each role that is reached.
+/// The roles that a role belongs to, as a mark for each role, by its index.
+#[derive(Drop)]
+pub struct RoleMarks {
+    marks: [bool; MOST_ROLES],
+}
+
+impl Model for RoleMarks {
+    ghost use Rattle.std.specs.Prelude.{Bool, List};
+
+    ghost Value = { List Bool };
+
+    ghost view = { λ m. m.marks };
+}
+
+/// Marks the roles that r belongs to, until no membership leads to a further one: as many look-ups as there are
+/// memberships, for each role that is reached. It takes no memory.
+pub fn reached_by<V, A: Heap>(
+    roles: &ByName<V, A>,
+    memberships: &[Membership<A>],
+    r: &str,
+) -> RoleMarks
+    requires few { length roles.now ≤ most_roles }
+    requires known { list_all (is_of_roles roles.now) (memberships_of memberships.now) ≡ true }
+    ensures long { length roles.now ≤ length result }
+    ensures marks { (s : Name) → is_reached roles.now r.now result s ≡ belongs_by (memberships_of memberships.now) r.now s }
+{
+    let mut marks = [false; MOST_ROLES];
+    let Some(start) = roles.index(r) else {
+        return RoleMarks { marks };
+    };
+    marks[start] = true;
+    while let Some(next) = next_group(roles, memberships, &marks) {
+        marks[next] = true;
+    }
+    RoleMarks { marks }
+}
+
+/// True where r is s, or s is marked.
+pub fn is_reached<V, A: Heap>(roles: &ByName<V, A>, marks: &RoleMarks, r: &str, s: &str) -> bool
+    requires { length roles.now ≤ length marks.now }
+    ensures { result ≡ is_reached roles.now r.now marks.now s.now }
+{
+    r == s || is_marked(roles, &marks.marks, s)
+}
+
+/// True where r is s, or finitely many memberships lead from r to s.
 pub fn belongs_by<V, A: Heap>(
     roles: &ByName<V, A>,
     memberships: &[Membership<A>],
@@ -65,15 +110,8 @@ pub fn belongs_by<V, A: Heap>(
     requires known { list_all (is_of_roles roles.now) (memberships_of memberships.now) ≡ true }
     ensures { result ≡ belongs_by (memberships_of memberships.now) r.now s.now }
 {
-    let Some(start) = roles.index(r) else {
-        return r == s;
-    };
-    let mut marks = [false; MOST_ROLES];
-    marks[start] = true;
-    while let Some(next) = next_group(roles, memberships, &marks) {
-        marks[next] = true;
-    }
-    is_marked(roles, &marks, s)
+    let marks = reached_by(roles, memberships, r);
+    is_reached(roles, &marks, r, s)
 }
 
 /// True where a grant of the group to the member would make a role belong to itself: where the group belongs to the

@@ -1,11 +1,11 @@
 use Rattle.std.proofs.Common.{◌<◌, ◌∙◌, map, sym, false, replicate, length, arith}
 use Rattle.std.proofs.lemmas.List.{length-replicate}
 use Rattle.row_objects.specs.MembershipView.{membership_of}
-use Rattle.row_objects.proofs.Marks.{all_marked, first_sound, marked_at, marked_still, next_fewer, next_sound, next_within, no_role, index_within}
-use Rattle.row_objects.proofs.memberships.belongs_by.Goals as goal
+use Rattle.row_objects.proofs.Marks.{all_marked, all_reached_by, first_sound, marked_at, marked_still, next_fewer, next_sound, next_within, none_reached, index_within}
+use Rattle.row_objects.proofs.memberships.reached_by.Goals as goal
 
-pub returns-in_default : goal.returns-in_default
-returns-in_default g c = c.eq.ensures ∙ no_role c.args.roles.now (map (λ m. membership_of m) c.args.memberships.now) c.requires.known c.args.r.now c.args.s.now (sym c.in_default.ensures.index)
+pub returns-in_default-clause-marks : goal.returns-in_default-clause-marks
+returns-in_default-clause-marks g c = λ s. none_reached c.args.roles.now (map (λ m. membership_of m) c.args.memberships.now) c.requires.known 256 c.args.r.now s (sym c.in_default.ensures.index)
 
 pub loop-next-init : goal.loop-next-init
 loop-next-init g c =
@@ -38,7 +38,8 @@ loop-next-preserved g c =
       start = marked_still c.args.roles.now c.loop-next.marks c.args.r.now c.in-Some-next_group.next (omega (arith, l, c.requires.few, c.loop-next.array_long)) c.loop-next.invariant.start;
     }
 
-pub returns : goal.returns
-returns g c =
-    c.is_marked.ensures ∙ all_marked c.args.roles.now (map (λ m. membership_of m) c.args.memberships.now) c.requires.known c.loop-next.marks c.args.r.now c.args.s.now
-    c.loop-next.invariant.sound c.loop-next.invariant.start (sym c.in_default-next_group.ensures)
+pub returns-clause-marks : goal.returns-clause-marks
+returns-clause-marks g c = λ s.
+    all_reached_by c.args.roles.now (map (λ m. membership_of m) c.args.memberships.now) c.requires.known c.loop-next.marks c.args.r.now s
+    (all_marked c.args.roles.now (map (λ m. membership_of m) c.args.memberships.now) c.requires.known c.loop-next.marks c.args.r.now s
+    c.loop-next.invariant.sound c.loop-next.invariant.start (sym c.in_default-next_group.ensures))

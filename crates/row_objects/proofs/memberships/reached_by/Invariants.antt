@@ -3,7 +3,7 @@ use Rattle.std.specs.List.{count_by}
 use Rattle.row_objects.specs.Reached.{is_marked}
 use Rattle.row_objects.specs.MembershipView.{membership_of}
 use Rattle.row_objects.proofs.Marks.{IsSound}
-use Rattle.row_objects.proofs.memberships.belongs_by.Given as goal
+use Rattle.row_objects.proofs.memberships.reached_by.Given as goal
 
 abbrev pub invariant-loop-next : goal.invariant-loop-next
 invariant-loop-next g l = record {
