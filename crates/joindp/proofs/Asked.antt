@@ -1,30 +1,24 @@
 -- What is the same of a step whatever order the combinations before it come in.
-use Rattle.std.proofs.Common.{◌≡◌, ◌∙◌, refl, sym, ap, subst, ℕ, ◌+◌, ◌^◌, ◌<◌, ◌≤◌, Bool, true, false, List, length, map, take, option_map, Option, Some, None, slice_index_or, arith, true≢false}
-use Rattle.std.specs.Prelude.{slice_get, if◌then◌else◌}
-use Rattle.std.proofs.lemmas.Bool.{eq-eqb}
+use Rattle.std.proofs.Common.{◌≡◌, ◌∙◌, sym, ap, subst, ℕ, ◌+◌, ◌^◌, ◌<◌, ◌≤◌, true, List, length, map, take, option_map, Option, Some, None, slice_index_or, arith, true≢false}
 use Rattle.std.proofs.lemmas.List.{get_or-map, length-map}
 use Rattle.expr.specs.declared.bound.ColumnId.{ColumnId}
-use Rattle.expr.specs.declared.code.Method.{Method}
-use Rattle.expr.specs.declared.code.Method.TheVariants.{Nested, Hash, Merge}
+use Rattle.expr.specs.declared.code.Method.TheVariants.{Merge}
 use Rattle.expr.specs.declared.code.CodeStep.{CodeStep}
-use Rattle.expr.specs.Bound.{BoundExpr, is_column}
-use Rattle.predicates.proofs.Keeping.{both}
+use Rattle.expr.specs.Bound.{BoundExpr}
 use Rattle.predicates.specs.Equalities.{column_sides}
-use Rattle.joins.specs.Steps.{sort_steps}
 use Rattle.stats.specs.Card.{Entries}
 use Rattle.trailcheck.specs.Admissible.{is_some_and}
 use Rattle.trailcheck.specs.Shapes.{entry_index}
 use Rattle.joindp.specs.declared.candidates.Candidate.{Candidate}
-use Rattle.joindp.specs.declared.candidates.MergeOrder.{MergeOrder}
 use Rattle.joindp.specs.Best.{Problem, estimates}
 use Rattle.joindp.specs.Candidates.{AreCandidates, Asks, IsCandidate, asked, sorting_for}
-use Rattle.joindp.specs.Cost.{Estimates, access_cost, join_cost, step_cost_of}
+use Rattle.joindp.specs.Cost.{Estimates, step_cost_of}
 use Rattle.predicates.specs.Numbered.{numbered}
-use Rattle.joins.specs.Orders.{Order, facing, is_ordered_by, merge_sorting, merged_order, order_after, order_of, sides, sides_held, sorting_unless}
+use Rattle.joins.specs.Orders.{Order, facing, order_after, sides, sides_held}
 use Rattle.joindp.specs.Following.{equates_with, may_follow, may_join_by, span}
 use Rattle.joindp.specs.Search.{After, AreSizes, cost_of_step, entry_count, next, search, set_of}
 use Rattle.joindp.specs.Walks.{IsBestFrom, IsBestOf, IsPick, Plan, with_first}
-use Rattle.joindp.proofs.Improved.{each_follows, improved, no_step}
+use Rattle.joindp.proofs.Improved.{each_few, improved, no_step}
 use Rattle.joindp.proofs.Sized.{cost_is}
 
 -- ---- a join that is no merge
@@ -77,7 +71,7 @@ module _ (p : Problem) (orders : List Order) (set : ℕ) (cs : List Candidate) (
   as_many = length-map cs own_step
 
   pub may_come : may_follow p.setting (set_of set) (slice_index_or cs k d).step ≡ true
-  may_come = subst (λ s. may_follow p.setting (set_of set) s ≡ true) step_at (each_follows p.setting (set_of set) (map own_step cs) k are.0 (omega (arith, as_many, within)))
+  may_come = subst (λ s. may_follow p.setting (set_of set) s ≡ true) step_at (each_few p (set_of set) (map own_step cs) k are.0 (omega (arith, as_many, within)))
 
   pub candidate_at : IsCandidate p orders set (slice_index_or cs k d)
   candidate_at = are.1 k d within

@@ -1,28 +1,15 @@
 -- The best plan from a state is the best of a step and the best plan after it.
-use Rattle.std.proofs.Common.{◌≡◌, ℕ, ◌+◌, true, false, List, [], ◌∷◌, ◌++◌, Option, Some, None, refl, sym, ap, ◌∙◌, subst, arith, ◌⊎◌, inl, inr, true≢false}
+use Rattle.std.proofs.Common.{◌≡◌, ℕ, ◌+◌, true, false, List, [], ◌∷◌, ◌++◌, length, Option, Some, None, refl, sym, ap, ap₂, ◌∙◌, subst, arith, length-append, ◌⊎◌, inl, inr, true≢false}
+use Rattle.expr.specs.declared.code.Access.{Access}
+use Rattle.expr.specs.declared.code.Access.TheVariants.{Full, Index, Range}
 use Rattle.expr.specs.declared.code.CodeStep.{CodeStep}
-use Rattle.expr.specs.Codes.{step_numbers}
-use Rattle.joindp.specs.Walks.{Walk, IsNoLater, Plan, numbers, IsNoWorse, with_first, IsOneOf, IsPath, path_cost, IsPlan, IsBestFrom, IsBestOf, IsPick}
+use Rattle.expr.specs.declared.code.Method.{Method}
+use Rattle.expr.specs.declared.code.Method.TheVariants.{Nested, Hash, Merge}
+use Rattle.expr.specs.Codes.{access_numbers, method_numbers, step_numbers}
+use Rattle.joindp.specs.Walks.{Walk, Plan, numbers, IsNoWorse, with_first, IsOneOf, IsPath, path_cost, IsPlan, IsBestFrom, IsBestOf, IsPick}
+use Rattle.joindp.proofs.Before.{IsNoMore, no_later_after, no_later_before, no_later_itself, no_later_through, no_more_itself, no_more_through}
 
 -- ---- the order of plans
-
-pub no_later_itself : (xs : List ℕ) → IsNoLater xs xs
-no_later_itself [] = tt
-no_later_itself (x ∷ xs) = inr (refl, no_later_itself xs)
-
-no_later_through : (xs ys zs : List ℕ) → IsNoLater xs ys → IsNoLater ys zs → IsNoLater xs zs
-no_later_through [] ys zs h k = tt
-no_later_through (x ∷ xs) [] zs h k = absurd h
-no_later_through (x ∷ xs) (y ∷ ys) [] h k = absurd k
-no_later_through (x ∷ xs) (y ∷ ys) (z ∷ zs) (inl a) (inl b) = inl (omega arith)
-no_later_through (x ∷ xs) (y ∷ ys) (z ∷ zs) (inl a) (inr b) = inl (omega (arith, b.0))
-no_later_through (x ∷ xs) (y ∷ ys) (z ∷ zs) (inr a) (inl b) = inl (omega (arith, a.0))
-no_later_through (x ∷ xs) (y ∷ ys) (z ∷ zs) (inr a) (inr b) = inr (a.0 ∙ b.0, no_later_through xs ys zs a.1 b.1)
-
--- the same numbers before both
-no_later_after : (ns xs ys : List ℕ) → IsNoLater xs ys → IsNoLater (ns ++ xs) (ns ++ ys)
-no_later_after [] xs ys h = h
-no_later_after (n ∷ ns) xs ys h = inr (refl, no_later_after ns xs ys h)
 
 pub no_worse_through : (p q r : Plan) → IsNoWorse p q → IsNoWorse q r → IsNoWorse p r
 no_worse_through p q r (inl a) (inl b) = inl (omega arith)
@@ -37,6 +24,55 @@ no_worse_itself p = inr (refl, no_later_itself (numbers p.1))
 no_worse_after : (k : ℕ) (c : CodeStep) (p q : Plan) → IsNoWorse p q → IsNoWorse (k + p.0, c ∷ p.1) (k + q.0, c ∷ q.1)
 no_worse_after k c p q (inl a) = inl (omega arith)
 no_worse_after k c p q (inr a) = inr (ap (λ n. k + n) a.0, no_later_after (step_numbers c) (numbers p.1) (numbers q.1) a.1)
+
+-- ---- steps that are as good as others
+
+-- a step that may come where another does, leads to the same, and costs less, or as much with numbers that are no later
+pub record IsAsGood (w : Walk) (s : w.State) (d c : CodeStep) : Type 0 where
+  pub allowed : w.allows s d ≡ true
+  pub next : w.next s d ≡ w.next s c
+  pub cost : IsNoMore (w.step_cost s d) (step_numbers d) (w.step_cost s c) (step_numbers c)
+
+-- as many numbers for each step
+pub access_many : (a : Access) → length (access_numbers a) ≡ 3
+access_many Full = refl
+access_many (Index column) = refl
+access_many (Range column bound) = refl
+
+method_many : (m : Method) → length (method_numbers m) ≡ 2
+method_many Nested = refl
+method_many (Hash conjunct) = refl
+method_many (Merge conjunct) = refl
+
+step_many : (c : CodeStep) → length (step_numbers c) ≡ 6
+step_many c = let l = length-append (access_numbers c.access) (method_numbers c.method) in let a = access_many c.access in let m = method_many c.method in omega (arith, l, a, m)
+
+module _ (w : Walk) (s : w.State) where
+  pub as_good_itself : (c : CodeStep) → w.allows s c ≡ true → IsAsGood w s c c
+  as_good_itself c may = record { allowed = may; next = refl; cost = no_more_itself (w.step_cost s c) (step_numbers c) }
+
+  pub as_good_through : (d e c : CodeStep) → IsAsGood w s d e → IsAsGood w s e c → IsAsGood w s d c
+  as_good_through d e c h k = record {
+    allowed = h.allowed;
+    next = h.next ∙ k.next;
+    cost = no_more_through (w.step_cost s d) (w.step_cost s e) (w.step_cost s c) (step_numbers d) (step_numbers e) (step_numbers c) h.cost k.cost;
+  }
+
+  module _ (d c : CodeStep) (t : List CodeStep) (good : IsAsGood w s d c) where
+    -- the same steps may come after both
+    path_by : IsPath w s (c ∷ t) → IsPath w s (d ∷ t)
+    path_by path = (good.allowed, subst (λ n. IsPath w n t) (sym good.next) path.1)
+
+    -- and the whole is no worse
+    no_worse_by : IsNoWorse (path_cost w s (d ∷ t), d ∷ t) (path_cost w s (c ∷ t), c ∷ t)
+    no_worse_by = go good.cost
+      where
+        rest : path_cost w (w.next s d) t ≡ path_cost w (w.next s c) t
+        rest = ap (λ n. path_cost w n t) good.next
+
+        go : IsNoMore (w.step_cost s d) (step_numbers d) (w.step_cost s c) (step_numbers c) → IsNoWorse (path_cost w s (d ∷ t), d ∷ t) (path_cost w s (c ∷ t), c ∷ t)
+        go (inl a) = let r = rest in inl (omega (arith, a, r))
+        go (inr a) = inr (ap₂ (λ m n. m + n) a.0 rest, no_later_before (step_numbers d) (step_numbers c) (numbers t) (step_many d ∙ sym (step_many c)) a.1)
 
 -- ---- lists of first steps
 
@@ -96,18 +132,25 @@ module _ (w : Walk) where
         at c t path (inl a) = no_worse_through (w.step_cost s d + x.0, d ∷ x.1) q (path_cost w s (c ∷ t), c ∷ t) pick.1 (h.1 c t a path)
         at c t path (inr e) = no_better x after c t e path
 
-  -- all steps that are allowed are among the first ones, and the state is not the end
-  pub best_of_all : (ds : List CodeStep) (s : w.State) (o : Option Plan) → w.is_done s ≡ false → ((c : CodeStep) → w.allows s c ≡ true → IsOneOf ds c) → IsBestOf w ds s o → IsBestFrom w s o
+  -- each step that is allowed has one among the first ones that is as good, and the state is not the end
+  pub best_of_all : (ds : List CodeStep) (s : w.State) (o : Option Plan) → w.is_done s ≡ false → ((c : CodeStep) → w.allows s c ≡ true → (d : CodeStep) × IsOneOf ds d × IsAsGood w s d c) → IsBestOf w ds s o → IsBestFrom w s o
   best_of_all ds s None open' all h = λ t path. at t path
     where
+      first : (c : CodeStep) (t : List CodeStep) → IsPath w s (c ∷ t) → (d : CodeStep) × IsOneOf ds d × IsAsGood w s d c → ⊥
+      first c t path (d, one, good) = h d t one (path_by w s d c t good path)
+
       at : (t : List CodeStep) → IsPath w s t → ⊥
       at [] path = true≢false (sym path ∙ open')
-      at (c ∷ t) path = h c t (all c path.0) path
+      at (c ∷ t) path = first c t path (all c path.0)
   best_of_all ds s (Some q) open' all h = (h.0, λ t path. at t path)
     where
+      first : (c : CodeStep) (t : List CodeStep) → IsPath w s (c ∷ t) → (d : CodeStep) × IsOneOf ds d × IsAsGood w s d c → IsNoWorse q (path_cost w s (c ∷ t), c ∷ t)
+      first c t path (d, one, good) =
+          no_worse_through q (path_cost w s (d ∷ t), d ∷ t) (path_cost w s (c ∷ t), c ∷ t) (h.1 d t one (path_by w s d c t good path)) (no_worse_by w s d c t good)
+
       at : (t : List CodeStep) → IsPath w s t → IsNoWorse q (path_cost w s t, t)
       at [] path = absurd (true≢false (sym path ∙ open'))
-      at (c ∷ t) path = h.1 c t (all c path.0) path
+      at (c ∷ t) path = first c t path (all c path.0)
 
   -- at the end no step is left
   pub best_at_end : (s : w.State) → w.is_done s ≡ true → ((c : CodeStep) → w.allows s c ≡ false) → IsBestFrom w s (Some (w.last_cost s, []))

@@ -1,10 +1,10 @@
 -- The best plan of the search is the least code.
-use Rattle.std.proofs.Common.{◌≡◌, ◌∙◌, refl, sym, ap, ℕ, ◌<◌, ◌≤◌, inl, inr, true, false, not, ◌&&◌, ◌==◌, List, [], ◌∷◌, length, Option, Some, None, arith, eqb-true}
-use Rattle.std.specs.declared.cmp.Ordering.TheVariants.{Less, Equal, Greater}
+use Rattle.std.proofs.Common.{◌≡◌, ◌∙◌, refl, sym, ap, ℕ, ◌≤◌, inl, inr, true, false, not, ◌&&◌, ◌==◌, List, [], ◌∷◌, length, Option, Some, None, eqb-true}
+use Rattle.std.specs.declared.cmp.Ordering.TheVariants.{Less, Greater}
 use Rattle.std.specs.Option.{IsSome}
 use Rattle.std.specs.Ordering.{nat_cmp, ordering_then}
 use Rattle.std.specs.Cmp.Lexicographic.{slice_cmp}
-use Rattle.std.proofs.lemmas.Bool.{both_ways, eq-eqb, le-ltb, ne_eqb, not-true, not_from_false}
+use Rattle.std.proofs.lemmas.Bool.{both_ways, eq-eqb, not_from_false}
 use Rattle.expr.specs.declared.code.CodeStep.{CodeStep}
 use Rattle.expr.specs.Codes.{Empty, Steps, code_cmp}
 use Rattle.predicates.proofs.Movables.{and_left, and_right}
@@ -15,16 +15,11 @@ use Rattle.joindp.specs.Best.{Problem, estimates, plan_cmp, IsLeast}
 use Rattle.joindp.specs.Cost.{cost}
 use Rattle.joindp.specs.Search.{Start, entry_count, plan_of, search}
 use Rattle.joindp.specs.Walks.{IsNoLater, IsNoWorse, Plan, numbers, IsPath, path_cost, IsBestFrom}
+use Rattle.joindp.proofs.Before.{equal_cmp, greater_cmp}
 use Rattle.joindp.proofs.Paths.{path_of, steps_of, cost_of_all}
 use Rattle.joindp.proofs.SomeCode.{some_steps}
 
 -- ---- two ways to say that no plan comes before another
-
-greater_cmp : (x y : ℕ) → x < y → nat_cmp y x ≡ Greater
-greater_cmp x y h = rw (le-ltb y x (omega arith), ne_eqb y x (λ k. omega (arith, k))) refl
-
-equal_cmp : (x y : ℕ) → x ≡ y → nat_cmp y x ≡ Equal
-equal_cmp x y h = rw (le-ltb y x (omega arith), eq-eqb y x (sym h)) refl
 
 -- numbers that are no later do not come after
 not_before : (xs ys : List ℕ) → IsNoLater xs ys → slice_cmp nat_cmp ys xs ≡ Less → ⊥

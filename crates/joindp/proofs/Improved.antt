@@ -8,11 +8,13 @@ use Rattle.expr.specs.declared.code.CodeStep.{CodeStep}
 use Rattle.stats.specs.Card.{Entries}
 use Rattle.trailcheck.specs.Settings.{Setting}
 use Rattle.joindp.specs.Best.{Problem}
-use Rattle.joindp.specs.Following.{following, may_follow}
+use Rattle.joindp.specs.FewSteps.{few_steps}
+use Rattle.joindp.specs.Following.{first_steps, may_follow}
 use Rattle.joindp.specs.Search.{IsSmall, State, allows, cost_of_step, is_done, next, search}
 use Rattle.joindp.specs.Walks.{IsBestFrom, IsBestOf, IsOneOf, IsPick, Plan, with_first}
-use Rattle.joindp.proofs.Bests.{best_more, best_of_all}
-use Rattle.joindp.proofs.Followed.{followed}
+use Rattle.joindp.proofs.Bests.{IsAsGood, best_more, best_of_all}
+use Rattle.joindp.proofs.FewSteps.{few_follow}
+use Rattle.joindp.proofs.Followed.{first_follow}
 
 -- ---- elements of a list by their indexes
 
@@ -31,9 +33,13 @@ take_all (x ∷ xs) (suc n) h = ap (λ ys. x ∷ ys) (take_all xs n (omega arith
 abbrev pub no_step : CodeStep
 no_step = record { entry = 0; access = Full; method = Nested }
 
--- each of the steps that may follow does so
-pub each_follows : (at : Setting) (placed : Entries) (xs : List CodeStep) (i : ℕ) → xs ≡ following at placed → i < length xs → may_follow at placed (slice_index_or xs i no_step) ≡ true
-each_follows at placed xs i e h = followed at placed (slice_index_or xs i no_step) (subst (λ ys. IsOneOf ys (slice_index_or xs i no_step)) e (one_of_at xs i no_step h))
+-- each of the steps that may come first does so
+pub each_first : (at : Setting) (xs : List CodeStep) (i : ℕ) → xs ≡ first_steps at → i < length xs → may_follow at (λ entry. false) (slice_index_or xs i no_step) ≡ true
+each_first at xs i e h = first_follow at (slice_index_or xs i no_step) (subst (λ ys. IsOneOf ys (slice_index_or xs i no_step)) e (one_of_at xs i no_step h))
+
+-- each of the few after a set may follow it
+pub each_few : (p : Problem) (placed : Entries) (xs : List CodeStep) (i : ℕ) → xs ≡ few_steps p placed → i < length xs → may_follow p.setting placed (slice_index_or xs i no_step) ≡ true
+each_few p placed xs i e h = few_follow p placed (slice_index_or xs i no_step) (subst (λ ys. IsOneOf ys (slice_index_or xs i no_step)) e (one_of_at xs i no_step h))
 
 -- ---- the better of the best so far and one more
 
@@ -45,8 +51,8 @@ module _ (p : Problem) (s : State) where
       subst (λ ys. IsBestOf (search p) ys s new) (sym (ap (λ n. take n xs) (add-one i) ∙ take-suc xs i d within))
       (best_more (search p) s x may (take i xs) best new rest h after (subst (λ n. IsPick best (with_first n x rest) new) e pick))
 
-  -- after all steps that may follow
-  pub all_improved : (xs : List CodeStep) (n : ℕ) (best : Option Plan) → length xs ≤ n → is_done p s ≡ false → ((c : CodeStep) → allows p s c ≡ true → IsOneOf xs c) → IsBestOf (search p) (take n xs) s best → IsBestFrom (search p) s best
+  -- after all steps, of which one is as good as each that may come
+  pub all_improved : (xs : List CodeStep) (n : ℕ) (best : Option Plan) → length xs ≤ n → is_done p s ≡ false → ((c : CodeStep) → allows p s c ≡ true → (d : CodeStep) × IsOneOf xs d × IsAsGood (search p) s d c) → IsBestOf (search p) (take n xs) s best → IsBestFrom (search p) s best
   all_improved xs n best over open' all h = best_of_all (search p) xs s best open' all (subst (λ ys. IsBestOf (search p) ys s best) (take_all xs n over) h)
 
 -- ---- costs stay small

@@ -1,8 +1,10 @@
 pub mod Asked
+pub mod Before
 pub mod Bests
 pub mod Chosen
 pub mod Costs
 pub mod Elements
+pub mod FewSteps
 pub mod Followed
 pub mod Guards
 pub mod Improved

@@ -1,4 +1,4 @@
--- The steps that may follow a set, with what is the same of each whatever order the combinations come in.
+-- The steps after a set that can be in a least code, with what is the same of each whatever order the combinations come in.
 use Rattle.std.specs.Prelude.{◌≡◌, ℕ, ◌+◌, ◌<◌, ◌≤◌, ◌^◌, List, ◌∷◌, length, map, Option, Some, None, slice_get, slice_index_or, if◌then◌else◌}
 use Rattle.expr.specs.declared.code.CodeStep.{CodeStep}
 use Rattle.trailcheck.specs.Shapes.{entry_index}
@@ -8,7 +8,7 @@ use Rattle.joindp.specs.declared.candidates.MergeOrder.{MergeOrder}
 use Rattle.joindp.specs.Best.{Problem}
 use Rattle.joindp.specs.Cost.{Estimates, step_cost_of}
 use Rattle.joins.specs.Orders.{Order, is_ordered_by, order_after}
-use Rattle.joindp.specs.Following.{following}
+use Rattle.joindp.specs.FewSteps.{few_steps}
 use Rattle.joindp.specs.Search.{After, cost_of_step, set_of}
 use Rattle.joindp.specs.Walks.{Plan}
 
@@ -46,6 +46,6 @@ module _ (p : Problem) (orders : List Order) (set : ℕ) where
     pub small : (order : Order) → c.cost + sorting_for order c.merge ≤ 2 ^ 81
     pub order : (i : ℕ) (order : Order) → slice_get orders i ≡ Some order → slice_get orders (index_after i c.merge) ≡ Some (order_after p.setting.conditions (entry_index c.step) order c.step.method)
 
-  -- those of all steps that may follow
+  -- those of all steps that can be in a least code
   abbrev pub AreCandidates : List Candidate → Type 0
-  AreCandidates cs = (map (λ c. c.step) cs ≡ following p.setting (set_of set)) × ((k : ℕ) (d : Candidate) → k < length cs → IsCandidate (slice_index_or cs k d))
+  AreCandidates cs = (map (λ c. c.step) cs ≡ few_steps p (set_of set)) × ((k : ℕ) (d : Candidate) → k < length cs → IsCandidate (slice_index_or cs k d))

@@ -1,4 +1,4 @@
--- The steps that may follow a set of placed entries: those that may follow any list of them, in an order that can be listed.
+-- The steps that may follow a set of placed entries, and all that may come first.
 use Rattle.std.specs.Prelude.{ℕ, ◌+◌, Bool, true, false, not, ◌==◌, nat_le, ◌&&◌, ◌||◌, List, [], ◌∷◌, length, map, filter, Option, Some, None, slice_get}
 use Rattle.std.specs.List.{flat_map, list_all, list_any, range_with_len}
 use Rattle.expr.specs.declared.bound.ColumnId.{ColumnId}
@@ -37,13 +37,13 @@ abbrev pub columns_indexed : Option (List ℕ) → List ℕ
 columns_indexed (Some columns) = columns
 columns_indexed None = []
 
--- the joins on an equality
-abbrev pub joins_on : (number : ℕ) → List Method
-joins_on number = Hash number ∷ Merge number ∷ []
-
 -- the step of the entry of that index
 abbrev pub step_of : (index : ℕ) → Access → Method → CodeStep
 step_of index access method = record { entry = index + 1; access = access; method = method }
+
+-- as the first one
+abbrev pub first_step : (index : ℕ) → Access → CodeStep
+first_step index access = step_of index access Nested
 
 module _ (at : Setting) where
   -- the condition of that number equates a column of the set with one of the entry
@@ -88,14 +88,6 @@ module _ (at : Setting) where
   abbrev pub accesses : (entry : ℕ) → List Access
   accesses entry = Full ∷ flat_map (by_index entry) (columns_indexed (slice_get at.indexed entry))
 
-  abbrev pub methods : Entries → (entry : ℕ) → List Method
-  methods placed entry = Nested ∷ flat_map joins_on (filter (is_equality placed entry) all_numbers)
-
-  abbrev pub steps_by : Entries → (entry : ℕ) → Access → List CodeStep
-  steps_by placed entry access = map (step_of entry access) (methods placed entry)
-
-  abbrev pub steps_to : Entries → (entry : ℕ) → List CodeStep
-  steps_to placed entry = flat_map (steps_by placed entry) (accesses entry)
-
-  abbrev pub following : Entries → List CodeStep
-  following placed = flat_map (steps_to placed) (filter (may_be_next placed) (range_with_len 0 (length at.frame)))
+  -- each entry that may be next after none, read in each way
+  abbrev pub first_steps : List CodeStep
+  first_steps = flat_map (λ entry. map (first_step entry) (accesses entry)) (filter (may_be_next (λ entry. false)) (range_with_len 0 (length at.frame)))

@@ -1,4 +1,4 @@
-//! The steps that may follow a set, with what is the same of each whatever order the combinations come in.
+//! The steps after a set that can be in a least code, with what is the same of each whatever order the combinations come in.
 
 ghost use Rattle.std.specs.Prelude.{◌≡◌, ◌+◌, ◌<◌, ◌≤◌, ◌^◌, IfOk, slice_get, Some, true, ℕ};
 ghost use Rattle.trailcheck.specs.Shapes as shapes;
@@ -12,7 +12,7 @@ ghost use Rattle.joindp.specs.Search.{HasOrders, entry_count, set_of};
 ghost use Rattle.joindp.specs.View.{problem_of};
 
 use crate::costing::step_cost;
-use crate::following::following;
+use crate::few_steps::few_steps;
 use crate::inputs::Inputs;
 use crate::orders::order_index;
 use crate::reaching::bit_of;
@@ -133,7 +133,7 @@ fn candidate_of<A: Heap>(inputs: &Inputs<'_, '_, A>, set: usize, step: CodeStep)
     }
 }
 
-/// The steps that may follow a set.
+/// The steps after a set that can be in a least code.
 pub(crate) fn candidates<A: Heap>(
     alloc: A,
     inputs: &Inputs<'_, '_, A>,
@@ -144,7 +144,7 @@ pub(crate) fn candidates<A: Heap>(
     ensures { IfOk result (λ candidates. AreCandidates (problem_of inputs.now.problem.now) inputs.now.orders.now set candidates) }
 {
     let placed = EntrySet { bits: set as u64 };
-    let steps = following(alloc, inputs.problem, inputs.accesses, placed)?;
+    let steps = few_steps(alloc, inputs.problem, inputs.accesses, placed)?;
     let mut candidates = Vec::with_capacity(alloc, steps.len())?;
     for step in steps.as_slice() {
         candidates.push(candidate_of(inputs, set, *step))?;

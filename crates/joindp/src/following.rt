@@ -1,7 +1,7 @@
-//! The steps that may follow a set of placed entries.
+//! Which steps may come first, and what may follow a set of placed entries.
 
-ghost use Rattle.std.specs.Prelude.{◌≡◌, ◌==◌, ◌&&◌, ◌||◌, ◌-◌, ◌<◌, ◌^◌, ◌++◌, IfOk, OnOk, map, not, slice_get};
-ghost use Rattle.std.specs.List.{flat_map, list_all, list_any};
+ghost use Rattle.std.specs.Prelude.{◌≡◌, ◌==◌, ◌&&◌, ◌||◌, ◌-◌, ◌<◌, ◌^◌, ◌++◌, IfOk, OnOk, filter, map, not, slice_get};
+ghost use Rattle.std.specs.List.{list_all, list_any};
 ghost use Rattle.stats.specs.View.{members};
 ghost use Rattle.trailcheck.specs.Admissible as admissible;
 ghost use Rattle.trailcheck.specs.Admissible.{condition_at, is_some_and};
@@ -178,88 +178,69 @@ fn is_equality<A: Heap>(
     }
 }
 
-// Adds the joins on an equality.
-fn push_joins_on<A: Heap>(known: &mut Items<Method, A>, number: u64) -> Result<(), AllocError>
-    ensures { OnOk result (known.new ≡ known.old ++ spec.joins_on number) }
-{
-    known.push(Method::Hash { conjunct: number })?;
-    known.push(Method::Merge { conjunct: number })
-}
-
-// The ways in which the rows of the entry may be joined to the set.
-fn methods<A: Heap>(
+/// The numbers of the conditions that equate a column of the set with one of the entry.
+pub(crate) fn equalities<A: Heap>(
     alloc: A,
     problem: &Problem<'_, A>,
     placed: EntrySet,
     entry: usize,
-) -> Result<Items<Method, A>, AllocError>
-    ensures { IfOk result (λ methods. methods ≡ spec.methods (problem_of problem.now).setting (members placed) entry) }
+) -> Result<Items<u64, A>, AllocError>
+    ensures { IfOk result (λ numbers. numbers ≡ filter (spec.is_equality (problem_of problem.now).setting (members placed) entry) (spec.all_numbers (problem_of problem.now).setting)) }
 {
-    let mut methods = Items::new(alloc);
-    methods.push(Method::Nested)?;
+    let mut numbers = Items::new(alloc);
     let count = problem.setting.conditions.len() as u64;
     for k in 0..count {
         if is_equality(problem, placed, entry, k + 1) {
-            push_joins_on(&mut methods, k + 1)?;
+            numbers.push(k + 1)?;
         }
     }
-    Ok(methods)
+    Ok(numbers)
 }
 
 // ---- steps
 
-// Adds the steps to the entry that read its rows in one way.
-fn push_steps_by<A: Heap>(
-    known: &mut Items<CodeStep, A>,
-    entry: usize,
-    access: Access,
-    methods: &[Method],
-) -> Result<(), AllocError>
+/// The step of the entry of that index.
+pub(crate) fn step_of(entry: usize, access: Access, method: Method) -> CodeStep
     requires { entry < 2 ^ 64 - 1 }
-    ensures { OnOk result (known.new ≡ known.old ++ map (spec.step_of entry access) methods.now) }
+    ensures { result ≡ spec.step_of entry access method }
 {
-    for method in methods {
-        known.push(CodeStep {
-            entry: entry as u64 + 1,
-            access,
-            method: *method,
-        })?;
+    CodeStep {
+        entry: entry as u64 + 1,
+        access,
+        method,
     }
-    Ok(())
 }
 
-// Adds the steps to the entry.
-fn push_steps_to<A: Heap>(
+// Adds the first steps that read the rows of the entry.
+fn push_first_steps<A: Heap>(
     known: &mut Items<CodeStep, A>,
     entry: usize,
     accesses: &[Access],
-    methods: &[Method],
 ) -> Result<(), AllocError>
     requires { entry < 2 ^ 64 - 1 }
-    ensures { OnOk result (known.new ≡ known.old ++ flat_map (λ access. map (spec.step_of entry access) methods.now) accesses.now) }
+    ensures { OnOk result (known.new ≡ known.old ++ map (spec.first_step entry) accesses.now) }
 {
     for access in accesses {
-        push_steps_by(known, entry, *access, methods)?;
+        known.push(step_of(entry, *access, Method::Nested))?;
     }
     Ok(())
 }
 
-/// The steps that may follow a set of placed entries; `accesses` are the ways in which the rows of each entry may be read.
-pub(crate) fn following<A: Heap>(
+/// The steps that may come first; `accesses` are the ways in which the rows of each entry may be read.
+pub(crate) fn first_steps<A: Heap>(
     alloc: A,
     problem: &Problem<'_, A>,
     accesses: &[Items<Access, A>],
-    placed: EntrySet,
 ) -> Result<Items<CodeStep, A>, AllocError>
     requires { AreAccesses (problem_of problem.now) accesses.now }
-    ensures { IfOk result (λ steps. steps ≡ spec.following (problem_of problem.now).setting (members placed)) }
+    ensures { IfOk result (λ steps. steps ≡ spec.first_steps (problem_of problem.now).setting) }
 {
+    let placed = EntrySet::none();
     let some = some_joined(problem, placed);
     let mut steps = Items::new(alloc);
     for (entry, accesses) in accesses.iter().enumerate() {
         if may_be_next(problem, placed, entry, some) {
-            let methods = methods(alloc, problem, placed, entry)?;
-            push_steps_to(&mut steps, entry, accesses.as_slice(), methods.as_slice())?;
+            push_first_steps(&mut steps, entry, accesses.as_slice())?;
         }
     }
     Ok(steps)

@@ -4,6 +4,7 @@
 mod best;
 mod candidates;
 mod costing;
+mod few_steps;
 mod following;
 mod inputs;
 mod laws;

@@ -18,7 +18,7 @@ ghost use Rattle.joindp.specs.Walks.{IsBestFrom, IsNoLater, IsNoWorse, IsPick, n
 use crate::best::{Best, Pick};
 use crate::candidates::{Candidate, candidates, cost_with, index_after};
 use crate::costing::{access_cost, last_sorting, size};
-use crate::following::{accesses, following};
+use crate::following::{accesses, first_steps};
 use crate::inputs::Inputs;
 use crate::orders::{order_index, orders};
 use crate::problem::Problem;
@@ -213,7 +213,7 @@ fn best_of_all<'t, A: Heap>(
     requires orders { HasOrders (problem_of inputs.now.problem.now) inputs.now.orders.now }
     requires table { IsTable (problem_of inputs.now.problem.now) inputs.now.nexts.now inputs.now.orders.now 0 table.now }
     requires some { 0 < entry_count (problem_of inputs.now.problem.now) }
-    requires steps { steps.now ≡ following.following (problem_of inputs.now.problem.now).setting (λ entry. false) }
+    requires steps { steps.now ≡ following.first_steps (problem_of inputs.now.problem.now).setting }
     ensures { IfOk result (λ b. IsBestFrom (spec.search (problem_of inputs.now.problem.now)) Start (plan_of b)) }
 {
     let mut best = None;
@@ -339,7 +339,7 @@ fn best_plan<A: Heap>(alloc: A, inputs: &Inputs<'_, '_, A>) -> Result<Option<Bes
     if count == 1 {
         return Ok(at_end(alloc, inputs.problem, None));
     }
-    let steps = following(alloc, inputs.problem, inputs.accesses, EntrySet::none())?;
+    let steps = first_steps(alloc, inputs.problem, inputs.accesses)?;
     best_of_all(alloc, inputs, &table, steps.as_slice())
 }
 

@@ -6,13 +6,13 @@ use Rattle.joindp.specs.Candidates.{IsCandidate}
 use Rattle.joindp.specs.Search.{set_of}
 use Rattle.joindp.specs.View.{problem_of}
 use Rattle.joindp.proofs.Asked.{own_step}
-use Rattle.joindp.proofs.Improved.{each_follows, no_step}
+use Rattle.joindp.proofs.Improved.{each_few, no_step}
 use Rattle.joindp.proofs.Rows.{one_more}
 use Rattle.joindp.proofs.candidates.candidates.Goals as goal
 
 pub candidate_of-requires-clause-allowed : goal.candidate_of-requires-clause-allowed
 candidate_of-requires-clause-allowed g c =
-    each_follows (problem_of c.args.inputs.now.problem.now).setting (set_of c.args.set) c.as_slice-step-items.result.now c.loop-step.step-index (c.as_slice-step-items.ensures ∙ c.in_ok-steps.ensures) c.loop-step-test.true
+    each_few (problem_of c.args.inputs.now.problem.now) (set_of c.args.set) c.as_slice-step-items.result.now c.loop-step.step-index (c.as_slice-step-items.ensures ∙ c.in_ok-steps.ensures) c.loop-step-test.true
 
 pub loop-step-preserved : goal.loop-step-preserved
 loop-step-preserved g c =

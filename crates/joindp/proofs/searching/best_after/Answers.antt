@@ -1,13 +1,15 @@
-use Rattle.std.proofs.Common.{◌+◌, ◌-◌, ◌^◌, ◌≤◌, map, sym, subst, slice_index_or, arith}
+use Rattle.std.proofs.Common.{◌+◌, ◌-◌, ◌^◌, ◌≤◌, List, map, sym, subst, slice_index_or, arith}
 use Rattle.std.proofs.lemmas.Bool.{ne_eqb}
 use Rattle.std.proofs.lemmas.List.{length-map}
 use Rattle.std.proofs.lemmas.Result.{IfOk-weaker}
+use Rattle.expr.specs.declared.code.CodeStep.{CodeStep}
 use Rattle.joindp.specs.Candidates.{picked}
-use Rattle.joindp.specs.Search.{After, entry_count, plan_of, search, set_of}
+use Rattle.joindp.specs.Search.{After, entry_count, plan_of, search}
 use Rattle.joindp.specs.View.{problem_of}
 use Rattle.joindp.specs.Walks.{IsBestFrom, IsOneOf}
 use Rattle.joindp.proofs.Asked.{improved_by, candidate_at, may_come, no_candidate, own_step}
-use Rattle.joindp.proofs.Followed.{all_followed}
+use Rattle.joindp.proofs.Bests.{IsAsGood}
+use Rattle.joindp.proofs.FewSteps.{enough}
 use Rattle.joindp.proofs.Improved.{all_improved, improved_small}
 use Rattle.joindp.proofs.Sized.{few_of, few_sets, smaller}
 use Rattle.joindp.proofs.searching.best_after.Goals as goal
@@ -41,5 +43,5 @@ returns-clause-best g c =
     let steps = map own_step c.args.candidates.now in
     let many = length-map c.args.candidates.now own_step in
     let best = all_improved p (After c.args.set c.args.order) steps c.loop-candidate.candidate-index (picked c.loop-candidate.best) (omega (arith, many, c.loop-candidate-test.false)) (ne_eqb (c.args.set + 1) (2 ^ entry_count p) (λ e. omega (arith, e, c.requires.within)))
-    (λ s may. subst (λ xs. IsOneOf xs s) (sym c.requires.candidates.0) (all_followed p.setting (set_of c.args.set) s may)) c.loop-candidate.invariant.best in
+    (λ s may. subst (λ (xs : List CodeStep). (d : CodeStep) × IsOneOf xs d × IsAsGood (search p) (After c.args.set c.args.order) d s) (sym c.requires.candidates.0) (enough p c.args.set c.args.order s may)) c.loop-candidate.invariant.best in
     IfOk-weaker c.plan.result _ _ (λ b e. subst (IsBestFrom (search p) (After c.args.set c.args.order)) (sym e) best) c.plan.ensures

@@ -1,7 +1,4 @@
-use Rattle.std.proofs.Common.{◌≡◌, ◌∙◌, ◌-◌, arith, ap, sym, subst}
-use mathlib.Core.Path.{fun_ext}
-use Rattle.stats.specs.Card.{Entries}
-use Rattle.joindp.specs.Following.{following}
+use Rattle.std.proofs.Common.{◌≡◌, ◌∙◌, ◌-◌, arith, sym, subst}
 use Rattle.joindp.specs.Search.{IsTable, plan_of}
 use Rattle.joindp.specs.View.{problem_of}
 use Rattle.joindp.proofs.Rows.{best_of_none, table_more}
@@ -22,7 +19,3 @@ best_of_all-requires-clause-table g c =
     let p = problem_of c.args.inputs.now.problem.now in
     let over : c.loop-set.set - 1 ≡ 0 = omega (arith, c.loop-set-test.false) in
     rw c.deref-2.ensures.value (subst (λ set. IsTable p c.args.inputs.now.nexts.now c.args.inputs.now.orders.now set c.loop-set.table.items) over c.loop-set.invariant)
-
-pub best_of_all-requires-clause-steps : goal.best_of_all-requires-clause-steps
-best_of_all-requires-clause-steps g c =
-    c.as_slice.ensures ∙ c.in_ok-steps.ensures ∙ ap (λ (placed : Entries). following (problem_of c.args.inputs.now.problem.now).setting placed) (fun_ext c.none.ensures.members)
