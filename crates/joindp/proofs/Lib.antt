@@ -9,6 +9,7 @@ pub mod Followed
 pub mod Guards
 pub mod Improved
 pub mod Listing
+pub mod LiveOrders
 pub mod NewSteps
 pub mod OneBit
 pub mod Passing

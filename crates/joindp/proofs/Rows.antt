@@ -1,5 +1,5 @@
 -- The rows of the table of best plans.
-use Rattle.std.proofs.Common.{◌≡◌, ◌∙◌, refl, sym, ap, subst, ℕ, zero, suc, ◌+◌, ◌-◌, ◌^◌, ◌<◌, ◌≤◌, ◌⊎◌, inl, inr, Bool, true, false, List, [], ◌∷◌, ◌++◌, length, Option, Some, slice_index_or, length-append, arith, Vec}
+use Rattle.std.proofs.Common.{◌≡◌, ◌∙◌, refl, sym, ap, subst, ℕ, zero, suc, ◌+◌, ◌-◌, ◌^◌, ◌<◌, ◌≤◌, ◌⊎◌, inl, inr, Bool, true, false, List, [], ◌∷◌, ◌++◌, length, Option, Some, None, slice_index_or, length-append, arith, Vec}
 use Rattle.std.specs.List.{slice_get}
 use Rattle.std.proofs.Math.ListN.{get_or-append}
 use Rattle.std.proofs.Math.Seq.{get_or-append_seam}
@@ -13,7 +13,7 @@ use Rattle.joindp.specs.declared.best.Best.{Best}
 use Rattle.joindp.specs.Best.{Problem}
 use Rattle.joins.specs.Orders.{Order}
 use Rattle.joindp.specs.Following.{may_follow}
-use Rattle.joindp.specs.Search.{After, IsRow, IsTable, Start, entry_count, is_reached, last_cost, search, set_of}
+use Rattle.joindp.specs.Search.{After, IsKept, IsRow, IsTable, Start, entry_count, is_order_of, is_reached, last_cost, plan_of, search, set_of}
 use Rattle.joindp.specs.Walks.{IsBestFrom, Plan}
 use Rattle.joindp.proofs.Bests.{best_at_end}
 use Rattle.joindp.proofs.NewSteps.{is_new}
@@ -79,6 +79,20 @@ module _ (p : Problem) where
       zero_power (suc n) h = let q = pow_pos n in absurd (omega (arith, q))
 
 -- ---- the table
+
+-- no plan is none of the plans that are kept
+pub no_plan : {A : Type 0} (o : Option (Best A)) → plan_of o ≡ None → o ≡ None
+no_plan None e = refl
+no_plan (Some b) e = absurd (cc)
+
+module _ (p : Problem) {A : Type 0} (nexts : List ℕ) (orders : List Order) (low set : ℕ) (rows : List (Vec (Option (Best A)) A)) (table : IsTable p nexts orders low rows) (above : low < set) (within : set < 2 ^ entry_count p) (reached : is_reached (entry_count p) nexts set ≡ true) where
+  -- the row of a set above
+  pub row_is : (k : ℕ) (row : Vec (Option (Best A)) A) → k ≡ 2 ^ entry_count p - 1 - set → row ≡ slice_index_or rows k row → IsRow p orders set row.items
+  row_is k row place is = subst (λ v. IsRow p orders set v.items) (sym (is ∙ ap (λ i. slice_index_or rows i row) place)) (table.1 set row above within reached)
+
+  -- what is kept there for an order
+  pub kept_at : (row : List (Option (Best A))) → IsRow p orders set row → (i : ℕ) (order : Order) (x : Option (Best A)) → slice_get orders i ≡ Some order → is_order_of set order ≡ true → x ≡ slice_index_or row i x → IsKept p set order (plan_of x)
+  kept_at row are i order x listed fits is = subst (λ y. IsKept p set order (plan_of y)) (sym is) (are.1 i order x listed fits)
 
 module _ (p : Problem) {A : Type 0} (nexts : List ℕ) (orders : List Order) where
   -- the rows of all sets above the next smaller one

@@ -1,19 +1,18 @@
 -- The search over sets of placed entries and orders.
-use Rattle.std.specs.Prelude.{◌≡◌, ℕ, ◌+◌, ◌-◌, ◌*◌, ◌^◌, ◌<◌, ◌≤◌, ◌==◌, ◌&&◌, ◌||◌, nat_lt, Bool, true, false, List, length, map, Option, Some, None, slice_get, slice_index_or}
+use Rattle.std.specs.Prelude.{◌≡◌, ℕ, ◌+◌, ◌-◌, ◌*◌, ◌^◌, ◌<◌, ◌≤◌, ◌==◌, ◌&&◌, ◌||◌, not, nat_lt, Bool, true, false, List, length, map, Option, Some, None, slice_get, slice_index_or, if◌then◌else◌}
 use Rattle.std.specs.Int.{bit_at}
 use Rattle.std.specs.List.{list_any, range_with_len}
 use Rattle.std.specs.declared.vec.Vec.{Vec}
 use Rattle.expr.specs.declared.bound.ColumnId.{ColumnId}
 use Rattle.expr.specs.declared.code.CodeStep.{CodeStep}
 use Rattle.expr.specs.declared.code.Access.{Access}
-use Rattle.expr.specs.declared.code.Access.TheVariants.{Index}
+use Rattle.predicates.specs.Equalities.{column_sides}
 use Rattle.stats.specs.Card.{Entries}
-use Rattle.trailcheck.specs.Admissible.{is_allowed_access}
 use Rattle.trailcheck.specs.Shapes.{entry_index}
 use Rattle.joindp.specs.declared.best.Best.{Best}
 use Rattle.joindp.specs.Best.{Problem, estimates}
 use Rattle.joindp.specs.Cost.{access_cost, last_sorting, size, step_cost}
-use Rattle.joins.specs.Orders.{Order, order_after, order_of, sides}
+use Rattle.joins.specs.Orders.{Order, is_ordered_by, order_after, order_of, sides}
 use Rattle.joindp.specs.Following.{accesses, may_be_next, may_follow}
 use Rattle.joindp.specs.Walks.{Walk, Plan, IsBestFrom}
 
@@ -50,6 +49,16 @@ IsSmall n (Some q) = q.0 ≤ n * 2 ^ 81
 
 -- ---- orders
 
+-- the rows are wanted in that order
+abbrev pub is_wanted : (wanted : Option ColumnId) → Order → Bool
+is_wanted None order = false
+is_wanted (Some id) order = is_ordered_by order id
+
+-- the order is that of the one of two equated columns, and the other one is of an entry that has no place yet
+abbrev pub asks_for : Entries → Order → Option (ColumnId × ColumnId) → Bool
+asks_for placed order None = false
+asks_for placed order (Some (a, b)) = (is_ordered_by order a && not (placed b.entry)) || (is_ordered_by order b && not (placed a.entry))
+
 -- one of a list of orders
 abbrev pub IsListed : List Order → Order → Type 0
 IsListed orders order = (i : ℕ) × (slice_get orders i ≡ Some order)
@@ -62,10 +71,6 @@ AreKept old new = (order : Order) → IsListed old order → IsListed new order
 abbrev pub HasSides : List Order → Option (ColumnId × ColumnId) → Type 0
 HasSides orders None = Unit {0}
 HasSides orders (Some (a, b)) = IsListed orders (Some a) × IsListed orders (Some b)
-
--- the order of each index of an entry
-abbrev pub HasIndexes : List Order → (entry : ℕ) → List ℕ → Type 0
-HasIndexes orders entry columns = (column : ℕ) → list_any (λ c. c == column) columns ≡ true → IsListed orders (order_of entry (Index column))
 
 module _ (p : Problem) where
   abbrev pub entry_count : ℕ
@@ -96,19 +101,31 @@ module _ (p : Problem) where
 
   -- ---- the table of the best plans from each state
 
-  -- all orders that combinations may come in
+  -- after the placed entries a merge may ask for combinations in that order, or they are wanted in it in the end; or it is none
+  abbrev pub is_live : Entries → Order → Bool
+  is_live placed None = true
+  is_live placed (Some id) = is_wanted p.wanted (Some id) || list_any (λ e. asks_for placed (Some id) (column_sides e)) p.setting.conditions
+
+  -- an order that nobody asks for is as good as none
+  abbrev pub live_order : Entries → Order → Order
+  live_order placed order = if is_live placed order then order else None
+
+  -- all orders that are live after some set, and those that a merge asks for
   pub record HasOrders (orders : List Order) : Type 0 where
-    pub of_access : (entry : ℕ) (access : Access) → is_allowed_access p.setting entry access ≡ true → IsListed orders (order_of entry access)
+    pub of_live : (placed : Entries) (order : Order) → is_live placed order ≡ true → IsListed orders order
     pub of_merge : (entry number : ℕ) (placed own : ColumnId) → sides p.setting.conditions entry number ≡ Some (placed, own) → IsListed orders (Some placed)
 
   -- the entries that may be next after each set that some code places
   abbrev pub AreNexts : List ℕ → Type 0
   AreNexts nexts = (length nexts ≡ 2 ^ entry_count) × ((set : ℕ) → set < 2 ^ entry_count → is_reached entry_count nexts set ≡ true → (i : ℕ) → set_of (slice_index_or nexts set 0) i ≡ nat_lt i entry_count && may_be_next p.setting (set_of set) i)
 
-  -- the best plans where the set is placed, for each order that its combinations can come in
+  -- the best plan where the set is placed and its combinations come in that order, if that is live; else none is kept
+  abbrev pub IsKept : (set : ℕ) → Order → Option Plan → Type 0
+  IsKept set order plan = (is_live (set_of set) order ≡ true → IsBestFrom search (After set order) plan × IsSmall (2 ^ entry_count - set) plan) × (is_live (set_of set) order ≡ false → plan ≡ None)
+
+  -- the plans that are kept of the set, for each order that its combinations can come in
   abbrev pub IsRow : {A : Type 0} → List Order → (set : ℕ) → List (Option (Best A)) → Type 0
-  IsRow {A} orders set row = (length row ≡ length orders) × ((i : ℕ) (order : Order) (d : Option (Best A)) → slice_get orders i ≡ Some order → is_order_of set order ≡ true
-      → IsBestFrom search (After set order) (plan_of (slice_index_or row i d)) × IsSmall (2 ^ entry_count - set) (plan_of (slice_index_or row i d)))
+  IsRow {A} orders set row = (length row ≡ length orders) × ((i : ℕ) (order : Order) (d : Option (Best A)) → slice_get orders i ≡ Some order → is_order_of set order ≡ true → IsKept set order (plan_of (slice_index_or row i d)))
 
   -- the rows of all sets above this one that some code places, that of all entries first
   abbrev pub IsTable : {A : Type 0} → (nexts : List ℕ) → List Order → (set : ℕ) → List (Vec (Option (Best A)) A) → Type 0

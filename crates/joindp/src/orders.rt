@@ -1,16 +1,20 @@
 //! The orders that combinations may come in.
 
-ghost use Rattle.std.specs.Prelude.{◌≡◌, ℕ, IfOk, List, OnOk, Some, slice_get};
+ghost use Rattle.std.specs.Prelude.{◌≡◌, ℕ, IfOk, OnOk, Some, slice_get};
+ghost use Rattle.std.specs.List.{list_any};
 ghost use Rattle.expr.specs.Bound.{BoundExpr};
 ghost use Rattle.predicates.specs.Equalities as equalities;
-ghost use Rattle.joindp.specs.Search.{AreKept, HasIndexes, HasOrders, HasSides, IsListed};
+ghost use Rattle.stats.specs.View.{members};
+ghost use Rattle.joindp.specs.Search as spec;
+ghost use Rattle.joindp.specs.Search.{AreKept, HasOrders, HasSides, IsListed};
 ghost use Rattle.joindp.specs.View.{problem_of};
 
 use crate::problem::Problem;
-use expr::{Access, ColumnId, MovableExpr};
-use joins::order_of;
+use expr::{ColumnId, MovableExpr};
+use joins::is_ordered_by;
 use memory::{Heap, Items};
 use predicates::column_sides;
+use stats::EntrySet;
 use std::alloc::AllocError;
 
 /// The index of a listed order.
@@ -66,36 +70,7 @@ fn push_all_sides<A: Heap>(
     Ok(())
 }
 
-// Adds the orders of the indexes of an entry, on these columns.
-fn push_indexes<A: Heap>(
-    orders: &mut Items<Option<ColumnId>, A>,
-    entry: usize,
-    columns: &[u64],
-) -> Result<(), AllocError>
-    ensures kept { OnOk result (AreKept orders.old orders.new) }
-    ensures there { OnOk result (HasIndexes orders.new entry columns.now) }
-{
-    for column in columns {
-        push_order(orders, order_of(entry, Access::Index { column: *column }))?;
-    }
-    Ok(())
-}
-
-// Adds the orders of the indexes of all entries.
-fn push_all_indexes<A: Heap>(
-    orders: &mut Items<Option<ColumnId>, A>,
-    indexed: &[Items<u64, A>],
-) -> Result<(), AllocError>
-    ensures kept { OnOk result (AreKept orders.old orders.new) }
-    ensures there { OnOk result ((entry : ℕ) (columns : List ℕ) → slice_get indexed.now entry ≡ Some columns → HasIndexes orders.new entry columns) }
-{
-    for (entry, columns) in indexed.iter().enumerate() {
-        push_indexes(orders, entry, columns.as_slice())?;
-    }
-    Ok(())
-}
-
-/// All orders that combinations may come in, and none.
+/// All orders that a merge may ask for, or that are wanted, and none.
 pub(crate) fn orders<A: Heap>(
     alloc: A,
     problem: &Problem<'_, A>,
@@ -104,7 +79,58 @@ pub(crate) fn orders<A: Heap>(
 {
     let mut orders = Items::new(alloc);
     push_order(&mut orders, None)?;
+    push_order(&mut orders, problem.wanted)?;
     push_all_sides(&mut orders, problem.setting.conditions.as_slice())?;
-    push_all_indexes(&mut orders, problem.setting.indexed.as_slice())?;
     Ok(orders)
+}
+
+// ---- which of them somebody will ask for
+
+// True where the rows are wanted in that order.
+fn is_wanted<A: Heap>(problem: &Problem<'_, A>, order: Option<ColumnId>) -> bool
+    ensures { result ≡ spec.is_wanted (problem_of problem.now).wanted order }
+{
+    match problem.wanted {
+        Some(id) => is_ordered_by(order, id),
+        None => false,
+    }
+}
+
+// True where the condition equates the column of the order with one of an entry that has no place yet.
+fn asks_for<A: Heap>(condition: &MovableExpr<A>, placed: EntrySet, order: Option<ColumnId>) -> bool
+    ensures { result ≡ spec.asks_for (members placed) order (equalities.column_sides condition.now) }
+{
+    match column_sides(condition) {
+        Some((a, b)) => {
+            (is_ordered_by(order, a) && !placed.contains(b.entry))
+                || (is_ordered_by(order, b) && !placed.contains(a.entry))
+        }
+        None => false,
+    }
+}
+
+// True where one of the conditions does so.
+fn some_asks_for<A: Heap>(
+    conditions: &[MovableExpr<A>],
+    placed: EntrySet,
+    order: Option<ColumnId>,
+) -> bool
+    ensures { result ≡ list_any (λ e. spec.asks_for (members placed) order (equalities.column_sides e)) conditions.now }
+{
+    conditions
+        .iter()
+        .any(|condition| asks_for(condition, placed, order))
+}
+
+/// True where a merge may ask for the combinations of the placed entries in that order, or they are wanted in it in the end; or it
+/// is none.
+pub(crate) fn is_live<A: Heap>(
+    problem: &Problem<'_, A>,
+    placed: EntrySet,
+    order: Option<ColumnId>,
+) -> bool
+    ensures { result ≡ spec.is_live (problem_of problem.now) (members placed) order }
+{
+    let conditions = problem.setting.conditions.as_slice();
+    order.is_none() || is_wanted(problem, order) || some_asks_for(conditions, placed, order)
 }

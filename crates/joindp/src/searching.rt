@@ -9,7 +9,7 @@ ghost use Rattle.joins.specs.Orders.{Order};
 ghost use Rattle.joindp.specs.Following as following;
 ghost use Rattle.joindp.specs.Following.{may_follow};
 ghost use Rattle.joindp.specs.Search as spec;
-ghost use Rattle.joindp.specs.Search.{After, AreAccesses, AreSizes, HasOrders, IsRow, IsSmall, IsTable, Start, entry_count, is_order_of, is_reached, plan_of, set_of};
+ghost use Rattle.joindp.specs.Search.{After, AreAccesses, AreSizes, HasOrders, IsKept, IsRow, IsSmall, IsTable, Start, entry_count, is_order_of, is_reached, live_order, plan_of, set_of};
 ghost use Rattle.joindp.specs.Candidates.{AreCandidates, IsCandidate, picked};
 ghost use Rattle.joindp.specs.View.{problem_of};
 ghost use Rattle.joindp.specs.Walks as walks;
@@ -20,7 +20,7 @@ use crate::candidates::{Candidate, candidates, cost_with, index_after};
 use crate::costing::{access_cost, last_sorting, size};
 use crate::following::{accesses, first_steps};
 use crate::inputs::Inputs;
-use crate::orders::{order_index, orders};
+use crate::orders::{is_live, order_index, orders};
 use crate::problem::Problem;
 use crate::reaching::{bit_of, is_order_of, is_reached, nexts};
 use expr::{Access, Code, CodeStep, ColumnId};
@@ -110,7 +110,7 @@ fn plan<A: Heap>(alloc: A, pick: Option<Pick<'_>>) -> Result<Option<Best<A>>, Al
 
 // ---- the table
 
-// The best plan from a set on, in the table, for the order of that index.
+// The best plan from a set on, in the table, for the order of that index: where none is kept of it, that for no order.
 fn best_in<'t, A: Heap>(
     inputs: &Inputs<'_, '_, A>,
     table: &'t [Vec<Option<Best<A>>, A>],
@@ -128,7 +128,10 @@ fn best_in<'t, A: Heap>(
 {
     let count = inputs.sizes.len();
     let row = &table[count - 1 - set];
-    &row[index]
+    match &row[index] {
+        None => &row[inputs.none],
+        best => best,
+    }
 }
 
 // ---- one step
@@ -156,6 +159,18 @@ fn rest_after<'t, A: Heap>(
     best_in(inputs, table, set, set + candidate.bit, next)
 }
 
+// The index of an order, or that of none where nobody will ask for it after the set.
+fn live_index<A: Heap>(inputs: &Inputs<'_, '_, A>, set: usize, order: Option<ColumnId>) -> usize
+    requires { HasOrders (problem_of inputs.now.problem.now) inputs.now.orders.now }
+    ensures { slice_get inputs.now.orders.now result ≡ Some (live_order (problem_of inputs.now.problem.now) (set_of set) order) }
+{
+    if is_live(inputs.problem, EntrySet { bits: set as u64 }, order) {
+        order_index(inputs.orders, order)
+    } else {
+        inputs.none
+    }
+}
+
 // The best rest after the first step.
 fn rest_after_first<'t, A: Heap>(
     inputs: &Inputs<'_, '_, A>,
@@ -169,8 +184,9 @@ fn rest_after_first<'t, A: Heap>(
     ensures small { IsSmall (2 ^ 12) (plan_of result.now) }
 {
     let entry = entry_index(step);
-    let index = order_index(inputs.orders, order_of(entry, step.access));
-    best_in(inputs, table, 0, bit_of(entry), index)
+    let set = bit_of(entry);
+    let index = live_index(inputs, set, order_of(entry, step.access));
+    best_in(inputs, table, 0, set, index)
 }
 
 // ---- the best of all steps
@@ -236,8 +252,8 @@ fn at_end<A: Heap>(alloc: A, problem: &Problem<'_, A>, order: Option<ColumnId>) 
     })
 }
 
-// The best plan from a set on, of which the steps are those that may follow, for an order that its combinations can come in. None
-// follow where it is the set of all entries.
+// The best plan from a set on, of which these steps can be in a least code, for an order that its combinations can come in and that
+// somebody may ask for. None follow where it is the set of all entries.
 fn best_from<A: Heap>(
     alloc: A,
     inputs: &Inputs<'_, '_, A>,
@@ -252,10 +268,13 @@ fn best_from<A: Heap>(
     requires reached { is_reached (entry_count (problem_of inputs.now.problem.now)) inputs.now.nexts.now set ≡ true }
     requires order { slice_get inputs.now.orders.now index ≡ Some order }
     requires candidates { AreCandidates (problem_of inputs.now.problem.now) inputs.now.orders.now set candidates.now }
-    ensures best { IfOk result (λ b. is_order_of set order ≡ true → IsBestFrom (spec.search (problem_of inputs.now.problem.now)) (After set order) (plan_of b)) }
-    ensures small { IfOk result (λ b. is_order_of set order ≡ true → IsSmall (2 ^ entry_count (problem_of inputs.now.problem.now) - set) (plan_of b)) }
+    ensures { IfOk result (λ b. is_order_of set order ≡ true → IsKept (problem_of inputs.now.problem.now) set order (plan_of b)) }
 {
-    if !is_order_of(EntrySet { bits: set as u64 }, order) {
+    let placed = EntrySet { bits: set as u64 };
+    if !is_order_of(placed, order) {
+        return Ok(None);
+    }
+    if !is_live(inputs.problem, placed, order) {
         return Ok(None);
     }
     if set + 1 == inputs.sizes.len() {
@@ -264,7 +283,8 @@ fn best_from<A: Heap>(
     best_after(alloc, inputs, table, set, index, order, candidates)
 }
 
-// The best plans from a set on, for each order that its combinations can come in; none where no code places the set.
+// The best plans from a set on, for each order that its combinations can come in and that somebody may ask for; none where no code
+// places the set.
 fn row_of<A: Heap>(
     alloc: A,
     inputs: &Inputs<'_, '_, A>,
@@ -349,12 +369,15 @@ fn best_steps<A: Heap>(alloc: A, problem: &Problem<'_, A>) -> Result<Option<Best
 {
     let sizes = sizes(alloc, problem)?;
     let orders = orders(alloc, problem)?;
+    let listed = orders.as_slice();
+    let none = order_index(listed, None);
     let accesses = all_accesses(alloc, problem)?;
     let nexts = nexts(alloc, problem)?;
     let inputs = Inputs {
         problem,
         sizes: sizes.as_slice(),
-        orders: orders.as_slice(),
+        orders: listed,
+        none,
         accesses: accesses.as_slice(),
         nexts: nexts.as_slice(),
     };
@@ -362,9 +385,9 @@ fn best_steps<A: Heap>(alloc: A, problem: &Problem<'_, A>) -> Result<Option<Best
 }
 
 /// The code that a plan may have and that is least by its cost and then by its numbers, and its cost (Selinger et al. 1979,
-/// section 5). It keeps the best rest of a code from each set of placed entries and each order that their combinations may come
-/// in: of n entries and k orders (one more than the columns that are equated or have an index), at most 2^n times k plans of up to n
-/// steps at once. It fails where memory runs out.
+/// section 5). It keeps the best rest of a code from each set of placed entries and each order that their combinations may come in
+/// and that somebody may ask for: of n entries and k orders (one more than the columns that are equated or wanted), at most 2^n
+/// times k plans of up to n steps at once. It fails where memory runs out.
 pub fn search<A: Heap>(alloc: A, problem: &Problem<'_, A>) -> Result<(Code<A>, u128), AllocError>
     ensures admissible { IfOk result (λ best. is_admissible (problem_of problem.now).setting (code_of best.0) ≡ true) }
     ensures cost { IfOk result (λ best. best.1 ≡ cost_spec.cost (estimates (problem_of problem.now)) (code_of best.0)) }
