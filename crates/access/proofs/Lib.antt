@@ -1,4 +1,5 @@
 pub mod Chosen
+pub mod ColumnsOnce
 pub mod Decided
 pub mod Frames
 pub mod Mentioned

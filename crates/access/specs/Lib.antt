@@ -1,4 +1,5 @@
 pub mod Access
+pub mod EachOnce
 pub mod Guards
 pub mod Laws
 pub mod NamedLaws

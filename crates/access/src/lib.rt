@@ -6,6 +6,7 @@ mod guards;
 mod laws;
 mod mentions;
 mod needed_laws;
+mod once;
 mod privileges;
 mod requirements;
 
@@ -13,4 +14,4 @@ pub use guards::{frame, guard};
 pub use laws::law_guard;
 pub use needed_laws::law_named_are_needed;
 pub use privileges::{RequiredPrivilege, denied, is_granted};
-pub use requirements::needed;
+pub use requirements::{missing, needed};

@@ -3,10 +3,11 @@
 ghost use Rattle.std.specs.Prelude.{◌≡◌, ◌&&◌, option_map};
 ghost use Rattle.std.specs.List.{list_any};
 ghost use Rattle.row_objects.specs.View.{grant_of, grants_of};
+ghost use Rattle.catalog.specs.Reached.{AreMarksOf};
 ghost use Rattle.access.specs.Access.{includes_role, covers, granted, denial};
 ghost use Rattle.access.specs.View.{privilege_of, privileges_of};
 
-use catalog::Catalog;
+use catalog::{Catalog, RoleMarks};
 use memory::{Heap, Text};
 use row_objects::{Grant, Table};
 
@@ -20,22 +21,25 @@ pub struct RequiredPrivilege<'s, A: Heap> {
 }
 
 // True where the name is the role's, that of a role that it belongs to, or `public`.
-fn includes_role<A: Heap>(catalog: &Catalog<A>, role: &str, name: &str) -> bool
+fn includes_role<A: Heap>(catalog: &Catalog<A>, marks: &RoleMarks, role: &str, name: &str) -> bool
+    requires { AreMarksOf catalog.now role.now marks.now }
     ensures { result ≡ includes_role catalog.now role.now name.now }
 {
-    name == "public" || catalog.is_member(role, name)
+    name == "public" || catalog.reaches(marks, role, name)
 }
 
 // True where one of the names is the role's, that of a role that it belongs to, or `public`.
 pub(crate) fn any_includes_role<A: Heap>(
     catalog: &Catalog<A>,
+    marks: &RoleMarks,
     role: &str,
     names: &[Text<A>],
 ) -> bool
+    requires { AreMarksOf catalog.now role.now marks.now }
     ensures { result ≡ list_any (includes_role catalog.now role.now) names.now }
 {
     for name in names {
-        if includes_role(catalog, role, name.as_str()) {
+        if includes_role(catalog, marks, role, name.as_str()) {
             return true;
         }
     }
@@ -53,31 +57,56 @@ fn covers<A: Heap>(held: &Option<Text<A>>, required: Option<&Text<A>>) -> bool
     }
 }
 
+// The column is compared first, since the role has to be looked up.
 fn grants_to<A: Heap>(
     catalog: &Catalog<A>,
+    marks: &RoleMarks,
     role: &str,
     grant: &Grant<A>,
     required: Option<&Text<A>>,
 ) -> bool
+    requires { AreMarksOf catalog.now role.now marks.now }
     ensures { result ≡ (includes_role catalog.now role.now (grant_of grant.now).to && covers (grant_of grant.now).column (option_map (λ c. c.now) required.entry)) }
 {
-    includes_role(catalog, role, grant.to.as_str()) && covers(&grant.column, required)
+    covers(&grant.column, required) && includes_role(catalog, marks, role, grant.to.as_str())
 }
 
 fn any_grants_to<A: Heap>(
     catalog: &Catalog<A>,
+    marks: &RoleMarks,
     role: &str,
     grants: &[Grant<A>],
     required: Option<&Text<A>>,
 ) -> bool
+    requires { AreMarksOf catalog.now role.now marks.now }
     ensures { result ≡ list_any (λ g. includes_role catalog.now role.now g.to && covers g.column (option_map (λ c. c.now) required.entry)) (grants_of grants.now) }
 {
     for grant in grants {
-        if grants_to(catalog, role, grant, required) {
+        if grants_to(catalog, marks, role, grant, required) {
             return true;
         }
     }
     false
+}
+
+fn is_granted_by<A: Heap>(
+    catalog: &Catalog<A>,
+    marks: &RoleMarks,
+    role: &str,
+    privilege: RequiredPrivilege<'_, A>,
+) -> bool
+    requires { AreMarksOf catalog.now role.now marks.now }
+    ensures { result ≡ granted catalog.now role.now (privilege_of privilege.entry) }
+{
+    catalog.is_superuser(role)
+        || catalog.reaches(marks, role, privilege.table.owner())
+        || any_grants_to(
+            catalog,
+            marks,
+            role,
+            privilege.table.grants(),
+            privilege.column,
+        )
 }
 
 /// True where the role has a privilege: SELECT on a column of a table, or on any part of it.
@@ -88,12 +117,11 @@ pub fn is_granted<A: Heap>(
 ) -> bool
     ensures { result ≡ granted catalog.now role.now (privilege_of privilege.entry) }
 {
-    catalog.is_superuser(role)
-        || catalog.is_member(role, privilege.table.owner())
-        || any_grants_to(catalog, role, privilege.table.grants(), privilege.column)
+    let marks = catalog.reached(role);
+    is_granted_by(catalog, &marks, role, privilege)
 }
 
-/// The first of these privileges that the role lacks.
+/// The first of these privileges that the role lacks. The roles that it belongs to are found once.
 pub fn denied<'s, A: Heap>(
     catalog: &Catalog<A>,
     role: &str,
@@ -101,8 +129,9 @@ pub fn denied<'s, A: Heap>(
 ) -> Option<RequiredPrivilege<'s, A>>
     ensures { option_map (λ p. privilege_of p) result ≡ denial catalog.now role.now (privileges_of needed.now) }
 {
+    let marks = catalog.reached(role);
     for privilege in needed {
-        if !is_granted(catalog, role, *privilege) {
+        if !is_granted_by(catalog, &marks, role, *privilege) {
             return Some(*privilege);
         }
     }

@@ -2,13 +2,16 @@
 
 ghost use Rattle.std.specs.Prelude.{◌≡◌, ◌++◌, OnOk, IfOk, option_map, option_to_list, slice_get};
 ghost use Rattle.std.specs.List.{list_any};
+ghost use Rattle.access.specs.Access.{denial};
 ghost use Rattle.access.specs.View.{privilege_of, privileges_of};
 ghost use Rattle.expr.specs.View.{bound_query_of};
 ghost use Rattle.scope.specs.View.{entry_of, entries_of};
 ghost use Rattle.access.specs.Needed as spec;
 
 use crate::mentions::{Mention, mentions};
-use crate::privileges::RequiredPrivilege;
+use crate::once::each_once;
+use crate::privileges::{RequiredPrivilege, denied};
+use catalog::Catalog;
 use expr::BoundQuery;
 use memory::{Heap, Items};
 use scope::Entry;
@@ -119,4 +122,20 @@ pub fn needed<'s, A: Heap>(
 {
     let mentions = mentions(alloc, query)?;
     required(alloc, entries, mentions.as_slice())
+}
+
+/// The first privilege that a query needs and the role lacks. A column is looked up once, however often it is named.
+pub fn missing<'s, A: Heap>(
+    alloc: A,
+    catalog: &Catalog<A>,
+    role: &str,
+    entries: &[Entry<'s, A>],
+    query: &BoundQuery<A>,
+) -> Result<Option<RequiredPrivilege<'s, A>>, AllocError>
+    ensures { IfOk result (λ missing. option_map (λ p. privilege_of p) missing ≡ denial catalog.now role.now (spec.needed (entries_of entries.now) (bound_query_of query.now))) }
+{
+    let mentions = mentions(alloc, query)?;
+    let once = each_once(alloc, mentions.as_slice())?;
+    let required = required(alloc, entries, once.as_slice())?;
+    Ok(denied(catalog, role, required.as_slice()))
 }

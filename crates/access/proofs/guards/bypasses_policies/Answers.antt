@@ -46,8 +46,8 @@ returns-then-bypasses_rls g c =
     c.if-bypasses_rls.true ∙ one_of (not c.args.table.parts.now.row_security) (is_superuser c.args.catalog.now c.args.role.now) (bypasses_rls c.args.catalog.now c.args.role.now) (belongs c.args.catalog.now c.args.role.now c.args.table.parts.now.owner && not c.args.table.parts.now.forced)
     (sym (two ∙ ap (λ v. v || bypasses_rls c.args.catalog.now c.args.role.now) one) ∙ c.if-bypasses_rls.true)
 
-pub returns-then-is_member : goal.returns-then-is_member
-returns-then-is_member g c =
+pub returns-then-reaches : goal.returns-then-reaches
+returns-then-reaches g c =
     let one : c.if-not-row_security.value ≡ (not c.args.table.parts.now.row_security || is_superuser c.args.catalog.now c.args.role.now) = elim c.if-not-row_security.branch [
       | then-not-row_security w ↦ by_first _ _ _ (w.value-is ∙ ap not c.row_security.ensures) (ap not (sym w.if-not-row_security.ensures))
       | else-not-row_security w ↦ by_second _ _ _ (w.value-is ∙ w.is_superuser.ensures) (ap not (sym w.if-not-row_security.ensures))
@@ -56,12 +56,12 @@ returns-then-is_member g c =
       | then-is_superuser w ↦ by_first _ _ _ w.value-is w.if-is_superuser.true
       | else-is_superuser w ↦ by_second _ _ _ (w.value-is ∙ w.bypasses_rls.ensures) w.if-is_superuser.false
     ] in
-    for_member c.args.catalog.now c.args.role.now c.owner.result.now c.args.table.parts.now.owner c.owner.ensures c.args.table.parts.now.forced c.forced.result c.forced.ensures c.if-is_member.ensures
+    for_member c.args.catalog.now c.args.role.now c.owner.result.now c.args.table.parts.now.owner c.owner.ensures c.args.table.parts.now.forced c.forced.result c.forced.ensures c.if-reaches.ensures
     ∙ none_of (not c.args.table.parts.now.row_security) (is_superuser c.args.catalog.now c.args.role.now) (bypasses_rls c.args.catalog.now c.args.role.now) (belongs c.args.catalog.now c.args.role.now c.args.table.parts.now.owner && not c.args.table.parts.now.forced)
     (sym (two ∙ ap (λ v. v || bypasses_rls c.args.catalog.now c.args.role.now) one) ∙ c.if-bypasses_rls.false)
 
-pub returns-else-is_member : goal.returns-else-is_member
-returns-else-is_member g c =
+pub returns-else-reaches : goal.returns-else-reaches
+returns-else-reaches g c =
     let one : c.if-not-row_security.value ≡ (not c.args.table.parts.now.row_security || is_superuser c.args.catalog.now c.args.role.now) = elim c.if-not-row_security.branch [
       | then-not-row_security w ↦ by_first _ _ _ (w.value-is ∙ ap not c.row_security.ensures) (ap not (sym w.if-not-row_security.ensures))
       | else-not-row_security w ↦ by_second _ _ _ (w.value-is ∙ w.is_superuser.ensures) (ap not (sym w.if-not-row_security.ensures))
@@ -70,6 +70,6 @@ returns-else-is_member g c =
       | then-is_superuser w ↦ by_first _ _ _ w.value-is w.if-is_superuser.true
       | else-is_superuser w ↦ by_second _ _ _ (w.value-is ∙ w.bypasses_rls.ensures) w.if-is_superuser.false
     ] in
-    for_others c.args.catalog.now c.args.role.now c.owner.result.now c.args.table.parts.now.owner c.owner.ensures c.args.table.parts.now.forced c.is_member.result c.if-is_member.false c.if-is_member.ensures
+    for_others c.args.catalog.now c.args.role.now c.owner.result.now c.args.table.parts.now.owner c.owner.ensures c.args.table.parts.now.forced c.reaches.result c.if-reaches.false c.if-reaches.ensures
     ∙ none_of (not c.args.table.parts.now.row_security) (is_superuser c.args.catalog.now c.args.role.now) (bypasses_rls c.args.catalog.now c.args.role.now) (belongs c.args.catalog.now c.args.role.now c.args.table.parts.now.owner && not c.args.table.parts.now.forced)
     (sym (two ∙ ap (λ v. v || bypasses_rls c.args.catalog.now c.args.role.now) one) ∙ c.if-bypasses_rls.false)

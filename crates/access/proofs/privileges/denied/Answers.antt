@@ -7,11 +7,11 @@ use Rattle.access.proofs.privileges.denied.Goals as goal
 
 pub loop-privilege-preserved : goal.loop-privilege-preserved
 loop-privilege-preserved g c =
-    passed c.args.catalog.now c.args.role.now (λ p. privilege_of p) c.args.needed.now c.loop-privilege.privilege-index c.privilege-item.result c.loop-privilege-test.true c.privilege-item.is (denial c.args.catalog.now c.args.role.now (map (λ p. privilege_of p) c.args.needed.now)) c.loop-privilege.invariant (sym c.if-not-is_granted.ensures)
+    passed c.args.catalog.now c.args.role.now (λ p. privilege_of p) c.args.needed.now c.loop-privilege.privilege-index c.privilege-item.result c.loop-privilege-test.true c.privilege-item.is (denial c.args.catalog.now c.args.role.now (map (λ p. privilege_of p) c.args.needed.now)) c.loop-privilege.invariant (sym c.if-not-is_granted_by.ensures)
 
-pub returns-then-not-is_granted : goal.returns-then-not-is_granted
-returns-then-not-is_granted g c =
-    missing c.args.catalog.now c.args.role.now (λ p. privilege_of p) c.args.needed.now c.loop-privilege.privilege-index c.privilege-item.result c.loop-privilege-test.true c.privilege-item.is (denial c.args.catalog.now c.args.role.now (map (λ p. privilege_of p) c.args.needed.now)) c.loop-privilege.invariant (sym c.if-not-is_granted.ensures)
+pub returns-then-not-is_granted_by : goal.returns-then-not-is_granted_by
+returns-then-not-is_granted_by g c =
+    missing c.args.catalog.now c.args.role.now (λ p. privilege_of p) c.args.needed.now c.loop-privilege.privilege-index c.privilege-item.result c.loop-privilege-test.true c.privilege-item.is (denial c.args.catalog.now c.args.role.now (map (λ p. privilege_of p) c.args.needed.now)) c.loop-privilege.invariant (sym c.if-not-is_granted_by.ensures)
 
 pub returns : goal.returns
 returns g c =

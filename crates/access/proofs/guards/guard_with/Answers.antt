@@ -1,7 +1,7 @@
 use Rattle.std.proofs.Common.{map, refl}
 use Rattle.row_objects.specs.View.{policy_of, table_of}
 use Rattle.access.proofs.Chosen.{by_policies, shown_of}
-use Rattle.access.proofs.guards.guard.Goals as goal
+use Rattle.access.proofs.guards.guard_with.Goals as goal
 
 pub returns-else-bypasses_policies-clause-value : goal.returns-else-bypasses_policies-clause-value
 returns-else-bypasses_policies-clause-value g c =
