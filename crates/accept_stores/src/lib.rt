@@ -1,6 +1,6 @@
-//! Tests of stores that go through the whole program: opened from a schema text and files, loaded, asked with writers that
-//! fail, with memory that is refused, and what is said of refused texts; calls that take no memory, and queries over products that
-//! take little; and rows in aligned columns. docs/ACCEPTANCE.md lists them.
+//! Tests of stores that go through the whole program: opened from a schema text and files, loaded, asked with memory that is
+//! refused, and what is said of refused texts; calls that take no memory, and queries over products that take little; and rows in
+//! aligned columns. docs/ACCEPTANCE.md lists them.
 #![tactic(auto)]
 
 #[cfg(test)]
@@ -19,5 +19,3 @@ mod opening;
 mod product_requests;
 #[cfg(test)]
 mod stores;
-#[cfg(test)]
-mod writers;

@@ -9,7 +9,7 @@ use executor::{run, run_into};
 use expr::{BoundQuery, Code, ColumnId};
 use indexes::{IndexRows, indexes_of};
 use marked_runs::run_marked;
-use memory::Items;
+use memory::{Heap, Items};
 use row_marks::Marks;
 use std::alloc::{AllocError, Global};
 use tables::Table;
@@ -17,11 +17,11 @@ use trailcheck::{Setting, is_admissible};
 use tuples::{Combo, Guard, GuardedTable, Sink, Work, World};
 
 /// Each table with its guard.
-pub fn tables_of<'w>(
-    alloc: Global,
-    rows: &'w [&'w Table<Global>],
-    frame: &'w [Guard<Global>],
-) -> Result<Vec<GuardedTable<'w, Global>, Global>, AllocError>
+pub fn tables_of<'w, A: Heap>(
+    alloc: A,
+    rows: &'w [&'w Table<A>],
+    frame: &'w [Guard<A>],
+) -> Result<Vec<GuardedTable<'w, A>, A>, AllocError>
     ensures { IfOk result (λ tables. map (λ t. guard_of t.guard.now) tables.items ≡ map guard_of frame.now) }
 {
     let mut tables = Vec::new(alloc);
@@ -35,11 +35,11 @@ pub fn tables_of<'w>(
 }
 
 // Of each table its indexes on these columns.
-fn indexes_of_tables(
-    alloc: Global,
-    tables: &[GuardedTable<'_, Global>],
-    indexed: &[Items<u64, Global>],
-) -> Result<Items<Items<IndexRows<Global>, Global>, Global>, AllocError>
+fn indexes_of_tables<A: Heap>(
+    alloc: A,
+    tables: &[GuardedTable<'_, A>],
+    indexed: &[Items<u64, A>],
+) -> Result<Items<Items<IndexRows<A>, A>, A>, AllocError>
     ensures long { IfOk result (λ all. length all ≡ length indexed.now) }
     ensures each { IfOk result (λ all. (entry : ℕ) (columns : List ℕ) → slice_get indexed.now entry ≡ Some columns → AreOf tables.now entry columns (slice_index_or all entry [])) }
 {
@@ -54,10 +54,10 @@ fn indexes_of_tables(
 }
 
 // The indexes, lent.
-fn lent(
-    alloc: Global,
-    indexes: &[Items<IndexRows<Global>, Global>],
-) -> Result<Vec<&[IndexRows<Global>], Global>, AllocError>
+fn lent<A: Heap>(
+    alloc: A,
+    indexes: &[Items<IndexRows<A>, A>],
+) -> Result<Vec<&[IndexRows<A>], A>, AllocError>
     ensures { IfOk result (λ lent. map (λ xs. xs.now) lent.items ≡ indexes.now) }
 {
     let mut all = Vec::new(alloc);
@@ -82,14 +82,14 @@ pub fn no_query(alloc: Global) -> BoundQuery<Global> {
 }
 
 /// The combinations that the run of a code gives, with indexes that are made for it; none where no plan may have the code.
-pub fn run_over(
-    alloc: Global,
-    world: &World<'_, Global>,
-    setting: &Setting<Global>,
-    code: &Code<Global>,
+pub fn run_over<A: Heap>(
+    alloc: A,
+    world: &World<'_, A>,
+    setting: &Setting<A>,
+    code: &Code<A>,
     wanted: Option<ColumnId>,
     work: &mut Work,
-) -> Result<Option<Items<Combo<Global>, Global>>, AllocError>
+) -> Result<Option<Items<Combo<A>, A>>, AllocError>
     requires { map guard_of setting.now.frame ≡ map (λ t. guard_of t.guard.now) world.now.tables.now }
 {
     let indexes = indexes_of_tables(alloc, world.tables, setting.indexed.as_slice())?;
@@ -103,11 +103,11 @@ pub fn run_over(
 
 /// Gives a sink, which has taken nothing, the combinations of the run of a code that it wants, in any order, with indexes that are
 /// made for it. False where no plan may have the code, of which it gives nothing.
-pub fn run_into_over<K: Sink<Combo<Global>>>(
-    alloc: Global,
-    world: &World<'_, Global>,
-    setting: &Setting<Global>,
-    code: &Code<Global>,
+pub fn run_into_over<A: Heap, K: Sink<Combo<A>>>(
+    alloc: A,
+    world: &World<'_, A>,
+    setting: &Setting<A>,
+    code: &Code<A>,
     sink: &mut K,
     work: &mut Work,
 ) -> Result<bool, AllocError>
@@ -125,14 +125,14 @@ pub fn run_into_over<K: Sink<Combo<Global>>>(
 
 /// The combinations that the run of a code gives by marks of the query, with indexes that are made for it; none where no plan may have
 /// the code.
-pub fn run_marked_over(
-    alloc: Global,
-    world: &World<'_, Global>,
-    setting: &Setting<Global>,
-    code: &Code<Global>,
-    marks: &Marks<'_, Global>,
+pub fn run_marked_over<A: Heap>(
+    alloc: A,
+    world: &World<'_, A>,
+    setting: &Setting<A>,
+    code: &Code<A>,
+    marks: &Marks<'_, A>,
     work: &mut Work,
-) -> Result<Option<Items<Combo<Global>, Global>>, AllocError>
+) -> Result<Option<Items<Combo<A>, A>>, AllocError>
     requires guards { map guard_of setting.now.frame ≡ map (λ t. guard_of t.guard.now) world.now.tables.now }
     requires marks { AreMarksOf (world_of world.now) marks.now }
 {

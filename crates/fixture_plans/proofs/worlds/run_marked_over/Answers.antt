@@ -8,11 +8,11 @@ use Rattle.fixture_plans.proofs.AreThere.{are_there}
 use Rattle.fixture_plans.proofs.worlds.run_marked_over.Goals as goal
 
 pub run_marked-requires-clause-indexes : goal.run_marked-requires-clause-indexes
-run_marked-requires-clause-indexes c =
+run_marked-requires-clause-indexes g c =
     let w = world_of c.args.world.now in
     let at = setting_of c.args.setting.now in
     let lent = ap (map (λ xs. xs.now)) c.deref.ensures.value ∙ c.in_ok-lent.ensures ∙ c.as_slice-2.ensures in
     subst (AreIndexes w at) (sym lent) (are_there c.args.world.now.tables.now w at c.in_ok-indexes.indexes refl (c.in_ok-indexes.ensures.long ∙ ap length c.as_slice.ensures) (λ entry columns e. c.in_ok-indexes.ensures.each entry columns (ap (λ l. slice_get l entry) c.as_slice.ensures ∙ e)))
 
 pub run_marked-requires-clause-frame : goal.run_marked-requires-clause-frame
-run_marked-requires-clause-frame c = c.requires.guards ∙ sym (map-map (λ t. t.guard) (λ t. guarded_table_of t) c.args.world.now.tables.now)
+run_marked-requires-clause-frame g c = c.requires.guards ∙ sym (map-map (λ t. t.guard) (λ t. guarded_table_of t) c.args.world.now.tables.now)

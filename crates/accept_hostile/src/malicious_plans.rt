@@ -1,0 +1,165 @@
+//! Plans that are made to stop the checker: long paths, great numbers, many steps, many entries, and deep filters.
+
+use crate::rows::{expanded, fields, number};
+use fixtures::{audited, sales};
+use std::alloc::{AllocError, Global};
+use std::process::Abort;
+use std::test::Fail;
+use store::Store;
+
+// A query of audit, how many times the parts in braces of a plan stand, the plan, and the line that is written; ` | ` between them, and
+// `~` for an LF. The term is a filter over a guard over a table: a path of three digits leads to no node.
+const PATHS: &str = "\
+ONE | 1 | cost 5~filter 1 (deal.id = 3)~first deal full~trail~9 {0}~ | accepted
+ONE | 3 | cost 5~filter 1 (deal.id = 3)~first deal full~trail~9 {0}~ | refused line 1 reason 2
+ONE | 65536 | cost 5~filter 1 (deal.id = 3)~first deal full~trail~9 {0}~ | refused line 1 reason 2
+ONE | 65536 | cost 5~filter 1 (deal.id = 3)~first deal full~trail~9 {1}~ | refused line 1 reason 2
+ONE | 32768 | cost 5~filter 1 (deal.id = 3)~first deal full~trail~9 {01}~ | refused line 1 reason 2
+ONE | 65536 | cost 5~filter 1 (deal.id = 3)~first deal full~trail~10- {1} 0~ | refused line 1 reason 2
+ONE | 65536 | cost 5~filter 1 (deal.id = 3)~first deal full~trail~9 0~9 {0}~ | refused line 2 reason 2
+ONE | 65536 | cost 5~filter 1 (deal.id = 3)~first deal full~trail~9 {0}2~ | unreadable line 5
+ONE | 65536 | cost 5~filter 1 (deal.id = 3)~first deal full~trail~9 {0} | unreadable line 5
+";
+
+// Numbers below 2^64 have at most twenty digits, and costs below 2^128 at most 39.
+const NUMBERS: &str = "\
+ONE | 19 | cost 5~filter 1 (deal.id = 3)~first deal full~trail~{9} .~ | refused line 1 reason 3
+ONE | 20 | cost 5~filter 1 (deal.id = 3)~first deal full~trail~{9} .~ | unreadable line 5
+ONE | 65536 | cost 5~filter 1 (deal.id = 3)~first deal full~trail~{9} .~ | unreadable line 5
+ONE | 65536 | cost 5~filter 1 (deal.id = 3)~first deal full~trail~{9}- .~ | unreadable line 5
+ONE | 19 | cost 5~filter 1 (deal.id = 3)~first deal full~trail~10- . {1}~ | refused line 1 reason 4
+ONE | 65536 | cost 5~filter 1 (deal.id = 3)~first deal full~trail~10- . {1}~ | unreadable line 5
+ONE | 65536 | cost 5~filter 1 (deal.id = 3)~first deal full~trail~11 . 0 {7}~ | unreadable line 5
+ONE | 65536 | cost 5~filter 1 (deal.id = 3)~first deal full~trail~11 . 0{ 0}~ | unreadable line 5
+ONE | 39 | cost {1}~filter 1 (deal.id = 3)~first deal full~trail~9 0~ | accepted
+ONE | 40 | cost {1}~filter 1 (deal.id = 3)~first deal full~trail~9 0~ | unreadable line 1
+ONE | 65536 | cost {1}~filter 1 (deal.id = 3)~first deal full~trail~9 0~ | unreadable line 1
+ONE | 65536 | cost 5~filter {1} (deal.id = 3)~first deal full~trail~9 0~ | unreadable line 2
+ONE | 65536 | cost 5~filter 1 (deal.id = {3})~first deal full~trail~9 0~ | unreadable line 2
+ONE | 65536 | cost 5~filter 1 (deal.i{d} = 3)~first deal full~trail~9 0~ | unreadable line 2
+ONE | 65536 | cost 5~filter 1 (deal.id = 3)~first dea{l} full~trail~9 0~ | unreadable line 3
+ONE | 65536 | cost 5~filter 1 (deal.id = 3)~first deal index id by {1}~trail~9 0~ | unreadable line 3
+ONE | 65536 | cost 5~filter 1 (deal.id = 3)~first deal full~hash {1} deal full~trail~9 0~ | unreadable line 4
+";
+
+// Two filters that are swapped as often as there may be steps, and once more.
+const STEPS: &str = "\
+BOTH | 4094 | cost 5~filter 1 (deal.id = 3)~filter 2 (deal.owner = 'bob')~first deal full~trail~{3 .~}9 00~ | accepted
+BOTH | 4095 | cost 5~filter 1 (deal.id = 3)~filter 2 (deal.owner = 'bob')~first deal full~trail~{3 .~}9 00~ | refused line 4097 reason 6
+BOTH | 4096 | cost 5~filter 1 (deal.id = 3)~filter 2 (deal.owner = 'bob')~first deal full~trail~{3 .~} | refused line 4097 reason 6
+BOTH | 4097 | cost 5~filter 1 (deal.id = 3)~filter 2 (deal.owner = 'bob')~first deal full~trail~{3 .~} | refused line 4097 reason 1
+BOTH | 65536 | cost 5~filter 1 (deal.id = 3)~filter 2 (deal.owner = 'bob')~first deal full~trail~{3 .~} | refused line 4097 reason 1
+";
+
+// Copies of a filter up to a term of 4,096 nodes, and one more; and a filter that is doubled up to a list of 64 members, and once more.
+const NODES: &str = "\
+ONE | 4093 | cost 5~filter 1 (deal.id = 3)~first deal full~trail~{10- . 0~} | refused line 4094 reason 6
+ONE | 4094 | cost 5~filter 1 (deal.id = 3)~first deal full~trail~{10- . 0~} | refused line 4094 reason 1
+ONE | 65536 | cost 5~filter 1 (deal.id = 3)~first deal full~trail~{10- . 0~} | refused line 4094 reason 1
+ONE | 6 | cost 5~filter 1 (deal.id = 3)~first deal full~trail~{10- . 0~2 .~} | refused line 13 reason 6
+ONE | 7 | cost 5~filter 1 (deal.id = 3)~first deal full~trail~{10- . 0~2 .~} | refused line 14 reason 4
+ONE | 32768 | cost 5~filter 1 (deal.id = 3)~first deal full~trail~{10- . 0~2 .~} | refused line 14 reason 4
+";
+
+// Codes that have an entry more than once.
+const ENTRIES: &str = "\
+ONE | 1 | cost 5~filter 1 (deal.id = 3)~first deal full~{nested deal full~}trail~9 0~ | refused line 0 reason 5
+ONE | 65536 | cost 5~filter 1 (deal.id = 3)~first deal full~{nested deal full~}trail~9 0~ | refused line 0 reason 5
+ONE | 65536 | cost 5~filter 1 (deal.id = 3)~first deal full~{hash 1 deal full~}trail~9 0~ | refused line 0 reason 5
+ONE | 65536 | cost 5~filter 1 (deal.id = 3)~first deal full~{merge 1 deal index id~}trail~9 0~ | refused line 0 reason 5
+ONE | 2 | cost 5~filter 1 (deal.id = 3)~{first deal full~}trail~9 0~ | unreadable line 4
+ONE | 1 | cost 5~filter 1 (deal.id = 3)~first deal full~{sort deal.id~}trail~9 0~ | accepted
+ONE | 2 | cost 5~filter 1 (deal.id = 3)~first deal full~{sort deal.id~}trail~9 0~ | unreadable line 5
+";
+
+// Filters are nested up to 512 deep, and have runs of any length.
+const FILTERS: &str = "\
+ONE | 256 | cost 5~filter 1 {(NOT }deal.id = 3{)}~first deal full~trail~9 0~ | refused line 0 reason 5
+ONE | 257 | cost 5~filter 1 {(NOT }deal.id = 3{)}~first deal full~trail~9 0~ | unreadable line 2
+ONE | 512 | cost 5~filter 1 {- }deal.id = 3~first deal full~trail~9 0~ | refused line 0 reason 5
+ONE | 513 | cost 5~filter 1 {- }deal.id = 3~first deal full~trail~9 0~ | unreadable line 2
+ONE | 65536 | cost 5~filter 1 {- }deal.id = 3~first deal full~trail~9 0~ | unreadable line 2
+ONE | 128 | cost 5~filter 1 {(}deal.id = 3{)}~first deal full~trail~9 0~ | accepted
+ONE | 128 | cost 5~filter 1 {CASE WHEN TRUE THEN }deal.id = 3{ END}~first deal full~trail~9 0~ | refused line 0 reason 5
+ONE | 4096 | cost 5~filter 1 deal.id = 3{ AND deal.id = 3}~first deal full~trail~9 0~ | refused line 0 reason 5
+ONE | 4096 | cost 5~filter 1 deal.id = 3{ OR deal.id = 3}~first deal full~trail~9 0~ | refused line 0 reason 5
+ONE | 1024 | cost 5~filter 1 deal.id = 3{ + 0}~first deal full~trail~9 0~ | refused line 0 reason 5
+ONE | 1024 | cost 5~filter 1 deal.id = 3{ * 1}~first deal full~trail~9 0~ | refused line 0 reason 5
+ONE | 65536 | cost 5~filter 1 deal.id IN (3{, 3})~first deal full~trail~9 0~ | refused line 0 reason 5
+ONE | 65536 | cost 5~filter 1 deal.owner = '{''}'~first deal full~trail~9 0~ | refused line 0 reason 5
+";
+
+// Lines that are none: empty ones, one without an end, quotes that are not closed, NUL, CR, and a byte order mark.
+const LINES: &str = "\
+ONE | 65536 | {~} | unreadable line 1
+ONE | 1000000 | {x} | unreadable line 1
+ONE | 65537 | {'} | unreadable line 1
+ONE | 65536 | {\u{0}} | unreadable line 1
+ONE | 1000000 | cost 5~filter 1 (deal.owner = '{x} | unreadable line 2
+ONE | 65536 | cost 5~filter 1 (deal.owner = '{~} | unreadable line 2
+ONE | 65536 | cost 5~filter 1 (deal.id = 3){ }~first deal full~trail~9 0~ | accepted
+ONE | 65536 | cost 5~filter 1 (deal.id = 3)~first deal full{ }~trail~9 0~ | unreadable line 3
+ONE | 1 | cost 5~filter 1 (deal.id = 3)~first deal full~trail~9 0{\u{0}}~ | unreadable line 5
+ONE | 1 | cost 5~filter 1 (deal.id = 3)~first deal full~trail~9 0{\r}~ | unreadable line 5
+ONE | 1 | {\u{feff}}cost 5~filter 1 (deal.id = 3)~first deal full~trail~9 0~ | unreadable line 1
+";
+
+// The query of a name.
+fn query_of(name: &str) -> &str {
+    match name {
+        "ONE" => "SELECT id FROM deal WHERE id = 3",
+        "BOTH" => "SELECT id FROM deal WHERE id = 3 AND owner = 'bob'",
+        _ => name,
+    }
+}
+
+// The line that is written for a plan, with its status.
+fn judge(
+    rt: &(impl Abort + AllocGlobal),
+    store: &Store<Global>,
+    row: &str,
+) -> Result<(), AllocError> {
+    let ([query, many, plan], want) = fields(row);
+    let plan = expanded(rt.alloc(), plan, number(rt, many))?;
+    let (status, out) = audited(rt.alloc(), store, "audit", query_of(query), plan.as_bytes());
+    let written = std::str::from_utf8(out.inner.as_slice()).unwrap_or("no UTF-8");
+    assert_eq!(rt;
+        written.strip_suffix('\n').unwrap_or("no LF"),
+        want,
+        "{row}"
+    );
+    assert_eq!(rt; status, if want == "accepted" { 0 } else { 3 }, "{row}");
+    Ok(())
+}
+
+fn judge_all(rt: &(impl Abort + AllocGlobal), rows: &str) -> Result<(), Fail> {
+    let store = sales(rt.alloc())?;
+    assert!(rt; !rows.is_empty());
+    for row in rows.lines() {
+        judge(rt, &store, row)?;
+    }
+    Ok(())
+}
+
+#[test]
+fn long_paths_and_great_numbers_are_refused(rt: HostRuntime) -> Result<(), Fail> {
+    judge_all(&rt, PATHS)?;
+    judge_all(&rt, NUMBERS)
+}
+
+#[test]
+fn steps_and_nodes_are_limited(rt: HostRuntime) -> Result<(), Fail> {
+    judge_all(&rt, STEPS)?;
+    judge_all(&rt, NODES)
+}
+
+#[test]
+fn entries_come_once_and_filters_are_compared(rt: HostRuntime) -> Result<(), Fail> {
+    judge_all(&rt, ENTRIES)?;
+    judge_all(&rt, FILTERS)
+}
+
+#[test]
+fn lines_that_are_none_are_unreadable(rt: HostRuntime) -> Result<(), Fail> {
+    judge_all(&rt, LINES)
+}
