@@ -80,8 +80,8 @@ fn gives(
     are_as(rt, taken.as_slice(), entries, want)
 }
 
-// Of each entry of which the sink is told, the role sees at least as many rows as combinations came.
-fn is_told_rightly(
+// Of each entry whose rows come once, as the run said, the role sees at least as many rows as combinations came.
+fn comes_once_rightly(
     rt: &(impl Abort + AllocGlobal),
     world: &World<'_, Global>,
     sink: &WithoutThirds,
@@ -115,7 +115,7 @@ fn gives_wanted(
     let is_run = run_into_over(rt.alloc(), world, setting, code, &mut sink, &mut work)?;
     assert!(rt; is_run, "not admissible");
     assert!(rt; work.count() <= most.count(), "more steps");
-    is_told_rightly(rt, world, &sink)?;
+    comes_once_rightly(rt, world, &sink)?;
     are_as(rt, sink.taken(), world.tables.len(), want)
 }
 

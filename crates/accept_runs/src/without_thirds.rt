@@ -1,4 +1,4 @@
-//! A sink that does not want each third row of an entry, and notes which entries it is told of.
+//! A sink that does not want each third row of an entry, and notes of which entries each row comes once.
 
 use memory::Items;
 use std::alloc::{AllocError, Global};
@@ -35,7 +35,7 @@ impl WithoutThirds {
         self.taken.as_slice()
     }
 
-    /// True where it was told that no more combinations come than rows of an entry were read.
+    /// True where no more combinations come than rows of an entry were read, as the run said.
     pub fn reads_once(&self, entry: usize) -> bool {
         self.once & bit_of(entry) != 0
     }
