@@ -1,0 +1,6 @@
+//! What an auditor may rely on: laws of audits.
+#![tactic(auto)]
+
+mod laws;
+
+pub use laws::law_accepted_plans_are_right;
