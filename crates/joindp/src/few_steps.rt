@@ -41,8 +41,7 @@ fn comes_by(entry: usize, column: Option<ColumnId>, access: Access) -> bool
     }
 }
 
-// The lesser of the least way so far, if there is one, and one more, where that gives the rows in the order of the column, if one
-// is given.
+// The lesser of the least way so far and one more, where that gives the rows in the order of the column, if one is given.
 fn lesser<A: Heap>(
     problem: &Problem<'_, A>,
     entry: usize,
@@ -162,9 +161,8 @@ fn push_few_to<A: Heap>(
 
 // ---- all of them
 
-/// The steps after a set of placed entries that can be in a least code: to each entry that may be next, a nested join and one by a
-/// hash table, both of the cheapest way to read its rows, and for each equality a merge of that way, and of the cheapest one that
-/// gives the rows in order. `accesses` are the ways in which the rows of each entry may be read.
+/// The steps after a set of placed entries that can be in a least code; `accesses` are the ways in which the rows of each entry may
+/// be read.
 pub(crate) fn few_steps<A: Heap>(
     alloc: A,
     problem: &Problem<'_, A>,

@@ -9,8 +9,7 @@ use expr::{Access, ColumnId};
 use memory::{Heap, Items};
 
 /// What the search reads: the estimated number of combinations of each set of entries, by its bits, the orders that somebody may
-/// ask for, with the index of none, the ways in which the rows of each entry may be read, and the entries that may be next after
-/// each set.
+/// ask for, with the index of none, how the rows of each entry may be read, and which entries may be next after each set.
 #[derive(Drop)]
 pub(crate) struct Inputs<'s, 'p, A: Heap> {
     pub problem: &'s Problem<'p, A>,
