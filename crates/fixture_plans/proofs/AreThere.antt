@@ -14,12 +14,10 @@ use Rattle.trailcheck.specs.Settings.{Setting}
 use Rattle.expr.proofs.Lists.{any_map}
 use Rattle.executor.specs.Indexed.{AreIndexes, of_entry}
 use Rattle.fixture_plans.specs.Worlds.{AreOf}
+use Rattle.fixture_plans.proofs.EachIndexed.{some_same}
 
 module _ {A : Type 0} (tables : List (declared.GuardedTable A)) (w : World) (at : Setting) (all : List (List (IndexRows A))) (same : w.tables ≡ map (λ t. guarded_table_of t) tables) (long : length all ≡ length at.indexed)
     (each : (entry : ℕ) (columns : List ℕ) → slice_get at.indexed entry ≡ Some columns → AreOf tables entry columns (slice_index_or all entry [])) where
-  some_same : {X : Type 0} (a b : X) → Some a ≡ Some b → a ≡ b
-  some_same a b h = cc
-
   -- the table of an entry
   table_is : (entry : ℕ) (t : GuardedTable) (columns : List ℕ) (r : AreOf tables entry columns (slice_index_or all entry [])) → slice_get w.tables entry ≡ Some t → guarded_table_of r.table ≡ t
   table_is entry t columns r e =

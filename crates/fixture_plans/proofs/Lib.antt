@@ -1,1 +1,2 @@
 mod AreThere
+mod EachIndexed
