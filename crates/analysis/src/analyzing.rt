@@ -12,7 +12,7 @@ ghost use Rattle.analysis.specs.Analysis as spec;
 ghost use Rattle.analysis.specs.Analysis.{denied_reply, is_refused_at_once, refusal_to};
 ghost use Rattle.analysis.specs.View.{admitted_of, read_of};
 
-use access::{RequiredPrivilege, denied, needed};
+use access::{RequiredPrivilege, missing};
 use catalog::Catalog;
 use memory::{Failure, Heap, Text};
 use replies::Reply;
@@ -51,8 +51,7 @@ fn first_missing<'s, A: Heap>(
 ) -> Result<Option<RequiredPrivilege<'s, A>>, AllocError>
     ensures { IfOk result (λ missing. option_map (λ p. privilege_of p) missing ≡ denial catalog.now role.now (needed (bound_of bound.now).entries (bound_of bound.now).query)) }
 {
-    let needed = needed(alloc, bound.entries.as_slice(), &bound.query)?;
-    Ok(denied(catalog, role, needed.as_slice()))
+    missing(alloc, catalog, role, bound.entries.as_slice(), &bound.query)
 }
 
 // The bound query, or its denial.

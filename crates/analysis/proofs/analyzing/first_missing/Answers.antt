@@ -1,4 +1,4 @@
 use Rattle.analysis.proofs.analyzing.first_missing.Goals as goal
 
 pub returns : goal.returns
-returns g c = rw (c.as_slice-2.ensures, c.in_ok-needed.ensures, c.as_slice.ensures, c.deref.ensures) at c.denied.ensures
+returns g c = rw (c.as_slice.ensures, c.deref.ensures) at c.missing.ensures
