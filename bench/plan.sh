@@ -1,6 +1,7 @@
 #!/usr/bin/env bash
 # Measures how long the search for the least code of a query takes, beside PostgreSQL's planning of the same query: 1 to 8 tables
-# in a chain (each joined to the next), a star (the first joined to each other) and a clique (each two joined).
+# in a chain (each joined to the next), a star (the first joined to each other) and a clique (each two joined); and of 8 tables with an
+# index on each of 64 columns, the search alone.
 # usage: bench/plan.sh [RUNS], with 20 runs where nothing is said; of each time the middle one is given.
 # `rt` must be on the path. The program `times` is proved and built first, if it is not yet. PostgreSQL is left out where its
 # programs are not in POSTGRESQL, or /usr/lib/postgresql/15/bin; it runs in a folder of its own, on a socket alone.
@@ -9,7 +10,7 @@ runs=${1:-20}
 bin=${POSTGRESQL:-/usr/lib/postgresql/15/bin}
 . "$(dirname "$0")/measure.sh"
 times=$top/crates/times/out/times
-(cd "$top/crates/times" && rt run -- plan chain 3 1) > "$work/built"
+(cd "$top/crates/times" && rt run -- plan chain 3 1 1) > "$work/built"
 
 # A server does not run as root.
 as_owner() {
@@ -78,11 +79,11 @@ postgresql() {
     client=$(awk '/^Time:/ { print $2 }' "$work/explained" | middle)
 }
 
-# Nanoseconds of the processor's clock for so many searches.
+# Nanoseconds of the processor's clock for so many searches, with so many indexes of each table.
 search() {
     local from to
     from=$(date +%s%N)
-    "$times" plan "$1" "$2" "$3" > "$work/cost"
+    "$times" plan "$1" "$2" "$3" "$4" > "$work/cost"
     to=$(date +%s%N)
     echo $((to - from))
 }
@@ -91,10 +92,10 @@ search() {
 # that a run takes a twentieth of a second or more.
 rowplan() {
     local many=10
-    while [ "$(search "$1" "$2" "$many")" -lt 50000000 ]; do many=$((many * 2)); done
+    while [ "$(search "$1" "$2" "$many" "$3")" -lt 50000000 ]; do many=$((many * 2)); done
     search_time=$(for _ in $(seq "$runs"); do
-        few=$(search "$1" "$2" 1)
-        all=$(search "$1" "$2" $((many + 1)))
+        few=$(search "$1" "$2" 1 "$3")
+        all=$(search "$1" "$2" $((many + 1)) "$3")
         awk -v few="$few" -v all="$all" -v n="$many" 'BEGIN { printf "%.6f\n", (all - few) / n / 1e6 }'
     done | middle)
 }
@@ -107,8 +108,13 @@ printf '%-8s %8s %16s %22s %24s\n' shape entries 'the search, ms' 'PostgreSQL, p
 for shape in chain star clique; do
     for entries in $(seq 8); do
         planning=- client=-
-        rowplan "$shape" "$entries"
+        rowplan "$shape" "$entries" 1
         if [ -x "$bin/initdb" ]; then postgresql "$shape" "$entries"; fi
         printf '%-8s %8d %16.4f %22s %24s\n' "$shape" "$entries" "$search_time" "$planning" "$client"
     done
+done
+printf '\n%-8s %8s %16s, with 64 indexes of each table\n' shape entries 'the search, ms'
+for shape in chain star clique; do
+    rowplan "$shape" 8 64
+    printf '%-8s %8d %16.4f\n' "$shape" 8 "$search_time"
 done

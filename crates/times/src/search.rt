@@ -20,6 +20,8 @@ struct Arguments {
     entries: usize,
     // How many times it is searched.
     times: u64,
+    // How many columns of each table have an index.
+    indexes: u64,
 }
 
 // The number of entries that a word says, from 1 to the most of a query.
@@ -39,10 +41,11 @@ fn read_arguments(words: &[String]) -> Option<Arguments>
     ensures { IfSome result (λ a. a.entries ≤ most_entries) }
 {
     match words {
-        [shape, entries, times] => Some(Arguments {
+        [shape, entries, times, indexes] => Some(Arguments {
             shape: Shape::named(shape.as_str())?,
             entries: entries_of(entries.as_str())?,
             times: number_of(times.as_str(), 1, u64::MAX)?,
+            indexes: number_of(indexes.as_str(), 1, 64)?,
         }),
         _ => None,
     }
@@ -66,7 +69,7 @@ fn least_cost(
 fn searched(alloc: Global, arguments: Arguments) -> Result<u128, AllocError>
     requires { arguments.entries ≤ most_entries }
 {
-    let setting = setting(alloc, arguments.shape, arguments.entries)?;
+    let setting = setting(alloc, arguments.shape, arguments.entries, arguments.indexes)?;
     let stats = table_stats(alloc)?;
     let statistics = for_each_entry(alloc, &stats, arguments.entries)?;
     let problem = Problem::new(alloc, &setting, &statistics, None)?;

@@ -19,7 +19,7 @@ use tuples::Guard;
 const ROWS: u64 = 1000;
 
 /// The number of columns of each table.
-const COLUMNS: usize = 9;
+const COLUMNS: usize = 64;
 
 // A guard for each entry, which shows every row.
 fn frame(alloc: Global, entries: usize) -> Result<Items<Guard<Global>, Global>, AllocError>
@@ -32,12 +32,24 @@ fn frame(alloc: Global, entries: usize) -> Result<Items<Guard<Global>, Global>, 
     Ok(frame)
 }
 
-// Of each entry, the id.
-fn indexed(alloc: Global, entries: usize) -> Result<Items<Items<u64, Global>, Global>, AllocError> {
+// So many columns, from the first on.
+fn first_columns(alloc: Global, count: u64) -> Result<Items<u64, Global>, AllocError> {
+    let mut columns = Items::new(alloc);
+    for k in 0..count {
+        columns.push(k + 1)?;
+    }
+    Ok(columns)
+}
+
+// Of each entry, so many columns.
+fn indexed(
+    alloc: Global,
+    entries: usize,
+    indexes: u64,
+) -> Result<Items<Items<u64, Global>, Global>, AllocError> {
     let mut indexed = Items::new(alloc);
     for _ in 0..entries {
-        let mut columns = Items::new(alloc);
-        columns.push(1)?;
+        let columns = first_columns(alloc, indexes)?;
         indexed.push(columns)?;
     }
     Ok(indexed)
@@ -88,13 +100,14 @@ pub(crate) fn setting(
     alloc: Global,
     shape: Shape,
     entries: usize,
+    indexes: u64,
 ) -> Result<Setting<Global>, AllocError>
     requires { entries ≤ most_entries }
     ensures { IfOk result (λ s. length s.frame ≡ entries) }
 {
     Ok(Setting {
         frame: frame(alloc, entries)?,
-        indexed: indexed(alloc, entries)?,
+        indexed: indexed(alloc, entries, indexes)?,
         conditions: conditions(alloc, shape, entries)?,
     })
 }

@@ -29,7 +29,7 @@ impl From<io::Error> for Stop {
 }
 
 const USAGE: &str = "\
-usage: times plan chain|star|clique ENTRIES TIMES, with 1 to 8 entries
+usage: times plan chain|star|clique ENTRIES TIMES INDEXES, with 1 to 8 entries, and 1 to 64 indexes of each table
        times run none|hash|merge|merge-indexed|nested ROWS, with 1 to 1000000 rows
        times ask rows|plan TABLES ROWS TIMES, with 1 to 8 tables of 1 to 1000000 rows, asked up to 1000000 times";
 
