@@ -10,12 +10,17 @@ build() {
         --dir "$top/examples/deals" --role alice 'SELECT id FROM deal') > "$work/built"
 }
 
-# Runs a command, and reports its wall time, processor time and greatest memory. Status 4 is a denial.
+# True for a status that a measured command may end with; 4 is a denial.
+is_expected() {
+    [ "$1" = 4 ]
+}
+
+# Runs a command, and reports its wall time, processor time and greatest memory.
 measure() {
     label=$1
     shift
     if [ -x /usr/bin/time ]; then
-        /usr/bin/time -f '%e %U %S %M' -o "$work/time" "$@" > "$work/out" || [ $? = 4 ]
+        /usr/bin/time -f '%e %U %S %M' -o "$work/time" "$@" > "$work/out" || is_expected $?
         read -r wall user sys peak < <(tail -n 1 "$work/time")
     else
         local from to
@@ -27,7 +32,7 @@ measure() {
             peak=${now:-$peak}
             sleep 0.01
         done
-        wait $! || [ $? = 4 ]
+        wait $! || is_expected $?
         to=$(date +%s.%N)
         wall=$(awk -v a="$from" -v b="$to" 'BEGIN { printf "%.2f", b - a }')
         user=- sys=-

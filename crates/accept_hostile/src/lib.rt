@@ -11,6 +11,8 @@ mod long_texts;
 #[cfg(test)]
 mod malicious_plans;
 #[cfg(test)]
+mod public_calls;
+#[cfg(test)]
 mod rows;
 #[cfg(test)]
 mod writers;

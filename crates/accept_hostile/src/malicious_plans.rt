@@ -9,7 +9,7 @@ use store::Store;
 
 // A query of audit, how many times the parts in braces of a plan stand, the plan, and the line that is written; ` | ` between them, and
 // `~` for an LF. The term is a filter over a guard over a table: a path of three digits leads to no node.
-const PATHS: &str = "\
+pub const PATHS: &str = "\
 ONE | 1 | cost 5~filter 1 (deal.id = 3)~first deal full~trail~9 {0}~ | accepted
 ONE | 3 | cost 5~filter 1 (deal.id = 3)~first deal full~trail~9 {0}~ | refused line 1 reason 2
 ONE | 65536 | cost 5~filter 1 (deal.id = 3)~first deal full~trail~9 {0}~ | refused line 1 reason 2
@@ -42,8 +42,8 @@ ONE | 65536 | cost 5~filter 1 (deal.id = 3)~first deal index id by {1}~trail~9 0
 ONE | 65536 | cost 5~filter 1 (deal.id = 3)~first deal full~hash {1} deal full~trail~9 0~ | unreadable line 4
 ";
 
-// Two filters that are swapped as often as there may be steps, and once more.
-const STEPS: &str = "\
+/// Two filters that are swapped as often as there may be steps, and once more.
+pub const STEPS: &str = "\
 BOTH | 4094 | cost 5~filter 1 (deal.id = 3)~filter 2 (deal.owner = 'bob')~first deal full~trail~{3 .~}9 00~ | accepted
 BOTH | 4095 | cost 5~filter 1 (deal.id = 3)~filter 2 (deal.owner = 'bob')~first deal full~trail~{3 .~}9 00~ | refused line 4097 reason 6
 BOTH | 4096 | cost 5~filter 1 (deal.id = 3)~filter 2 (deal.owner = 'bob')~first deal full~trail~{3 .~} | refused line 4097 reason 6
@@ -51,8 +51,8 @@ BOTH | 4097 | cost 5~filter 1 (deal.id = 3)~filter 2 (deal.owner = 'bob')~first 
 BOTH | 65536 | cost 5~filter 1 (deal.id = 3)~filter 2 (deal.owner = 'bob')~first deal full~trail~{3 .~} | refused line 4097 reason 1
 ";
 
-// Copies of a filter up to a term of 4,096 nodes, and one more; and a filter that is doubled up to a list of 64 members, and once more.
-const NODES: &str = "\
+/// Copies of a filter up to a term of 4,096 nodes, and one more; and a filter that is doubled up to a list of 64 members, and once more.
+pub const NODES: &str = "\
 ONE | 4093 | cost 5~filter 1 (deal.id = 3)~first deal full~trail~{10- . 0~} | refused line 4094 reason 6
 ONE | 4094 | cost 5~filter 1 (deal.id = 3)~first deal full~trail~{10- . 0~} | refused line 4094 reason 1
 ONE | 65536 | cost 5~filter 1 (deal.id = 3)~first deal full~trail~{10- . 0~} | refused line 4094 reason 1
@@ -72,7 +72,14 @@ ONE | 1 | cost 5~filter 1 (deal.id = 3)~first deal full~{sort deal.id~}trail~9 0
 ONE | 2 | cost 5~filter 1 (deal.id = 3)~first deal full~{sort deal.id~}trail~9 0~ | unreadable line 5
 ";
 
-// Filters are nested up to 512 deep, and have runs of any length.
+// A condition of a long text that is copied until it takes more memory than an audit may.
+const COPIES: &str = "\
+SELECT id FROM deal WHERE owner = '{xxxxxxxxxxxxxxxx}' | 2000 | cost 5~filter 1 (deal.owner = '{xxxxxxxxxxxxxxxx}')~first deal full~trail~{10- . 0~} | refused line 2001 reason 6
+SELECT id FROM deal WHERE owner = '{xxxxxxxxxxxxxxxx}' | 4000 | cost 5~filter 1 (deal.owner = '{xxxxxxxxxxxxxxxx}')~first deal full~trail~{10- . 0~} | refused 53200
+";
+
+// Filters are nested up to 512 deep, and have runs of any length; one of more than 1,024 arithmetic operators takes more stack than an
+// audit may. A minus that begins a number is no operator.
 const FILTERS: &str = "\
 ONE | 256 | cost 5~filter 1 {(NOT }deal.id = 3{)}~first deal full~trail~9 0~ | refused line 0 reason 5
 ONE | 257 | cost 5~filter 1 {(NOT }deal.id = 3{)}~first deal full~trail~9 0~ | unreadable line 2
@@ -85,6 +92,11 @@ ONE | 4096 | cost 5~filter 1 deal.id = 3{ AND deal.id = 3}~first deal full~trail
 ONE | 4096 | cost 5~filter 1 deal.id = 3{ OR deal.id = 3}~first deal full~trail~9 0~ | refused line 0 reason 5
 ONE | 1024 | cost 5~filter 1 deal.id = 3{ + 0}~first deal full~trail~9 0~ | refused line 0 reason 5
 ONE | 1024 | cost 5~filter 1 deal.id = 3{ * 1}~first deal full~trail~9 0~ | refused line 0 reason 5
+ONE | 1024 | cost 5~filter 1 deal.id = 3{ -1}~first deal full~trail~9 0~ | refused line 0 reason 5
+ONE | 1025 | cost 5~filter 1 deal.id = 3{ + 0}~first deal full~trail~9 0~ | refused 53200
+ONE | 1025 | cost 5~filter 1 deal.id = 3{ -1}~first deal full~trail~9 0~ | refused 53200
+ONE | 500000 | cost 5~filter 1 deal.id = 3{*1}~first deal full~trail~9 0~ | refused 53200
+ONE | 20000 | cost 5~filter 1 deal.id IN (-3{, -3})~first deal full~trail~9 0~ | refused line 0 reason 5
 ONE | 65536 | cost 5~filter 1 deal.id IN (3{, 3})~first deal full~trail~9 0~ | refused line 0 reason 5
 ONE | 65536 | cost 5~filter 1 deal.owner = '{''}'~first deal full~trail~9 0~ | refused line 0 reason 5
 ";
@@ -104,12 +116,21 @@ ONE | 1 | cost 5~filter 1 (deal.id = 3)~first deal full~trail~9 0{\r}~ | unreada
 ONE | 1 | {\u{feff}}cost 5~filter 1 (deal.id = 3)~first deal full~trail~9 0~ | unreadable line 1
 ";
 
-// The query of a name.
-fn query_of(name: &str) -> &str {
+/// The query of a name.
+pub fn query_of(name: &str) -> &str {
     match name {
         "ONE" => "SELECT id FROM deal WHERE id = 3",
         "BOTH" => "SELECT id FROM deal WHERE id = 3 AND owner = 'bob'",
         _ => name,
+    }
+}
+
+// The status of a line.
+fn status_of(line: &str) -> u8 {
+    match line {
+        "accepted" => 0,
+        "refused 53200" => 7,
+        _ => 3,
     }
 }
 
@@ -121,14 +142,15 @@ fn judge(
 ) -> Result<(), AllocError> {
     let ([query, many, plan], want) = fields(row);
     let plan = expanded(rt.alloc(), plan, number(rt, many))?;
-    let (status, out) = audited(rt.alloc(), store, "audit", query_of(query), plan.as_bytes());
+    let query = expanded(rt.alloc(), query_of(query), number(rt, many))?;
+    let (status, out) = audited(rt.alloc(), store, "audit", query.as_str(), plan.as_bytes());
     let written = std::str::from_utf8(out.inner.as_slice()).unwrap_or("no UTF-8");
     assert_eq!(rt;
         written.strip_suffix('\n').unwrap_or("no LF"),
         want,
         "{row}"
     );
-    assert_eq!(rt; status, if want == "accepted" { 0 } else { 3 }, "{row}");
+    assert_eq!(rt; status, status_of(want), "{row}");
     Ok(())
 }
 
@@ -151,6 +173,11 @@ fn long_paths_and_great_numbers_are_refused(rt: HostRuntime) -> Result<(), Fail>
 fn steps_and_nodes_are_limited(rt: HostRuntime) -> Result<(), Fail> {
     judge_all(&rt, STEPS)?;
     judge_all(&rt, NODES)
+}
+
+#[test]
+fn copies_of_conditions_are_limited(rt: HostRuntime) -> Result<(), Fail> {
+    judge_all(&rt, COPIES)
 }
 
 #[test]

@@ -4,9 +4,9 @@ use crate::rows::{expanded, fields, number};
 use engine::{explain, serve, verify};
 use fixtures::sales;
 use memory::boxed;
-use output::{Output, write_whole};
+use output::Output;
 use session::Core;
-use session_scripts::{ScriptLine, read_line, reply_text};
+use session_scripts::{ScriptLine, read_line, write_reply};
 use setup::{Arguments, explain_refusal, report, store_of_schema};
 use std::alloc::{AllocError, Global};
 use std::io;
@@ -106,8 +106,7 @@ fn event_status(
     let Ok(Some(ScriptLine::Event { event })) = read_line(rt.alloc(), line) else {
         panic!(rt; "{line}");
     };
-    let text = reply_text(rt.alloc(), core.step(event)).expect(rt, line);
-    match write_whole(out, text.as_slice()) {
+    match write_reply(rt.alloc(), core.step(event), out) {
         Ok(()) => 0,
         Err(_) => 8,
     }

@@ -262,10 +262,7 @@ fn is_format_unknown(matches: &ArgMatches<'_>) -> bool
 
 /// Reads the words of a command line, of which the first is the program's name: at `Ok` the request
 /// is the one that they say, and it reads standard input at most once.
-pub fn read_arguments<'a>(
-    alloc: Global,
-    words: &'a [&'a str],
-) -> Result<Request<'a>, CommandLineError>
+pub fn read_words<'a>(alloc: Global, words: &'a [&'a str]) -> Result<Request<'a>, CommandLineError>
     ensures asked { IfOk result (λ request.
         asked (subcommand_of program (map (λ w. w.now) words.entry.now))
         ≡ Some (request_of request)) }

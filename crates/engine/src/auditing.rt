@@ -1,6 +1,9 @@
 //! The audit of a plan's text.
 
-ghost use Rattle.std.specs.Prelude.{◌≡◌, ℕ, IfOk, length};
+ghost use Rattle.std.specs.Prelude.{◌≡◌, ℕ, IfOk, length, map};
+ghost use Rattle.expr.specs.View.{code_of};
+ghost use Rattle.algebra.specs.View.{step_of};
+ghost use Rattle.trailcheck.specs.Verdicts.{verdict};
 ghost use Rattle.row_ast.specs.View.{query_of};
 ghost use Rattle.row_terms.specs.View.{term_of};
 ghost use Rattle.row_terms.specs.Written as row_terms;
@@ -16,11 +19,13 @@ ghost use Rattle.engine.specs.Settings as settings;
 ghost use Rattle.engine.specs.View.{audit_of};
 
 use crate::setting::setting;
+use algebra::Step;
 use analysis::{admit, read_query};
-use bound_plans::{are_filters, plan_entries};
+use bound_plans::{are_filters, read_trail};
 use catalog::Catalog;
+use expr::Code;
 use memory::{Failure, Heap};
-use plan_texts::{Plan, read_plan};
+use plan_texts::Plan;
 use replies::Reply;
 use resolve::Bound;
 use row_ast::Query;
@@ -38,6 +43,23 @@ pub(crate) enum Audit<A: Heap> {
     Unreadable(u64),
     /// The verdict on the plan.
     Judged(Verdict),
+}
+
+/// The checker's verdict on a code and a trail for a role's bound query (`trailcheck::judge`, by the guards, indexes and conditions
+/// that the catalogue gives): accepted where the code is admissible and the steps lead from the written term to its shape.
+pub fn check<A: Heap>(
+    alloc: A,
+    catalog: &Catalog<A>,
+    role: &str,
+    bound: &Bound<'_, A>,
+    trail: &[Step<A>],
+    code: &Code<A>,
+) -> Result<Verdict, AllocError>
+    ensures { IfOk result (λ v. v ≡ verdict (settings.setting catalog.now role.now (bound_of bound.now)) (row_terms.written (length (bound_of bound.now).entries) (bound_of bound.now).query) (map step_of trail.now) (code_of code.now)) }
+{
+    let setting = setting(alloc, catalog, role, bound)?;
+    let written = written(alloc, bound.entries.len(), &bound.query)?;
+    judge(alloc, &setting, written, trail, code)
 }
 
 // The checker's verdict on code and trail, where the filters are the planning list.
@@ -90,8 +112,7 @@ fn audit_bound<A: Heap>(
 ) -> Result<Audit<A>, AllocError>
     ensures { IfOk result (λ audit. audit_of audit ≡ spec.audit_of catalog.now role.now (bound_of bound.now) (plan_texts.plan_at (bound_plans.plan_entries (bound_of bound.now).entries) plan.now)) }
 {
-    let entries = plan_entries(alloc, bound.entries.as_slice())?;
-    match read_plan(alloc, entries.as_slice(), plan) {
+    match read_trail(alloc, bound.entries.as_slice(), plan) {
         Ok(plan) => Ok(Audit::Judged(judged_plan(alloc, catalog, role, bound, &plan)?)),
         Err(Failure::Error(line)) => Ok(Audit::Unreadable(line)),
         Err(Failure::OutOfMemory) => Err(AllocError),

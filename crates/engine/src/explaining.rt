@@ -33,11 +33,11 @@ use crate::known::known_statistics;
 use crate::setting::setting_with;
 use algebra::Step;
 use analysis::{admit, read_query};
-use bound_plans::{named, plan_entries};
+use bound_plans::{named, write_trail};
 use expr::{ColumnId, MovableExpr};
 use memory::{Heap, Items};
 use output::{Out, send};
-use plan_texts::{SortColumn, write_plan};
+use plan_texts::SortColumn;
 use planning::{Plan, Simplified, simplify};
 use replies::{Reply, reply_status, reply_text};
 use resolve::Bound;
@@ -129,8 +129,7 @@ fn best_text<A: Heap>(
     let statistics = known_statistics(alloc, store, entries, frame, &unknown)?;
     let found = Plan::new(alloc, &bound.query, &setting, &statistics)?;
     let plan = plan_with(alloc, entries, setting.conditions.as_slice(), found, trail)?;
-    let names = plan_entries(alloc, entries)?;
-    write_plan(alloc, names.as_slice(), &plan)
+    write_trail(alloc, entries, &plan)
 }
 
 // The text of a refusal or denial, and its status.

@@ -25,6 +25,8 @@ mod writing;
 
 pub use analysis::{admit, read_query, refusal};
 pub use asking::{ask, law_each_table_is_held, law_refusals_read_no_row, run_plan};
+pub use auditing::check;
+pub use bound_plans::{read_trail, write_trail};
 pub use explaining::{explain, law_known_statistics};
 pub use plans::Plan;
 pub use preparing::plan;
@@ -32,4 +34,4 @@ pub use resolve::Bound;
 pub use row_ast::Query;
 pub use store::{Store, StoreError};
 pub use verifying::verify;
-pub use writing::{law_hidden_rows, law_ungranted_columns, serve};
+pub use writing::{law_hidden_rows, law_ungranted_columns, serve, write_answer};

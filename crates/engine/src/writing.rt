@@ -6,6 +6,7 @@ ghost use Rattle.value.specs.Names.{Name};
 ghost use Rattle.catalog.specs.Catalog.{Catalog};
 ghost use Rattle.replies.specs.Reply.{no_memory, reply_status};
 ghost use Rattle.replies.specs.ReplyText.{reply_text};
+ghost use Rattle.replies.specs.View.{reply_of};
 ghost use Rattle.store.specs.Database.{Rows, rows_of};
 ghost use Rattle.engine.specs.Answer.{reply_to};
 ghost use Rattle.engine.specs.Serving.{IsWhole};
@@ -15,8 +16,22 @@ ghost use Rattle.engine.specs.Readable.{ReadsSame};
 use crate::asking::ask;
 use memory::Heap;
 use output::{Out, send};
-use replies::{reply_status, reply_text};
+use replies::{Reply, reply_status, reply_text};
 use store::Store;
+
+/// Writes the text of a reply, and gives its status, as `serve`: 7 where memory runs out for the text, 8 where the writer fails. The
+/// writer is not flushed.
+pub fn write_answer<A: Heap, W: Out>(alloc: A, reply: &Reply<A>, out: &mut W) -> u8
+    // The whole text of the reply, and its status; or memory ran out, or the writer failed.
+    ensures sent { let due = reply_of reply.now in
+        IsSent (W.taken out.old) (W.taken out.new) (W.failures out.old) (W.failures out.new) result (reply_status due) (reply_text due) (reply_text no_memory) }
+{
+    let status = reply_status(reply);
+    match reply_text(alloc, reply) {
+        Ok(bytes) => send(out, &bytes, status),
+        Err(_) => send(out, b"refused 53200\n".as_slice(), 7),
+    }
+}
 
 /// Writes the reply to a role's text, and gives its status: 0 rows, 3 a refused text, 4 a denial, 5 a fault, 6 an unknown
 /// role, 7 out of memory, 8 a writer that failed. Nothing is written before the reply is whole, and the writer is not flushed.
@@ -33,11 +48,7 @@ pub fn serve<A: Heap, W: Out>(alloc: A, store: &Store<A>, role: &str, text: &str
         IsWhole (W.taken out.old) (W.taken out.new) result (reply_to store.now.catalog other role.now text.now) }
 {
     let reply = ask(alloc, store, role, text);
-    let status = reply_status(&reply);
-    match reply_text(alloc, &reply) {
-        Ok(bytes) => send(out, &bytes, status),
-        Err(_) => send(out, b"refused 53200\n".as_slice(), 7),
-    }
+    write_answer(alloc, &reply, out)
 }
 
 /// Rows that a role does not see make no difference to its replies: two contents whose rows that it sees, entry by entry and

@@ -17,11 +17,62 @@ use row_ast::Expr;
 use row_expressions::{Located, expression};
 use row_grammar::ReadError;
 use row_reader::reader::{Parsed, Parser, Reader};
-use row_tokens::{Token, scan_without_offsets};
+use row_tokens::{Token, TokenKind, scan_without_offsets};
 use std::alloc::AllocError;
 
 /// The most levels of the text of a filter.
 const FILTER_LEVELS: usize = 512;
+
+/// The most arithmetic operators of a text. A sum has a level for each, which takes stack wherever its tree is walked or dropped.
+const MOST_OPERATORS: usize = 1024;
+
+// True where a sign that follows a token of that kind is that of a number, and no operator.
+fn precedes_operand(kind: TokenKind) -> bool {
+    matches!(
+        kind,
+        TokenKind::Open
+            | TokenKind::Comma
+            | TokenKind::Equal
+            | TokenKind::NotEqual
+            | TokenKind::Less
+            | TokenKind::LessEqual
+            | TokenKind::Greater
+            | TokenKind::GreaterEqual
+            | TokenKind::And
+            | TokenKind::Or
+            | TokenKind::Not
+            | TokenKind::Between
+            | TokenKind::When
+            | TokenKind::Then
+            | TokenKind::Else
+    )
+}
+
+// True where a token is an arithmetic operator, by the kind of the token before it.
+fn is_operator(before: TokenKind, kind: TokenKind) -> bool {
+    match kind {
+        TokenKind::Plus
+        | TokenKind::Minus
+        | TokenKind::Star
+        | TokenKind::Slash
+        | TokenKind::Percent => true,
+        TokenKind::SignedMinus => !precedes_operand(before),
+        _ => false,
+    }
+}
+
+// True where a text has no more arithmetic operators than there is stack for.
+fn has_few_operators(tokens: &[Token<'_>]) -> bool {
+    let mut before = TokenKind::Open;
+    let mut count = 0_usize;
+    for token in tokens {
+        if is_operator(before, token.kind) {
+            count = count.saturating_add(1);
+        }
+        before = token.kind;
+    }
+    count <= MOST_OPERATORS
+}
 
 // The tree of a rule, of which no token is left over.
 #[tactic(auto, unfolding(row_grammar::specs::Limits::whole_at))]
@@ -39,7 +90,7 @@ fn whole<A: Heap, P: Parser<A>>(
 }
 
 /// The tree of a rule, read from the whole text with at most so many levels and runs of any length, without offsets; or
-/// nothing for any other text.
+/// nothing for any other text. A text of more than 1,024 arithmetic operators runs out of memory: the stack would not do for its tree.
 pub fn read_whole<A: Heap, P: Parser<A>>(
     alloc: A,
     source: &str,
@@ -48,6 +99,9 @@ pub fn read_whole<A: Heap, P: Parser<A>>(
     ensures { IfOk result (λ t. option_map P.view t ≡ read_of (whole_at grammar (length source.now) levels P.rule (words_without_offsets source.now))) }
 {
     let tokens = scan_without_offsets(alloc, source)?;
+    if !has_few_operators(tokens.as_slice()) {
+        return Err(AllocError);
+    }
     let reader = Reader {
         alloc,
         run_limit: source.len(),

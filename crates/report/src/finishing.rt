@@ -11,7 +11,7 @@ ghost use Rattle.report.specs.Answer.{answer};
 
 use crate::answering::Answering;
 use memory::{Failure, Heap, Items};
-use row_marks::Marks;
+use row_marks::{Marks, query_aggregates};
 use tuples::{Combo, World};
 use value::{Fault, Value};
 
@@ -31,4 +31,18 @@ pub fn finish_marked<A: Heap>(
         answering.take_marked(marks, combination)?;
     }
     answering.end()
+}
+
+/// The same without marks: each expression is evaluated on each combination.
+pub fn finish<A: Heap>(
+    alloc: A,
+    world: &World<'_, A>,
+    combinations: &[Combo<A>],
+) -> Result<Items<Items<Value<A>, A>, A>, Failure<Fault>>
+    ensures { let w = world_of world.now in (same : List Combination) → IsPermutation (map (combination_at w.tables) combinations.now) same →
+        Gives (λ rows. map (λ r. row_of r) rows) result (answer w.role w.query same) }
+{
+    let calls = query_aggregates(alloc, world.query)?;
+    let marks = Marks::new(alloc, world, calls.as_slice())?;
+    finish_marked(alloc, world, combinations, &marks)
 }

@@ -15,6 +15,6 @@ mod outcomes;
 mod ungrouped;
 
 pub use answering::Answering;
-pub use finishing::finish_marked;
+pub use finishing::{finish, finish_marked};
 pub use laws::{law_dropped_rows, law_hidden_rows, law_order_of_combinations};
 pub use order_laws::law_ordered_rows;

@@ -7,7 +7,7 @@ mod frames;
 mod script;
 
 use command_line::{
-    Format, QueryArguments, QueryText, Request, SessionArguments, VerifyArguments, read_arguments,
+    Format, QueryArguments, QueryText, Request, SessionArguments, VerifyArguments, read_words,
     unread_words,
 };
 use diagnostics::codes_text;
@@ -212,7 +212,7 @@ fn run(rt: &HostRuntime) -> Result<u8, ProgramError> {
     let alloc = rt.alloc();
     let words = command_words(rt, alloc)?;
     let texts = texts_of(alloc, words.as_slice())?;
-    match read_arguments(alloc, texts.as_slice())? {
+    match read_words(alloc, texts.as_slice())? {
         Request::Query(arguments) => Ok(query(
             rt,
             alloc,

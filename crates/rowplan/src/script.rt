@@ -4,7 +4,7 @@ use crate::failure::ProgramError;
 use crate::files::unreadable;
 use memory::Failure;
 use output::{Output, write_whole};
-use session_scripts::{Core, Event, ScriptLine, read_line, reply_text};
+use session_scripts::{Core, Event, ScriptLine, read_line, reply_text, without_end};
 use setup::SetupError;
 use std::alloc::Global;
 use std::io::{BufRead, BufReader, Write};
@@ -51,11 +51,6 @@ fn answer_line(
     let event = event_of(rt, alloc, line)?;
     let text = reply_text(alloc, core.step(event))?;
     write_text(rt, &text)
-}
-
-// A line without its LF.
-fn without_end(line: &str) -> &str {
-    line.strip_suffix('\n').unwrap_or(line)
 }
 
 /// Takes the events of a script, in order, and writes the reply to each. A line that is no event, a file that cannot be read and a

@@ -9,9 +9,11 @@
 
 mod events;
 mod line;
+mod script;
 mod texts;
 mod words;
 
 pub use line::{ScriptLine, read_line};
+pub use script::{Script, read_script, without_end};
 pub use session::{Core, Event};
-pub use texts::reply_text;
+pub use texts::{reply_text, write_reply};

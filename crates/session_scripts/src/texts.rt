@@ -1,11 +1,13 @@
 //! The texts of replies to events.
 
-ghost use Rattle.std.specs.Prelude.{◌≡◌, ◌++◌, ◌∷◌, [], IfOk, codes};
+ghost use Rattle.std.specs.Prelude.{◌≡◌, ◌++◌, ◌∷◌, [], Err, IfOk, OnOk, codes};
+ghost use Rattle.std.specs.Io.KnownBytes.{Appends};
 ghost use Rattle.session.specs.ReplyView.{reply_of};
 ghost use Rattle.tables.specs.LoadErrors.{load_error_line};
 ghost use Rattle.session_scripts.specs.ReplyTexts.{event_text, session_text};
 
-use memory::{Heap, push_number, push_str};
+use memory::{Failure, Heap, push_number, push_str};
+use output::{Failed, Out, write_whole};
 use session::Reply;
 use std::alloc::AllocError;
 use tables::{LoadError, push_load_error};
@@ -55,5 +57,21 @@ pub fn reply_text<A: Heap>(alloc: A, reply: Reply<A>) -> Result<Vec<u8, A>, Allo
             column,
             error,
         } => data_text(alloc, table.as_str(), column.as_str(), error),
+    }
+}
+
+/// Writes the text of the reply to an event, once it is whole. A writer that fails has taken a beginning of it, and none is flushed.
+pub fn write_reply<A: Heap, W: Out>(
+    alloc: A,
+    reply: Reply<A>,
+    out: &mut W,
+) -> Result<(), Failure<Failed>>
+    ensures whole { OnOk result (Appends (W.taken out.old) (W.taken out.new) (event_text (reply_of reply))) }
+    ensures memory { result ≡ Err Failure.OutOfMemory → W.taken out.new ≡ W.taken out.old }
+{
+    let text = reply_text(alloc, reply)?;
+    match write_whole(out, text.as_slice()) {
+        Ok(()) => Ok(()),
+        Err(failed) => Err(Failure::Error(failed)),
     }
 }

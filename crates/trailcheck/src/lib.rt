@@ -3,6 +3,7 @@
 
 mod access;
 mod admissible;
+mod allowance;
 mod entries;
 mod judging;
 mod laws;
@@ -12,6 +13,7 @@ mod replaying;
 mod same_term;
 mod setting;
 mod shapes;
+mod sizes;
 mod verdict;
 
 pub use access::{bounds, condition_at};

@@ -1,6 +1,5 @@
-use Rattle.std.proofs.Common.{◌∙◌, map, sym, ap}
+use Rattle.std.proofs.Common.{◌∙◌, sym, ap}
 use Rattle.plan_texts.specs.Reading.{plan_at}
-use Rattle.plan_texts.specs.View.{plan_entry_of}
 use Rattle.bound_plans.specs.Entries.{plan_entries}
 use Rattle.scope.specs.View.{entries_of}
 use Rattle.resolve.specs.View.{bound_of}
@@ -10,6 +9,6 @@ use Rattle.engine.proofs.auditing.audit_bound.Goals as goal
 
 pub returns-in-Ok : goal.returns-in-Ok
 returns-in-Ok g c =
-    let entries = ap (map plan_entry_of) c.as_slice-2.ensures ∙ c.in_ok-entries.ensures ∙ ap (λ es. plan_entries (entries_of es)) c.as_slice.ensures in
+    let entries = ap (λ es. plan_entries (entries_of es)) c.as_slice.ensures in
     ap Judged c.in_ok-judged_plan-in-Ok.ensures
     ∙ ap (spec.audit_of c.args.catalog.now c.args.role.now (bound_of c.args.bound.now)) (sym c.in-Ok.ensures ∙ ap (λ es. plan_at es c.args.plan.now) entries)

@@ -6,7 +6,7 @@ use Rattle.scope.specs.View.{entries_of, entry_of}
 use Rattle.tuples.specs.View.{guard_of}
 use Rattle.stats.specs.View.{stats_of}
 use Rattle.trailcheck.specs.View.{setting_of}
-use Rattle.plan_texts.specs.View.{plan_entry_of, plan_of}
+use Rattle.plan_texts.specs.View.{plan_of}
 use Rattle.bound_plans.specs.Entries.{plan_entries}
 use Rattle.resolve.specs.View.{bound_of}
 use Rattle.engine.specs.Explained.{best_text, known}
@@ -44,8 +44,8 @@ returns g c =
     let statistics = ap (map (λ s. stats_of s.now)) c.deref-3.ensures.value ∙ gathered ∙ ap (λ s. known_statistics database b.entries s.frame) set ∙ known_of_each cat role database b.entries in
     let query = ap bound_query_of c.deref-2.ensures in
     let from = problem_is cat role b stats (setting_of c.in_ok-setting.setting) (map (λ s. stats_of s.now) c.deref-3.result.now) (bound_query_of c.deref-2.result.now) found.problem c.in_ok-found.ensures.problem set statistics query in
-    let names = ap (map plan_entry_of) c.as_slice-2.ensures ∙ c.in_ok-names.ensures ∙ ap (λ es. plan_entries (entries_of es)) c.as_slice-entries.ensures in
-    IfOk-weaker c.write_plan.result _ (λ v. v.items ≡ best_text cat role b stats)
-    (λ v h. h ∙ written_best cat role b stats found c.in_ok-plan.ensures.plan (c.in_ok-found.ensures.query ∙ query) from (entries_of c.as_slice-entries.result.now) c.as_slice.result.now (map plan_entry_of c.as_slice-2.result.now) (plan_of c.in_ok-plan.plan)
+    let names = ap (λ es. plan_entries (entries_of es)) c.as_slice-entries.ensures in
+    IfOk-weaker c.write_trail.result _ (λ v. v.items ≡ best_text cat role b stats)
+    (λ v h. h ∙ written_best cat role b stats found c.in_ok-plan.ensures.plan (c.in_ok-found.ensures.query ∙ query) from (entries_of c.as_slice-entries.result.now) c.as_slice.result.now (plan_entries (entries_of c.as_slice-entries.result.now)) (plan_of c.in_ok-plan.plan)
     (ap entries_of c.as_slice-entries.ensures) (c.as_slice.ensures ∙ ap (λ s. s.conditions) set) names c.in_ok-plan.ensures.value)
-    c.write_plan.ensures
+    c.write_trail.ensures

@@ -1,6 +1,6 @@
 use Rattle.std.proofs.lemmas.Result.{IfOk-weaker}
 use Rattle.command_line.proofs.Reading.{read}
-use Rattle.command_line.proofs.arguments.read_arguments.Goals as goal
+use Rattle.command_line.proofs.arguments.read_words.Goals as goal
 
 pub returns-clause-asked : goal.returns-clause-asked
 returns-clause-asked c =
