@@ -85,7 +85,7 @@ module _ (at : Setting) where
       let many = eqb-true (length ss) (length at.frame) parts.0 in
       inr (in_map Steps (lists_of (length at.frame) (steps at)) ss (in_lists (length at.frame) (steps at) ss many (steps_in [] ss parts.1)))
 
-  code_in : (code : Code) → is_admissible at code ≡ true → IsOneOf (codes at) code
+  pub code_in : (code : Code) → is_admissible at code ≡ true → IsOneOf (codes at) code
   code_in code h = in_filter (is_admissible at) (Empty ∷ map Steps (lists_of (length at.frame) (steps at))) code (listed code h) h
 
   -- ---- codes that a plan may have, with the same numbers, are the same

@@ -1,3 +1,4 @@
 pub mod Bests
+pub mod Existing
 pub mod Members
 pub mod Numbers

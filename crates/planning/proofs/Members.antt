@@ -18,7 +18,7 @@ in_lists (suc count) xs (y ∷ ys) many h =
 
 module _ {X : Type 0} (cmp : X → X → Ordering) where
   -- the least of a list is in it
-  least_is_in : (xs : List X) (x : X) → least cmp xs ≡ Some x → IsOneOf xs x
+  pub least_is_in : (xs : List X) (x : X) → least cmp xs ≡ Some x → IsOneOf xs x
   least_is_in [] x e = absurd (cc)
   least_is_in (y ∷ ys) x e = go (least cmp ys) e (least_is_in ys)
     where
@@ -29,6 +29,15 @@ module _ {X : Type 0} (cmp : X → X → Ordering) where
       go : (o : Option X) → lesser cmp (Some y) o ≡ Some x → ((z : X) → o ≡ Some z → IsOneOf ys z) → (y ≡ x) ⊎ IsOneOf ys x
       go None e rest = inl (cc)
       go (Some z) e rest = of_two z (is_gt (cmp y z)) e (rest z refl)
+
+  -- a list with a member has a least one
+  pub least_is_there : (xs : List X) (x : X) → IsOneOf xs x → (y : X) × (least cmp xs ≡ Some y)
+  least_is_there [] x h = absurd h
+  least_is_there (z ∷ xs) x h = go (least cmp xs)
+    where
+      go : (o : Option X) → (y : X) × (lesser cmp (Some z) o ≡ Some y)
+      go None = (z, refl)
+      go (Some y) = (cond (is_gt (cmp z y)) y z, refl)
 
   -- a member before which none comes is the least, where the order tells it from the others
   module _ (turned : (x y : X) → cmp x y ≡ Greater → cmp y x ≡ Less) (c : X) where

@@ -62,3 +62,7 @@ best p = least (by_cost p) (codes p.setting)
 -- a code before which none comes is the best
 abbrev pub LeastIsBest : Type 0
 LeastIsBest = (p : Problem) (code : Code) → is_admissible p.setting code ≡ true → IsLeast p (cost (estimates p) code) code → best p ≡ Some code
+
+-- every problem has a best code, which a plan may have
+abbrev pub BestIsThere : Type 0
+BestIsThere = (p : Problem) → (code : Code) × (best p ≡ Some code) × (is_admissible p.setting code ≡ true)

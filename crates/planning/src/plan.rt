@@ -9,7 +9,7 @@ ghost use Rattle.algebra.specs.View.{step_of};
 ghost use Rattle.trailcheck.specs.View.{setting_of};
 ghost use Rattle.rewrite.specs.Simplifying.{simplifying};
 ghost use Rattle.value.specs.Limits.{most_conjuncts, most_entries};
-ghost use Rattle.planning.specs.Best.{LeastIsBest};
+ghost use Rattle.planning.specs.Best.{BestIsThere, LeastIsBest};
 ghost use Rattle.planning.specs.LastSort as sorting;
 ghost use Rattle.planning.specs.Plans.{IsPlan};
 ghost use Rattle.planning.specs.Wanted as wanted;
@@ -30,6 +30,12 @@ use trailcheck::Setting;
 #[tactic(auto, using(crate::proofs::Bests::least_is_best))]
 pub fn law_least_is_best()
     ensures { LeastIsBest }
+{}
+
+/// Every problem has a best code, which a plan may have.
+#[tactic(auto, using(crate::proofs::Existing::best_is_there))]
+pub fn law_best_is_there()
+    ensures { BestIsThere }
 {}
 
 /// The plan of a query: of the codes that it may have the best by cost. Query, setting and code settle the trail by which the
