@@ -7,7 +7,7 @@ ghost use Rattle.row_terms.specs.View.{term_of};
 ghost use Rattle.algebra.specs.View.{step_of};
 ghost use Rattle.trailcheck.specs.Replays as spec;
 
-use crate::allowance::{MOST_ADDED, allowance_after};
+use crate::allowance::Allowance;
 use crate::limits::{MOST_STEPS, is_within_nodes};
 use crate::verdict::{Reason, Refusal};
 use algebra::{Step, apply};
@@ -58,7 +58,8 @@ fn stepped<A: Heap>(
     }
 }
 
-/// The term to which a trail leads, or where and why it stops. A trail that adds more conditions than the allowance runs out of memory.
+/// The term to which a trail leads, or where and why it stops. A trail that asks for more than the
+/// allowance runs out of memory.
 pub(crate) fn replay<A: Heap>(
     alloc: A,
     frame: &[Guard<A>],
@@ -68,13 +69,11 @@ pub(crate) fn replay<A: Heap>(
     ensures { Gives (λ t. term_of t) result (spec.replay (map guard_of frame.now) 1 (map step_of trail.now) (term_of written)) }
 {
     let mut term = written;
-    let mut allowance = MOST_ADDED;
+    let mut allowance = Allowance::new();
     for (i, step) in trail.iter().enumerate() {
+        allowance.compare(step, &term)?;
         term = stepped(alloc, frame, i as u64 + 1, step, term)?;
-        allowance = allowance_after(allowance, step, &term);
-        if allowance == 0 {
-            return Err(Failure::OutOfMemory);
-        }
+        allowance.add(step, &term)?;
     }
     Ok(term)
 }
