@@ -1,7 +1,7 @@
 //! How much the steps of a trail may add to the conditions of a term, and compare of them. No contract speaks of it: past it an audit
 //! runs out of memory.
 
-use crate::sizes::less_size;
+use crate::sizes::add_size;
 use algebra::{Rewrite, Step, rewrite_of};
 use expr::MovableExpr;
 use memory::Heap;
@@ -49,7 +49,9 @@ fn node_at<'t, A: Heap>(term: &'t Term<A>, path: &[Branch]) -> Option<&'t Term<A
 
 // The bytes of a condition.
 fn size<A: Heap>(condition: &MovableExpr<A>) -> u64 {
-    u64::MAX - less_size(u64::MAX, condition.expression())
+    let mut bytes = 0;
+    add_size(&mut bytes, condition.expression());
+    bytes
 }
 
 // The number of filters from a node downward without a gap.

@@ -10,80 +10,87 @@ const NODE_SIZE: u64 = 128;
 
 const LITERAL_SIZE: u64 = 64;
 
-fn less_literal<A: Heap>(number: u64, value: &Value<A>) -> u64 {
-    let rest = number.saturating_sub(LITERAL_SIZE);
-    match value {
-        Value::Text(text) => rest.saturating_sub(text.as_str().len() as u64),
-        Value::Null | Value::Int(_) | Value::Bool(_) => rest,
+fn add_literal<A: Heap>(bytes: &mut u64, value: &Value<A>) {
+    *bytes = bytes.saturating_add(LITERAL_SIZE);
+    if let Value::Text(text) = value {
+        *bytes = bytes.saturating_add(text.as_str().len() as u64);
     }
 }
 
-fn less_literals<A: Heap>(number: u64, values: &[Value<A>]) -> u64 {
-    let mut rest = number;
+fn add_literals<A: Heap>(bytes: &mut u64, values: &[Value<A>]) {
     for value in values {
-        rest = less_literal(rest, value);
+        add_literal(bytes, value);
     }
-    rest
 }
 
-/// A number less the bytes that a copy of the condition takes, or 0.
+/// Adds the bytes that a copy of an expression takes.
 #[cycle(size)]
-pub(crate) fn less_size<A: Heap>(number: u64, condition: &BoundExpr<A>) -> u64 {
-    let number = number.saturating_sub(NODE_SIZE);
-    match condition {
-        BoundExpr::Column(_) | BoundExpr::CurrentUser | BoundExpr::CountStar { .. } => number,
-        BoundExpr::Literal(value) => less_literal(number, value),
-        BoundExpr::Negate { operand, .. } => less_size(number, operand),
-        BoundExpr::Arithmetic { left, right, .. } => less_size(less_size(number, left), right),
-        BoundExpr::Comparison { left, right, .. } => less_size(less_size(number, left), right),
+pub(crate) fn add_size<A: Heap>(bytes: &mut u64, expression: &BoundExpr<A>) {
+    *bytes = bytes.saturating_add(NODE_SIZE);
+    match expression {
+        BoundExpr::Column(_) | BoundExpr::CurrentUser | BoundExpr::CountStar { .. } => {}
+        BoundExpr::Literal(value) => add_literal(bytes, value),
+        BoundExpr::Negate { operand, .. } => add_size(bytes, operand),
+        BoundExpr::Arithmetic { left, right, .. } => {
+            add_size(bytes, left);
+            add_size(bytes, right)
+        }
+        BoundExpr::Comparison { left, right, .. } => {
+            add_size(bytes, left);
+            add_size(bytes, right)
+        }
         BoundExpr::Between {
             operand,
             low,
             high,
             ..
         } => {
-            let rest = less_size(less_size(number, operand), low);
-            less_size(rest, high)
+            add_size(bytes, operand);
+            add_size(bytes, low);
+            add_size(bytes, high)
         }
         BoundExpr::In {
             values,
             operand,
             ..
-        } => { less_size(less_literals(number, values.as_slice()), operand) }
-        BoundExpr::IsNull { operand, .. } => less_size(number, operand),
-        BoundExpr::Not { operand, .. } => less_size(number, operand),
-        BoundExpr::And { members, .. } => less_sizes(number, members),
-        BoundExpr::Or { members, .. } => less_sizes(number, members),
-        BoundExpr::Cast { operand, .. } => less_size(number, operand),
+        } => {
+            add_literals(bytes, values.as_slice());
+            add_size(bytes, operand)
+        }
+        BoundExpr::IsNull { operand, .. } => add_size(bytes, operand),
+        BoundExpr::Not { operand, .. } => add_size(bytes, operand),
+        BoundExpr::And { members, .. } => add_sizes(bytes, members),
+        BoundExpr::Or { members, .. } => add_sizes(bytes, members),
+        BoundExpr::Cast { operand, .. } => add_size(bytes, operand),
         BoundExpr::Case {
             arms,
             otherwise,
             ..
         } => {
-            let rest = less_arms(number, arms);
+            add_arms(bytes, arms);
             match otherwise {
-                Some(value) => less_size(rest, value),
-                None => rest,
+                Some(value) => add_size(bytes, value),
+                None => {}
             }
         }
-        BoundExpr::Call { argument, .. } => less_size(number, argument),
+        // A condition of a term has no aggregate.
+        BoundExpr::Call { .. } => {}
     }
 }
 
+// Adds those of some expressions.
 #[cycle(size)]
-fn less_sizes<A: Heap>(number: u64, members: &[BoundExpr<A>]) -> u64 {
-    let mut rest = number;
+fn add_sizes<A: Heap>(bytes: &mut u64, members: &[BoundExpr<A>]) {
     for member in members {
-        rest = less_size(rest, member);
+        add_size(bytes, member);
     }
-    rest
 }
 
+// Adds those of the arms of a CASE.
 #[cycle(size)]
-fn less_arms<A: Heap>(number: u64, arms: &[BoundArm<A>]) -> u64 {
-    let mut rest = number;
+fn add_arms<A: Heap>(bytes: &mut u64, arms: &[BoundArm<A>]) {
     for arm in arms {
-        rest = less_size(less_size(rest, &arm.when), &arm.result);
+        add_size(bytes, &arm.when);
+        add_size(bytes, &arm.result);
     }
-    rest
 }
