@@ -40,6 +40,10 @@ listed=$(listed 8000 "'#'" 10)
 { printf 'cost 5\nfilter 1 (deal.owner IN (%s))\nfirst deal full\ntrail\n' "$listed"; repeated 4093 '10- . 0
 '; } > plan
 audit 'an IN of 8,000 texts, copied' plan "SELECT id FROM deal WHERE owner IN ($listed)"
+first=$(listed 640 "'#'" 10) second="'x'"
+{ printf 'cost 5\nfilter 1 (deal.owner IN (%s))\nfilter 2 (deal.owner IN (%s))\nfirst deal full\ntrail\n3 .\n' "$first, 'y'" "$first, $second"; repeated 1900 '10- . 0
+'; for _ in $(seq 1000); do printf '10- . 1901\n10 .\n'; done; } > plan
+audit 'a list of 640 compared with 1,900' plan "SELECT id FROM deal WHERE owner IN ($first, 'y') AND owner IN ($first, $second)"
 { printf 'cost 5\nfilter 1 (deal.id = 3)\nfirst deal full\ntrail\n'; repeated 2000 '10- . 0
 '; for _ in $(seq 400); do printf '3 %s\n' "$(repeated 1900 0)"; done; } > plan
 audit 'paths of 1,900 digits' plan 'SELECT id FROM deal WHERE id = 3'
