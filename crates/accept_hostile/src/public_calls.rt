@@ -16,8 +16,8 @@ use trailcheck::{Reason, Verdict};
 
 // A text, and its number of tokens or the offset of the first bad one.
 const TEXTS: &str = "\
- | 0
 SELECT id FROM deal | 4
+ | 0
 1.5 | 3
 'it''s' | 1
 id -1 | 3
@@ -124,8 +124,8 @@ fn trails_are_read_checked_and_written(rt: HostRuntime) -> Result<(), Fail> {
 
 // A script, with ` | ` between it, its number of lines before the first that is none, and the number of that one, or `end`.
 const SCRIPTS: &str = "\
- | 1 | 0 | end
 login alice | 1 | 1 | end
+ | 1 | 0 | end
 login alice~ | 1 | 1 | end
 login alice~~ | 1 | 1 | 2
 ~login alice | 1 | 0 | 1

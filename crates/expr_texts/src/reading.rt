@@ -26,39 +26,45 @@ const FILTER_LEVELS: usize = 512;
 /// The most arithmetic operators of a text. A sum has a level for each, which takes stack wherever its tree is walked or dropped.
 const MOST_OPERATORS: usize = 1024;
 
-// True where a sign that follows a token of that kind is that of a number, and no operator.
-fn precedes_operand(kind: TokenKind) -> bool {
+// True for the arithmetic signs.
+fn is_sign(kind: TokenKind) -> bool {
     matches!(
         kind,
-        TokenKind::Open
-            | TokenKind::Comma
-            | TokenKind::Equal
-            | TokenKind::NotEqual
-            | TokenKind::Less
-            | TokenKind::LessEqual
-            | TokenKind::Greater
-            | TokenKind::GreaterEqual
-            | TokenKind::And
-            | TokenKind::Or
-            | TokenKind::Not
-            | TokenKind::Between
-            | TokenKind::When
-            | TokenKind::Then
-            | TokenKind::Else
+        TokenKind::Plus
+            | TokenKind::Minus
+            | TokenKind::SignedMinus
+            | TokenKind::Star
+            | TokenKind::Slash
+            | TokenKind::Percent
     )
 }
 
-// True where a token is an arithmetic operator, by the kind of the token before it.
+// True where an operand comes after a token of that kind, so that a sign there is no operator between two.
+fn precedes_operand(kind: TokenKind) -> bool {
+    is_sign(kind)
+        || matches!(
+            kind,
+            TokenKind::Open
+                | TokenKind::Comma
+                | TokenKind::Equal
+                | TokenKind::NotEqual
+                | TokenKind::Less
+                | TokenKind::LessEqual
+                | TokenKind::Greater
+                | TokenKind::GreaterEqual
+                | TokenKind::And
+                | TokenKind::Or
+                | TokenKind::Not
+                | TokenKind::Between
+                | TokenKind::When
+                | TokenKind::Then
+                | TokenKind::Else
+        )
+}
+
+// True where a token is an arithmetic operator between two operands, by the kind of the token before it.
 fn is_operator(before: TokenKind, kind: TokenKind) -> bool {
-    match kind {
-        TokenKind::Plus
-        | TokenKind::Minus
-        | TokenKind::Star
-        | TokenKind::Slash
-        | TokenKind::Percent => true,
-        TokenKind::SignedMinus => !precedes_operand(before),
-        _ => false,
-    }
+    is_sign(kind) && !precedes_operand(before)
 }
 
 // True where a text has no more arithmetic operators than there is stack for.

@@ -13,3 +13,4 @@ mod LineTexts
 mod PlansBack
 mod ReadTexts
 mod AnyTexts
+mod FirstUnreadable

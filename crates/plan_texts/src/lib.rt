@@ -14,7 +14,9 @@ mod reading;
 mod steps;
 mod writing;
 
-pub use laws::{law_plans_read_back, law_read_is_text, law_texts_are_read};
+pub use laws::{
+    law_plans_read_back, law_read_is_text, law_texts_are_read, law_unreadable_line_is_first,
+};
 pub use parts::cut;
 pub use plan::{Plan, PlanEntry, SortColumn};
 pub use reading::read_plan;
