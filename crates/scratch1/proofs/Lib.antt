@@ -1,0 +1,10 @@
+pub mod Said
+pub mod SaidTexts
+pub mod Plain
+pub mod PlainRebuilt
+pub mod PlainInward
+pub mod SaidLevels
+pub mod PlainLists
+pub mod SaidPlain
+pub mod PlanningSaid
+pub mod SaidFilters
