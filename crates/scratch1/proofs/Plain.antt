@@ -29,11 +29,12 @@ abbrev pub AreArms : BoundArms → Type 0
 AreArms no_arm = ⊥
 AreArms (one_arm when result as_) = Unit {0}
 
-module _ (P : ColumnId → Type 0) (Q : Datum → Type 0) where
-  abbrev pub AreValues : List Datum → Type 0
-  AreValues [] = Unit {0}
-  AreValues (d ∷ ds) = Q d × AreValues ds
+-- the fact is known of each value
+abbrev pub AreValues : (Datum → Type 0) → List Datum → Type 0
+AreValues Q [] = Unit {0}
+AreValues Q (d ∷ ds) = Q d × AreValues Q ds
 
+module _ (P : ColumnId → Type 0) (Q : Datum → Type 0) where
   abbrev mutual
     pub IsPlain : BoundExpr → Type 0
     IsPlain (Column id) = P id
@@ -41,7 +42,7 @@ module _ (P : ColumnId → Type 0) (Q : Datum → Type 0) where
     IsPlain CurrentUser = Unit {0}
     IsPlain (Comparison op offset e f) = IsPlain e × IsPlain f
     IsPlain (Between negated offset e low high) = IsPlain e × IsPlain low × IsPlain high
-    IsPlain (In negated offset values e) = IsSome values × AreValues values × IsPlain e
+    IsPlain (In negated offset values e) = IsSome values × AreValues Q values × IsPlain e
     IsPlain (IsNull negated offset e) = IsPlain e
     IsPlain (Not offset e) = IsPlain e
     IsPlain (And offset es) = AreTwo es × ArePlain is_and es
