@@ -1,6 +1,6 @@
 -- Plain conditions stay plain without their offsets, and with their literals folded.
-use Rattle.std.proofs.Common.{◌≡◌, Bool, true, false, ◌&&◌, List, [], ◌∷◌, Option, Some, None, Result, Ok, Err, if◌then◌else◌, refl}
-use Rattle.value.specs.Datum.{Datum, null, int, text, bool}
+use Rattle.std.proofs.Common.{◌≡◌, Bool, true, false, ◌&&◌, List, [], Option, Some, None, Result, Ok, Err, if◌then◌else◌, refl}
+use Rattle.value.specs.Datum.{Datum, null, bool}
 use Rattle.value.specs.Conditions.{truth_at, at_truth}
 use Rattle.value.specs.Truths.{negated}
 use Rattle.value.specs.declared.order.Truth.{Truth}
@@ -15,7 +15,7 @@ use Rattle.predicates.proofs.Movables.{and_left, and_right}
 use Rattle.predicates.specs.Rebuilt.{rebuilt, all_rebuilt, arms_rebuilt, otherwise_rebuilt}
 use Rattle.predicates.specs.Folded.{is_literal, are_literal_arms, is_literal_otherwise, of_literals, nothing, ok_value, value_alone, literal_or, folded_node, folded}
 use Rattle.predicates.specs.Offsets.{without_offset, without_offsets}
-use Rattle.scratch1.proofs.Plain.{is_and, is_or, AreSome, AreTwo, AreArms, IsPlain, ArePlain, ArmsPlain, ElsePlain}
+use Rattle.audit_laws.proofs.Plain.{is_and, is_or, AreSome, AreTwo, AreArms, IsPlain, ArePlain, ArmsPlain, ElsePlain}
 
 -- ---- an expression made anew
 

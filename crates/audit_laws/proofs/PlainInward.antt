@@ -1,13 +1,13 @@
 -- Plain conditions stay plain with NOT carried inward.
-use Rattle.std.proofs.Common.{◌≡◌, ℕ, Bool, true, false, refl}
+use Rattle.std.proofs.Common.{ℕ, Bool, refl}
 use Rattle.value.specs.Datum.{Datum, null, bool}
 use Rattle.value.specs.Conditions.{truth_at}
 use Rattle.value.specs.Truths.{negated}
 use Rattle.expr.specs.declared.bound.ColumnId.{ColumnId}
-use Rattle.expr.specs.Bound.{BoundExpr, Column, Literal, CurrentUser, Negate, Arithmetic, Comparison, Between, In, IsNull, Not, And, Or, Cast, Case, CountStar, Call, BoundExprs, no_expr, one_expr}
+use Rattle.expr.specs.Bound.{BoundExpr, Literal, Not, And, Or, BoundExprs, no_expr, one_expr}
 use Rattle.predicates.specs.Inward.{before, and_members, or_members, and_before, or_before, inward, not_inward, and_inward, or_inward, not_and_inward, not_or_inward}
-use Rattle.scratch1.proofs.Plain.{is_and, is_or, AreSome, AreTwo, IsPlain, ArePlain}
-use Rattle.scratch1.proofs.PlainRebuilt.{truth_value}
+use Rattle.audit_laws.proofs.Plain.{is_and, is_or, AreSome, AreTwo, IsPlain, ArePlain}
+use Rattle.audit_laws.proofs.PlainRebuilt.{truth_value}
 
 -- ---- one list before another
 

@@ -1,5 +1,5 @@
 -- A said condition whose columns are of the entries is a filter with a text.
-use Rattle.std.proofs.Common.{◌≡◌, ℕ, zero, suc, ◌+◌, ◌<◌, length, Bool, true, false, ◌&&◌, if◌then◌else◌, List, [], ◌∷◌, ◌++◌, map, Option, Some, None, is_some, option_and_then, refl, sym, ap, ◌∙◌, arith}
+use Rattle.std.proofs.Common.{◌≡◌, ℕ, zero, suc, ◌+◌, ◌<◌, length, Bool, true, false, if◌then◌else◌, List, [], ◌∷◌, ◌++◌, map, Option, Some, is_some, option_and_then, refl, sym, ap, ◌∙◌, arith}
 use Rattle.std.specs.List.{All, AllByRecursion, IsDistinct, slice_get}
 use Rattle.std.specs.Str.{bytes_eq}
 use Rattle.std.proofs.lemmas.List.Elements.{All-head, All-tail}
@@ -17,15 +17,15 @@ use Rattle.scope.proofs.ByAlias.{same_names, other_names}
 use Rattle.algebra.specs.PlanningList.{planning_list}
 use Rattle.plan_texts.specs.Plans.{PlanEntry}
 use Rattle.plan_texts.specs.Columns as named_columns
-use Rattle.plan_texts.specs.Reading.{numbered_from, number_of, columns_from, columns_at, column_at, entry_at, is_found, IsFilter, AreAll}
-use Rattle.bound_plans.specs.Entries.{column_names, plan_entry, plan_entries}
+use Rattle.plan_texts.specs.Reading.{numbered_from, number_of, columns_from, column_at, entry_at, is_found, IsFilter, AreAll}
+use Rattle.bound_plans.specs.Entries.{column_names, plan_entries}
 use Rattle.bound_plans.specs.Found.{IsColumn, Unmistakable}
 use Rattle.bound_plans.specs.Named.{alias_of_entry, name_of_column, column_name, name_of, named, named_members, named_arms, named_otherwise}
 use Rattle.predicates.proofs.Keeping.{both}
-use Rattle.scratch1.proofs.Said.{IsSaid}
-use Rattle.scratch1.proofs.SaidPlain.{of_first, of_second}
-use Rattle.scratch1.proofs.SaidTexts.{said_text}
-use Rattle.scratch1.proofs.PlanningSaid.{IsSaidOf, planning_said_of}
+use Rattle.audit_laws.proofs.Said.{IsSaid}
+use Rattle.audit_laws.proofs.SaidPlain.{of_first, of_second}
+use Rattle.audit_laws.proofs.SaidTexts.{said_text}
+use Rattle.audit_laws.proofs.PlanningSaid.{IsSaidOf, planning_said_of}
 
 -- ---- the entry of an alias, and the column of a name
 

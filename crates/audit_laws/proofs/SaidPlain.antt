@@ -1,5 +1,5 @@
 -- Conditions that are written, with the names of their columns, are plain; and back.
-use Rattle.std.proofs.Common.{◌≡◌, Bool, true, false, List, [], ◌∷◌, ◌++◌, refl}
+use Rattle.std.proofs.Common.{◌≡◌, Bool, false, List, [], ◌∷◌, ◌++◌, refl}
 use Rattle.std.specs.List.{All, slice_get}
 use Rattle.std.proofs.lemmas.List.Elements.{All-nil, All-cons, All-head, All-tail, All-append}
 use Rattle.value.specs.Datum.{Datum}
@@ -10,8 +10,8 @@ use Rattle.scope.specs.Entry.{Entry}
 use Rattle.expr_texts.specs.Filters as written
 use Rattle.expr_texts.specs.Filters.{IsName, IsLiteral, AreLiterals, IsWritten, AreWritten, ArmsWritten, ElseWritten}
 use Rattle.bound_plans.specs.Named.{alias_of_entry, column_name, named, named_members, named_arms, named_otherwise}
-use Rattle.scratch1.proofs.Said.{IsText, AreTexts, HasUtf8, HaveUtf8, ArmsUtf8, ElseUtf8}
-use Rattle.scratch1.proofs.Plain.{is_and, is_or, AreSome, AreTwo, AreArms, AreValues, IsPlain, ArePlain, ArmsPlain, ElsePlain}
+use Rattle.audit_laws.proofs.Said.{IsText, AreTexts, HasUtf8, HaveUtf8, ArmsUtf8, ElseUtf8}
+use Rattle.audit_laws.proofs.Plain.{is_and, is_or, AreTwo, AreArms, AreValues, IsPlain, ArePlain, ArmsPlain, ElsePlain}
 
 -- of the elements of two lists
 module _ {X : Type 0} (P : X → Type 0) where

@@ -1,9 +1,9 @@
 -- Conditions of the operations that a text has: no arithmetic, no casts, no aggregates; ANDs and ORs of two members or more, of
 -- which none is itself such an AND or OR. A fact is known of each column, and one of each literal.
-use Rattle.std.proofs.Common.{◌≡◌, Bool, true, false, List, [], ◌∷◌, refl}
+use Rattle.std.proofs.Common.{◌≡◌, Bool, true, false, List, [], ◌∷◌}
 use Rattle.value.specs.Datum.{Datum}
 use Rattle.expr.specs.declared.bound.ColumnId.{ColumnId}
-use Rattle.expr.specs.Bound.{BoundExpr, Column, Literal, CurrentUser, Negate, Arithmetic, Comparison, Between, In, IsNull, Not, And, Or, Cast, Case, CountStar, Call, BoundExprs, no_expr, one_expr, BoundArms, no_arm, one_arm, BoundOtherwise, Nothing, Value}
+use Rattle.expr.specs.Bound.{BoundExpr, Column, Literal, CurrentUser, Comparison, Between, In, IsNull, Not, And, Or, Case, BoundExprs, no_expr, one_expr, BoundArms, no_arm, one_arm, BoundOtherwise, Nothing, Value}
 use Rattle.expr_texts.specs.Filters.{IsSome}
 
 abbrev pub is_and : BoundExpr → Bool

@@ -1,5 +1,5 @@
 -- The text of a condition is in UTF-8, where the literals of the condition are.
-use Rattle.std.proofs.Common.{◌≡◌, ℕ, pos, negsuc, ℤ, zero, suc, ◌+◌, ◌<◌, ◌==◌, nat_lt, Bool, true, false, if◌then◌else◌, List, [], ◌∷◌, ◌++◌, length, take, drop, get_or, codes, Option, Some, None, refl, sym, ap, ◌∙◌, subst, arith}
+use Rattle.std.proofs.Common.{◌≡◌, ℕ, pos, negsuc, ℤ, zero, suc, ◌+◌, ◌<◌, ◌==◌, nat_lt, Bool, true, false, if◌then◌else◌, List, [], ◌∷◌, ◌++◌, length, drop, get_or, codes, Option, Some, None, refl, sym, ap, ◌∙◌, subst, arith}
 use Rattle.std.specs.Prelude.{flat_map}
 use Rattle.std.specs.Fmt.{decimal, signed_decimal}
 use Rattle.std.specs.List.{list_all}
@@ -22,7 +22,7 @@ use Rattle.scope.specs.Entry.{Entry}
 use Rattle.expr_texts.specs.ExprTexts.{column_text, literal_text, literals_text, further_literals, sign_text, not_text, expr_text, members_text, further_text, arms_text, else_text}
 use Rattle.expr_texts.specs.Filters.{IsName, IsNamed, IsLiteral, AreLiterals, is_and, is_or, IsWritten, AreWritten, ArmsWritten, ElseWritten}
 use Rattle.bound_plans.specs.Named.{name_of, named, named_members, named_arms, named_otherwise}
-use Rattle.scratch1.proofs.Said.{IsText, AreTexts, HasUtf8, HaveUtf8, ArmsUtf8, ElseUtf8}
+use Rattle.audit_laws.proofs.Said.{IsText, AreTexts, HasUtf8, HaveUtf8, ArmsUtf8, ElseUtf8}
 
 -- ---- texts in ASCII
 

@@ -1,5 +1,5 @@
 -- The levels of a condition's text: no more without offsets, with NOT carried inward, and with the literals folded.
-use Rattle.std.proofs.Common.{◌≡◌, ℕ, suc, max, ◌≤◌, Bool, true, false, Option, Some, None, List, if◌then◌else◌, arith}
+use Rattle.std.proofs.Common.{ℕ, suc, max, ◌≤◌, Bool, true, false, Option, Some, None, List, if◌then◌else◌, arith}
 use Rattle.value.specs.Datum.{Datum}
 use Rattle.expr.specs.Bound.{BoundExpr, Column, Literal, CurrentUser, Negate, Arithmetic, Comparison, Between, In, IsNull, Not, And, Or, Cast, Case, CountStar, Call, BoundExprs, no_expr, one_expr, BoundArms, no_arm, one_arm, BoundOtherwise, Nothing, Value}
 use Rattle.scope.specs.Entry.{Entry}

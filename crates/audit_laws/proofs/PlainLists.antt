@@ -1,7 +1,7 @@
 -- The conditions that a query is planned with are plain and no deeper than those that it is written with.
-use Rattle.std.proofs.Common.{◌≡◌, ℕ, suc, max, ◌≤◌, Bool, true, false, List, [], ◌∷◌, ◌++◌, map, Option, Some, None, IfSome, option_and_then, option_map, if◌then◌else◌, arith}
+use Rattle.std.proofs.Common.{ℕ, suc, max, ◌≤◌, Bool, true, false, List, [], ◌∷◌, ◌++◌, map, Option, Some, None, IfSome, option_and_then, option_map, if◌then◌else◌, arith}
 use Rattle.std.specs.List.{All, flat_map}
-use Rattle.std.proofs.lemmas.List.Elements.{All-nil, All-cons, All-head, All-tail, All-append, All-push, All-map, All-weaker}
+use Rattle.std.proofs.lemmas.List.Elements.{All-nil, All-cons, All-head, All-tail, All-append, All-push}
 use Rattle.value.specs.Datum.{Datum, null, int, text, bool}
 use Rattle.value.specs.declared.operators.Comparison.TheVariants.{Equal}
 use Rattle.expr.specs.declared.bound.ColumnId.{ColumnId}
@@ -12,16 +12,15 @@ use Rattle.scope.specs.Entry.{Entry}
 use Rattle.expr_texts.specs.Filters.{levels, most_levels}
 use Rattle.bound_plans.specs.Named.{named, named_members}
 use Rattle.predicates.specs.Equalities.{column_equals, column_sides, literal_side, unless_null}
-use Rattle.predicates.specs.Folded.{folded}
 use Rattle.predicates.specs.Inward.{inward}
 use Rattle.predicates.specs.Offsets.{without_offsets}
 use Rattle.algebra.specs.Rules.{constant_of, other_column}
 use Rattle.algebra.specs.Runs.{stands_in}
 use Rattle.algebra.specs.PlanningList.{written_conditions, simplified, parts_of, simplified_parts, is_across, consequence, with_condition, with_any, with_each, with_all, with_consequences, with_others, without_repeats, is_too_long, planned, planning_list}
-use Rattle.scratch1.proofs.Plain.{is_and, IsPlain, ArePlain}
-use Rattle.scratch1.proofs.PlainRebuilt.{without_offsets_plain, folded_plain}
-use Rattle.scratch1.proofs.PlainInward.{inward_plain}
-use Rattle.scratch1.proofs.SaidLevels.{without_offsets_levels, folded_levels, inward_levels}
+use Rattle.audit_laws.proofs.Plain.{is_and, IsPlain, ArePlain}
+use Rattle.audit_laws.proofs.PlainRebuilt.{without_offsets_plain, folded_plain}
+use Rattle.audit_laws.proofs.PlainInward.{inward_plain}
+use Rattle.audit_laws.proofs.SaidLevels.{without_offsets_levels, folded_levels, inward_levels}
 
 first_below : (a b n : ℕ) → max a b ≤ n → a ≤ n
 first_below a b n h = omega arith

@@ -1,5 +1,5 @@
 -- The conditions that a query is planned with have texts that are read back, where those that it is written with have.
-use Rattle.std.proofs.Common.{◌≤◌, Bool, List, [], ◌∷◌, arith}
+use Rattle.std.proofs.Common.{◌≤◌, List, [], ◌∷◌, arith}
 use Rattle.std.specs.List.{All}
 use Rattle.std.proofs.lemmas.List.Elements.{All-nil, All-cons, All-weaker}
 use Rattle.expr.specs.declared.bound.ColumnId.{ColumnId}
@@ -10,9 +10,9 @@ use Rattle.expr.specs.Conjuncts.{movable_conjuncts}
 use Rattle.scope.specs.Entry.{Entry}
 use Rattle.expr_texts.specs.Filters.{filter_levels}
 use Rattle.algebra.specs.PlanningList.{planning_list}
-use Rattle.scratch1.proofs.Said.{IsSaid}
-use Rattle.scratch1.proofs.SaidPlain.{IsValue, IsColumnSaid, to_plain, written_back, utf8_back, columns_back}
-use Rattle.scratch1.proofs.PlainLists.{IsKept, planning_plain}
+use Rattle.audit_laws.proofs.Said.{IsSaid}
+use Rattle.audit_laws.proofs.SaidPlain.{IsValue, IsColumnSaid, to_plain, written_back, utf8_back, columns_back}
+use Rattle.audit_laws.proofs.PlainLists.{IsKept, planning_plain}
 
 module _ (entries : List Entry) where
   -- said, and with a fact that is known of each column
