@@ -1,1 +1,11 @@
 pub mod AcceptedPlans
+pub mod Plain
+pub mod PlainInward
+pub mod PlainLists
+pub mod PlainRebuilt
+pub mod PlanningSaid
+pub mod Said
+pub mod SaidFilters
+pub mod SaidLevels
+pub mod SaidPlain
+pub mod SaidTexts
