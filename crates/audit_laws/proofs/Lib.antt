@@ -1,1 +1,12 @@
 pub mod AcceptedPlans
+pub mod AdmittedSaid
+pub mod BoundConditions
+pub mod BoundTrees
+pub mod Derived
+pub mod Grown
+pub mod GrownEntries
+pub mod GrownQueries
+pub mod QuotedTokens
+pub mod Rules
+pub mod Said
+pub mod WordTokens
