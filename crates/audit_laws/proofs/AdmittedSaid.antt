@@ -54,11 +54,11 @@ at_index P (y ∷ ys) (suc i) x h e = at_index P ys i x (All-tail P y ys h) e
 -- what holds of each holds of what is found
 of_found : {X : Type 0} (P : X → Type 0) (p : X → Bool) (xs : List X) (x : X) → All P xs → find p xs ≡ Some x → P x
 of_found P p [] x h e = absurd (none_is_not x e)
-of_found {X} P p (y ∷ ys) x h e = go (p y) e
+of_found {X} P p (y ∷ ys) x h e = go (p y) (of_found P p ys x (All-tail P y ys h)) e
   where
-    go : (b : Bool) → cond b (Some y) (find p ys) ≡ Some x → P x
-    go true e = subst P (some_is y x e) (All-head P y ys h)
-    go false e = of_found P p ys x (All-tail P y ys h) e
+    go : (b : Bool) → (find p ys ≡ Some x → P x) → cond b (Some y) (find p ys) ≡ Some x → P x
+    go true more e = subst P (some_is y x e) (All-head P y ys h)
+    go false more e = more e
 
 -- ---- columns
 
@@ -82,9 +82,10 @@ column_named : (es : List Entry) → All HasAlias es → All EntryHasNames es �
     → find_column es scope c ≡ Ok id → IsNamed (name_of es id).table (name_of es id).name
 column_named es aliases names scope c id is =
     let there = found_there es scope c id is in
-    let its_name : IsName there.column.name = at_index (λ (c : Column). IsName c.name) there.entry.table.columns id.column there.column (at_index EntryHasNames es id.entry there.entry names there.entry_is) there.column_is in
-    (subst (λ o. IsName (alias_of_entry o)) (sym there.entry_is) (at_index HasAlias es id.entry there.entry aliases there.entry_is),
-    subst (λ o. IsName (column_name o id.column)) (sym there.entry_is) (subst (λ o. IsName (name_of_column o)) (sym there.column_is) its_name))
+    let its_name : IsName there.column.name = at_index (λ (c : Column). IsName c.name) there.entry.table.columns id.column there.column (at_index EntryHasNames es id.entry there.entry names there.entry_is) there.column_is in (
+      subst (λ o. IsName (alias_of_entry o)) (sym there.entry_is) (at_index HasAlias es id.entry there.entry aliases there.entry_is),
+      subst (λ o. IsName (column_name o id.column)) (sym there.entry_is) (subst (λ o. IsName (name_of_column o)) (sym there.column_is) its_name),
+    )
 
 -- ---- the query
 

@@ -56,8 +56,8 @@ module _ (entries : List Entry) where
   not_and x h = refl
 
   alone : (e : Expr) (x : BoundExpr) → is_and e ≡ false → IsSaidAs entries e x → IsGrown e → levels e ≤ filter_levels → All IsSaidIfMovable (conjuncts_of x)
-  alone e x no it g low =
-      subst (All IsSaidIfMovable) (sym (not_and x (it.same_and ∙ no))) (All-cons IsSaidIfMovable x [] (of_text e x it g low) (All-nil IsSaidIfMovable))
+  alone e x other it g low =
+      subst (All IsSaidIfMovable) (sym (not_and x (it.same_and ∙ other))) (All-cons IsSaidIfMovable x [] (of_text e x it g low) (All-nil IsSaidIfMovable))
 
   module _ (found : (scope : Scope) (c : ast.ColumnRef) (id : ColumnId) → find_column entries scope c ≡ Ok id → IsNamed (name_of entries id).table (name_of entries id).name) where
     members_said : (scope : Scope) (ms : Exprs) (xs : List BoundExpr) → bound_members entries scope ms ≡ Ok xs → AreGrown is_and ms → most_levels ms ≤ filter_levels → All IsSaidIfMovable xs

@@ -43,4 +43,3 @@ abbrev mutual
   pub ElseGrown : Otherwise → Type 0
   ElseGrown ast.Nothing = Unit {0}
   ElseGrown (ast.Value e) = IsGrown e
-

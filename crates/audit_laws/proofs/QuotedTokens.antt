@@ -70,6 +70,7 @@ characters_kept (c ∷ []) s = by_first (c == 39) refl
   where
     first : scalar c ≡ true
     first = (and_parts (scalar c) true s).0
+
     by_first : (t : Bool) → (c == 39) ≡ t → IsUtf8 (undoubled (encode c ++ []))
     by_first true e = subst (λ bs. IsUtf8 (undoubled (bs ++ []))) (sym (is_quote c (eqb-true c 39 e))) quote_utf8
     by_first false e = char_kept c [] first (eqb-false c 39 e) IsUtf8-nil
@@ -77,8 +78,10 @@ characters_kept (c ∷ d ∷ cs) s = by_both (c == 39) (d == 39) refl refl (char
   where
     parts : (scalar c ≡ true) × (all_scalars (d ∷ cs) ≡ true)
     parts = and_parts (scalar c) (all_scalars (d ∷ cs)) s
+
     more : (scalar d ≡ true) × (all_scalars cs ≡ true)
     more = and_parts (scalar d) (all_scalars cs) parts.1
+
     by_both : (t u : Bool) → (c == 39) ≡ t → (d == 39) ≡ u → IsUtf8 (undoubled (encode d ++ encode_utf8_all cs)) → IsUtf8 (undoubled (encode_utf8_all cs))
         → IsUtf8 (undoubled (encode c ++ (encode d ++ encode_utf8_all cs)))
     by_both false u e f next rest = char_kept c (encode d ++ encode_utf8_all cs) parts.0 (eqb-false c 39 e) next
