@@ -170,7 +170,7 @@ module _ (w d : ℕ) where
 
   pub name_yields : Yields name IsName
   unfolding name of
-  name_yields = of_made {P = λ t. IsName (name_of t)} (of_word (λ t g h. g.named h)) (λ t h. h)
+  name_yields = of_made IsGoodToken w d {P = λ t. IsName (name_of t)} (of_word IsGoodToken w d (λ t g h. g.named h)) (λ t h. h)
 
   abbrev ReadableAfter : ℕ × Datum → Type 0
   ReadableAfter p = IsReadable p.1
@@ -178,142 +178,142 @@ module _ (w d : ℕ) where
   word_yields : Yields word_literal ReadableAfter
   unfolding word_literal
   word_yields =
-      of_either (of_made of_any (λ t h. (tt, tt)))
-      (of_either (of_made of_any (λ t h. (tt, tt))) (of_made of_any (λ t h. (tt, tt))))
+      of_either IsGoodToken w d (of_made IsGoodToken w d (of_any IsGoodToken w d) (λ t h. (tt, tt)))
+      (of_either IsGoodToken w d (of_made IsGoodToken w d (of_any IsGoodToken w d) (λ t h. (tt, tt))) (of_made IsGoodToken w d (of_any IsGoodToken w d) (λ t h. (tt, tt))))
 
   unsigned_yields : Yields unsigned_literal ReadableAfter
   unfolding unsigned_literal is
   unsigned_yields =
-      of_either (of_made of_any (λ t h. readable_number (pos t.number)))
-      (of_either (of_made {P = λ t. IsReadable (text (quoted_value t.bytes))} (of_word (λ t g h. g.quoted (same_true the_type tt t.kind Quoted h))) (λ t h. h)) word_yields)
+      of_either IsGoodToken w d (of_made IsGoodToken w d (of_any IsGoodToken w d) (λ t h. readable_number (pos t.number)))
+      (of_either IsGoodToken w d (of_made IsGoodToken w d {P = λ t. IsReadable (text (quoted_value t.bytes))} (of_word IsGoodToken w d (λ t g h. g.quoted (same_true the_type tt t.kind Quoted h))) (λ t h. h)) word_yields)
 
   literal_yields : Yields literal ReadableAfter
   unfolding literal
-  literal_yields = of_either (of_made of_any (λ p h. readable_number (neg_ℤ (pos p.1.number)))) unsigned_yields
+  literal_yields = of_either IsGoodToken w d (of_made IsGoodToken w d (of_any IsGoodToken w d) (λ p h. readable_number (neg_ℤ (pos p.1.number)))) unsigned_yields
 
   value_yields : Yields value IsReadable
   unfolding value
-  value_yields = of_either (of_made of_any (λ p h. readable_number (neg_ℤ (pos p.1.number)))) (of_made unsigned_yields (λ p h. h))
+  value_yields = of_either IsGoodToken w d (of_made IsGoodToken w d (of_any IsGoodToken w d) (λ p h. readable_number (neg_ℤ (pos p.1.number)))) (of_made IsGoodToken w d unsigned_yields (λ p h. h))
 
   values_yield : Yields value_list (SomeEach IsReadable)
   unfolding value_list
-  values_yield = of_listed value_yields (of_after value_yields)
+  values_yield = of_listed IsGoodToken w d value_yields (of_after IsGoodToken w d value_yields)
 
   module _ (deeper : (r : Nested) → Yields (inner r) Grown) where
     parenthesized_yields : Yields parenthesized Grown
     unfolding parenthesized
-    parenthesized_yields = of_made (of_nest (of_both (deeper an_expression) of_any)) (λ p h. h.0)
+    parenthesized_yields = of_made IsGoodToken w d (of_nest IsGoodToken w d (of_both IsGoodToken w d (deeper an_expression) (of_any IsGoodToken w d))) (λ p h. h.0)
 
     cast_yields : Yields cast Grown
     unfolding cast
-    cast_yields = of_made of_any (λ p h. tt)
+    cast_yields = of_made IsGoodToken w d (of_any IsGoodToken w d) (λ p h. tt)
 
     arm_yields : Yields arm ArmGrown
     unfolding arm
-    arm_yields = of_made (of_both (of_after (deeper an_expression)) (of_after (deeper an_expression))) (λ p h. h)
+    arm_yields = of_made IsGoodToken w d (of_both IsGoodToken w d (of_after IsGoodToken w d (deeper an_expression)) (of_after IsGoodToken w d (deeper an_expression))) (λ p h. h)
 
     else_yields : Yields otherwise ElseGrown
     unfolding otherwise
-    else_yields = of_either (of_made (of_after (deeper an_expression)) (λ e h. h)) (of_nothing tt)
+    else_yields = of_either IsGoodToken w d (of_made IsGoodToken w d (of_after IsGoodToken w d (deeper an_expression)) (λ e h. h)) (of_nothing IsGoodToken w d tt)
 
     case_yields : Yields case Grown
     unfolding case arms
     case_yields =
-        of_made (of_nest (of_both (of_listed arm_yields arm_yields) (of_both else_yields of_any)))
+        of_made IsGoodToken w d (of_nest IsGoodToken w d (of_both IsGoodToken w d (of_listed IsGoodToken w d arm_yields arm_yields) (of_both IsGoodToken w d else_yields (of_any IsGoodToken w d))))
         (λ p h. let arms_are = some_arms p.1.0 h.0 in (arms_are.0, arms_are.1, h.1.0))
 
     count_yields : Yields count Grown
     unfolding count
-    count_yields = of_made of_any (λ p h. counted_grown p.0 p.1)
+    count_yields = of_made IsGoodToken w d (of_any IsGoodToken w d) (λ p h. counted_grown p.0 p.1)
 
     aggregate_yields : Yields aggregate Grown
     unfolding aggregate
-    aggregate_yields = of_made of_any (λ p h. called_grown p.0 p.1)
+    aggregate_yields = of_made IsGoodToken w d (of_any IsGoodToken w d) (λ p h. called_grown p.0 p.1)
 
     column_yields : Yields plain_column Grown
     unfolding plain_column
-    column_yields = of_made of_any (λ p h. tt)
+    column_yields = of_made IsGoodToken w d (of_any IsGoodToken w d) (λ p h. tt)
 
     constant_yields : Yields constant Grown
     unfolding constant
-    constant_yields = of_either (of_made of_any (λ t h. tt)) (of_made literal_yields (λ p h. h))
+    constant_yields = of_either IsGoodToken w d (of_made IsGoodToken w d (of_any IsGoodToken w d) (λ t h. tt)) (of_made IsGoodToken w d literal_yields (λ p h. h))
 
     primary_yields : Yields primary Grown
     unfolding primary
     primary_yields =
-        of_either parenthesized_yields (of_either cast_yields (of_either case_yields (of_either column_yields
-        (of_either count_yields (of_either aggregate_yields constant_yields)))))
+        of_either IsGoodToken w d parenthesized_yields (of_either IsGoodToken w d cast_yields (of_either IsGoodToken w d case_yields (of_either IsGoodToken w d column_yields
+        (of_either IsGoodToken w d count_yields (of_either IsGoodToken w d aggregate_yields constant_yields)))))
 
     unary_yields : Yields unary Grown
     unfolding unary
-    unary_yields = of_either (of_made of_any (λ p h. tt)) primary_yields
+    unary_yields = of_either IsGoodToken w d (of_made IsGoodToken w d (of_any IsGoodToken w d) (λ p h. tt)) primary_yields
 
     product_yields : Yields product Grown
     unfolding product
-    product_yields = of_made (of_both unary_yields of_any) (λ p h. folded_grown p.0 p.1 h.0)
+    product_yields = of_made IsGoodToken w d (of_both IsGoodToken w d unary_yields (of_any IsGoodToken w d)) (λ p h. folded_grown p.0 p.1 h.0)
 
     sum_yields : Yields sum Grown
     unfolding sum
-    sum_yields = of_made (of_both product_yields of_any) (λ p h. folded_grown p.0 p.1 h.0)
+    sum_yields = of_made IsGoodToken w d (of_both IsGoodToken w d product_yields (of_any IsGoodToken w d)) (λ p h. folded_grown p.0 p.1 h.0)
 
     between_yields : Yields between RangeGrown
     unfolding between
-    between_yields = of_made (of_second (of_both sum_yields (of_after sum_yields))) (λ p h. h)
+    between_yields = of_made IsGoodToken w d (of_second IsGoodToken w d (of_both IsGoodToken w d sum_yields (of_after IsGoodToken w d sum_yields))) (λ p h. h)
 
     in_yields : Yields in_list RangeGrown
     unfolding in_list
-    in_yields = of_made (of_second (of_inside values_yield)) (λ p h. some_values p.1 h)
+    in_yields = of_made IsGoodToken w d (of_second IsGoodToken w d (of_inside IsGoodToken w d values_yield)) (λ p h. some_values p.1 h)
 
     range_yields : Yields range RangeGrown
     unfolding range
-    range_yields = of_either between_yields in_yields
+    range_yields = of_either IsGoodToken w d between_yields in_yields
 
     negated_yields : Yields negated_range RangeAfter
     unfolding negated_range
-    negated_yields = of_made (of_second range_yields) (λ p h. h)
+    negated_yields = of_made IsGoodToken w d (of_second IsGoodToken w d range_yields) (λ p h. h)
 
     tail_yields : Yields range_tail (If RangeAfter)
     unfolding range_tail
     tail_yields =
-        of_either (of_made negated_yields (λ p h. h))
-        (of_either (of_made between_yields (λ r h. h))
-        (of_either (of_made in_yields (λ r h. h)) (of_nothing tt)))
+        of_either IsGoodToken w d (of_made IsGoodToken w d negated_yields (λ p h. h))
+        (of_either IsGoodToken w d (of_made IsGoodToken w d between_yields (λ r h. h))
+        (of_either IsGoodToken w d (of_made IsGoodToken w d in_yields (λ r h. h)) (of_nothing IsGoodToken w d tt)))
 
     ranged_yields : Yields ranged_sum Grown
     unfolding ranged_sum
-    ranged_yields = of_made (of_both sum_yields tail_yields) (λ p h. ranged_grown p.0 p.1 h.0 h.1)
+    ranged_yields = of_made IsGoodToken w d (of_both IsGoodToken w d sum_yields tail_yields) (λ p h. ranged_grown p.0 p.1 h.0 h.1)
 
     compared_yields : Yields compared_with GrownAfter
     unfolding compared_with
-    compared_yields = of_second ranged_yields
+    compared_yields = of_second IsGoodToken w d ranged_yields
 
     comparison_yields : Yields comparison Grown
     unfolding comparison
-    comparison_yields = of_made (of_both ranged_yields (of_maybe compared_yields)) (λ p h. compared_grown p.0 p.1 h.0 h.1)
+    comparison_yields = of_made IsGoodToken w d (of_both IsGoodToken w d ranged_yields (of_maybe IsGoodToken w d compared_yields)) (λ p h. compared_grown p.0 p.1 h.0 h.1)
 
     null_test_yields : Yields null_test Grown
     unfolding null_test
-    null_test_yields = of_made (of_both comparison_yields of_any) (λ p h. tested_grown p.0 p.1 h.0)
+    null_test_yields = of_made IsGoodToken w d (of_both IsGoodToken w d comparison_yields (of_any IsGoodToken w d)) (λ p h. tested_grown p.0 p.1 h.0)
 
     negation_yields : Yields negation Grown
     unfolding negation
-    negation_yields = of_either (of_made (of_nest (deeper a_negation)) (λ p h. h)) null_test_yields
+    negation_yields = of_either IsGoodToken w d (of_made IsGoodToken w d (of_nest IsGoodToken w d (deeper a_negation)) (λ p h. h)) null_test_yields
 
     and_operand_yields : Yields and_operand GrownAfter
     unfolding and_operand
-    and_operand_yields = of_second negation_yields
+    and_operand_yields = of_second IsGoodToken w d negation_yields
 
     conjunction_yields : Yields conjunction Grown
     unfolding conjunction
-    conjunction_yields = of_made (of_both negation_yields (of_many and_operand_yields)) (λ p h. and_grown p.0 p.1 h.0 h.1)
+    conjunction_yields = of_made IsGoodToken w d (of_both IsGoodToken w d negation_yields (of_many IsGoodToken w d and_operand_yields)) (λ p h. and_grown p.0 p.1 h.0 h.1)
 
     or_operand_yields : Yields or_operand GrownAfter
     unfolding or_operand
-    or_operand_yields = of_second conjunction_yields
+    or_operand_yields = of_second IsGoodToken w d conjunction_yields
 
     expression_yields : Yields expression Grown
     unfolding expression
-    expression_yields = of_made (of_both conjunction_yields (of_many or_operand_yields)) (λ p h. or_grown p.0 p.1 h.0 h.1)
+    expression_yields = of_made IsGoodToken w d (of_both IsGoodToken w d conjunction_yields (of_many IsGoodToken w d or_operand_yields)) (λ p h. or_grown p.0 p.1 h.0 h.1)
 
     nested_yields : (r : Nested) → Yields (rule r) Grown
     nested_yields an_expression = expression_yields

@@ -57,56 +57,56 @@ Yields f P = Makes IsGoodToken run_limit depth_limit f P
 condition_yields : Yields condition IsGrownCondition
 unfolding condition
 condition_yields =
-    of_made {P = λ x. IsGrown x.1 × (levels x.1 ≤ filter_levels)}
+    of_made IsGoodToken run_limit depth_limit {P = λ x. IsGrown x.1 × (levels x.1 ≤ filter_levels)}
     (record { holds = λ ts t us s g. ((expressions_grown run_limit depth_limit).holds ts t us s g, queries_fit ts us t.0 t.1 s) })
     (λ p h. record { grown = h.0; shallow = h.1 })
 
 alias_yields : Yields table_alias (If IsName)
 unfolding table_alias
 alias_yields =
-    of_either
-    (of_made (of_after (name_yields run_limit depth_limit)) (λ n h. h))
-    (of_maybe (name_yields run_limit depth_limit))
+    of_either IsGoodToken run_limit depth_limit
+    (of_made IsGoodToken run_limit depth_limit (of_after IsGoodToken run_limit depth_limit (name_yields run_limit depth_limit)) (λ n h. h))
+    (of_maybe IsGoodToken run_limit depth_limit (name_yields run_limit depth_limit))
 
 table_yields : Yields table_ref IsGrownTable
 unfolding table_ref of
 table_yields =
-    of_made
-    (of_both {P = λ t. IsName (name_of t)} (of_word (λ t g h. g.named h)) alias_yields)
+    of_made IsGoodToken run_limit depth_limit
+    (of_both IsGoodToken run_limit depth_limit {P = λ t. IsName (name_of t)} (of_word IsGoodToken run_limit depth_limit (λ t g h. g.named h)) alias_yields)
     (λ p h. record { alias = h.1; table = h.0 })
 
 on_yields : Yields on_condition IsGrownCondition
 unfolding on_condition
-on_yields = of_after condition_yields
+on_yields = of_after IsGoodToken run_limit depth_limit condition_yields
 
 plain_yields : Yields plain_join IsGrownJoin
 unfolding plain_join
-plain_yields = of_made (of_after (of_both table_yields on_yields)) (λ p h. h)
+plain_yields = of_made IsGoodToken run_limit depth_limit (of_after IsGoodToken run_limit depth_limit (of_both IsGoodToken run_limit depth_limit table_yields on_yields)) (λ p h. h)
 
 join_yields : Yields join IsGrownJoin
 unfolding join
 join_yields =
-    of_either
-    (of_made (of_after (of_after table_yields)) (λ t h. h))
-    (of_either (of_after plain_yields) plain_yields)
+    of_either IsGoodToken run_limit depth_limit
+    (of_made IsGoodToken run_limit depth_limit (of_after IsGoodToken run_limit depth_limit (of_after IsGoodToken run_limit depth_limit table_yields)) (λ t h. h))
+    (of_either IsGoodToken run_limit depth_limit (of_after IsGoodToken run_limit depth_limit plain_yields) plain_yields)
 
 item_yields : Yields from_item IsGrownItem
 unfolding from_item join_list
 item_yields =
-    of_made (of_both table_yields (of_many join_yields))
+    of_made IsGoodToken run_limit depth_limit (of_both IsGoodToken run_limit depth_limit table_yields (of_many IsGoodToken run_limit depth_limit join_yields))
     (λ p h. record { first = h.0; joins = h.1 })
 
 from_yields : Yields from (SomeEach IsGrownItem)
 unfolding from
-from_yields = of_listed item_yields (of_after item_yields)
+from_yields = of_listed IsGoodToken run_limit depth_limit item_yields (of_after IsGoodToken run_limit depth_limit item_yields)
 
 filter_yields : Yields filter (If IsGrownCondition)
 unfolding filter
-filter_yields = of_maybe (of_after condition_yields)
+filter_yields = of_maybe IsGoodToken run_limit depth_limit (of_after IsGoodToken run_limit depth_limit condition_yields)
 
 clauses_yields : Yields clauses (λ c. If IsGrownCondition c.filter)
 unfolding clauses
-clauses_yields = of_made (of_both filter_yields of_any) (λ p h. h.0)
+clauses_yields = of_made IsGoodToken run_limit depth_limit (of_both IsGoodToken run_limit depth_limit filter_yields (of_any IsGoodToken run_limit depth_limit)) (λ p h. h.0)
 
 each_of_some : (items : List FromItem) → SomeEach IsGrownItem items → Each IsGrownItem items
 each_of_some [] h = tt
@@ -115,9 +115,9 @@ each_of_some (f ∷ items) h = h
 query_yields : Yields query IsGrownQuery
 unfolding query
 query_yields =
-    of_made
-    (of_after
-    (of_second (of_after (of_both from_yields clauses_yields))))
+    of_made IsGoodToken run_limit depth_limit
+    (of_after IsGoodToken run_limit depth_limit
+    (of_second IsGoodToken run_limit depth_limit (of_after IsGoodToken run_limit depth_limit (of_both IsGoodToken run_limit depth_limit from_yields clauses_yields))))
     (λ p h. record { from = each_of_some p.1.0 h.0; filter = h.1 })
 
 -- ---- a text
