@@ -8,34 +8,34 @@ use Rattle.expr_texts.specs.Filters.{IsWritten, levels, filter_levels}
 use Rattle.bound_plans.specs.Named.{named}
 
 -- a text in UTF-8, or a value that is no text
-abbrev pub IsText : Datum → Type 0
-IsText null = Unit {0}
-IsText (int n) = Unit {0}
-IsText (text t) = IsUtf8 t
-IsText (bool b) = Unit {0}
+abbrev pub IsUtf8Datum : Datum → Type 0
+IsUtf8Datum null = Unit {0}
+IsUtf8Datum (int n) = Unit {0}
+IsUtf8Datum (text t) = IsUtf8 t
+IsUtf8Datum (bool b) = Unit {0}
 
 -- such values
-abbrev pub AreTexts : List Datum → Type 0
-AreTexts [] = Unit {0}
-AreTexts (d ∷ ds) = IsText d × AreTexts ds
+abbrev pub AreUtf8 : List Datum → Type 0
+AreUtf8 [] = Unit {0}
+AreUtf8 (d ∷ ds) = IsUtf8Datum d × AreUtf8 ds
 
 abbrev mutual
   -- each text literal of the condition is in UTF-8
   pub HasUtf8 : BoundExpr → Type 0
   HasUtf8 (Column id) = Unit {0}
-  HasUtf8 (Literal d) = IsText d
+  HasUtf8 (Literal d) = IsUtf8Datum d
   HasUtf8 CurrentUser = Unit {0}
   HasUtf8 (Negate offset e) = HasUtf8 e
   HasUtf8 (Arithmetic op offset e f) = HasUtf8 e × HasUtf8 f
   HasUtf8 (Comparison op offset e f) = HasUtf8 e × HasUtf8 f
   HasUtf8 (Between negated offset e low high) = HasUtf8 e × HasUtf8 low × HasUtf8 high
-  HasUtf8 (In negated offset values e) = AreTexts values × HasUtf8 e
+  HasUtf8 (In negated offset values e) = AreUtf8 values × HasUtf8 e
   HasUtf8 (IsNull negated offset e) = HasUtf8 e
   HasUtf8 (Not offset e) = HasUtf8 e
   HasUtf8 (And offset es) = HaveUtf8 es
   HasUtf8 (Or offset es) = HaveUtf8 es
   HasUtf8 (Cast offset to e) = HasUtf8 e
-  HasUtf8 (Case offset as_ o) = ArmsUtf8 as_ × ElseUtf8 o
+  HasUtf8 (Case offset as_ o) = ArmsHaveUtf8 as_ × ElseHasUtf8 o
   HasUtf8 (CountStar offset) = Unit {0}
   HasUtf8 (Call f offset e) = HasUtf8 e
 
@@ -44,13 +44,13 @@ abbrev mutual
   HaveUtf8 no_expr = Unit {0}
   HaveUtf8 (one_expr e es) = HasUtf8 e × HaveUtf8 es
 
-  pub ArmsUtf8 : BoundArms → Type 0
-  ArmsUtf8 no_arm = Unit {0}
-  ArmsUtf8 (one_arm when result as_) = HasUtf8 when × HasUtf8 result × ArmsUtf8 as_
+  pub ArmsHaveUtf8 : BoundArms → Type 0
+  ArmsHaveUtf8 no_arm = Unit {0}
+  ArmsHaveUtf8 (one_arm when result as_) = HasUtf8 when × HasUtf8 result × ArmsHaveUtf8 as_
 
-  pub ElseUtf8 : BoundOtherwise → Type 0
-  ElseUtf8 Nothing = Unit {0}
-  ElseUtf8 (Value e) = HasUtf8 e
+  pub ElseHasUtf8 : BoundOtherwise → Type 0
+  ElseHasUtf8 Nothing = Unit {0}
+  ElseHasUtf8 (Value e) = HasUtf8 e
 
 -- a condition that has a text which is read back: its tree with the columns named
 pub record IsSaid (entries : List Entry) (e : BoundExpr) : Type 0 where

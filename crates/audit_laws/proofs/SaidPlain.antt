@@ -10,7 +10,7 @@ use Rattle.scope.specs.Entry.{Entry}
 use Rattle.expr_texts.specs.Filters as written
 use Rattle.expr_texts.specs.Filters.{IsName, IsLiteral, AreLiterals, IsWritten, AreWritten, ArmsWritten, ElseWritten}
 use Rattle.bound_plans.specs.Named.{alias_of_entry, column_name, named, named_members, named_arms, named_otherwise}
-use Rattle.audit_laws.proofs.Said.{IsText, AreTexts, HasUtf8, HaveUtf8, ArmsUtf8, ElseUtf8}
+use Rattle.audit_laws.proofs.Said.{IsUtf8Datum, AreUtf8, HasUtf8, HaveUtf8, ArmsHaveUtf8, ElseHasUtf8}
 use Rattle.audit_laws.proofs.Plain.{is_and, is_or, AreTwo, AreArms, AreValues, IsPlain, ArePlain, ArmsPlain, ElsePlain}
 
 -- of the elements of two lists
@@ -25,9 +25,9 @@ module _ {X : Type 0} (P : X → Type 0) where
 
 -- a literal that a text can have, in UTF-8 if it is a text
 abbrev pub IsValue : Datum → Type 0
-IsValue d = IsLiteral d × IsText d
+IsValue d = IsLiteral d × IsUtf8Datum d
 
-values_of : (ds : List Datum) → AreLiterals ds → AreTexts ds → AreValues IsValue ds
+values_of : (ds : List Datum) → AreLiterals ds → AreUtf8 ds → AreValues IsValue ds
 values_of [] l u = tt
 values_of (d ∷ ds) l u = ((l.0, u.0), values_of ds l.1 u.1)
 
@@ -35,7 +35,7 @@ literals_of : (ds : List Datum) → AreValues IsValue ds → AreLiterals ds
 literals_of [] h = tt
 literals_of (d ∷ ds) h = (h.0.0, literals_of ds h.1)
 
-texts_of : (ds : List Datum) → AreValues IsValue ds → AreTexts ds
+texts_of : (ds : List Datum) → AreValues IsValue ds → AreUtf8 ds
 texts_of [] h = tt
 texts_of (d ∷ ds) h = (h.0.1, texts_of ds h.1)
 
@@ -117,13 +117,13 @@ module _ (entries : List Entry) (C : ColumnId → Type 0) where
     ors_plain no_expr w u c = tt
     ors_plain (one_expr e es) w u c = (no_or e w.0, to_plain e w.1 u.0 (of_first C (columns e) (all_columns es) c), ors_plain es w.2 u.1 (of_second C (columns e) (all_columns es) c))
 
-    arms_plain : (as_ : BoundArms) → ArmsWritten (named_arms entries as_) → ArmsUtf8 as_ → All C (arms_columns as_) → ArmsPlain IsColumnSaid IsValue as_
+    arms_plain : (as_ : BoundArms) → ArmsWritten (named_arms entries as_) → ArmsHaveUtf8 as_ → All C (arms_columns as_) → ArmsPlain IsColumnSaid IsValue as_
     arms_plain no_arm w u c = tt
     arms_plain (one_arm when result as_) w u c =
         let rest = of_second C (columns when) (columns result ++ arms_columns as_) c in
         (to_plain when w.0 u.0 (of_first C (columns when) (columns result ++ arms_columns as_) c), to_plain result w.1 u.1 (of_first C (columns result) (arms_columns as_) rest), arms_plain as_ w.2 u.2 (of_second C (columns result) (arms_columns as_) rest))
 
-    else_plain : (o : BoundOtherwise) → ElseWritten (named_otherwise entries o) → ElseUtf8 o → All C (otherwise_columns o) → ElsePlain IsColumnSaid IsValue o
+    else_plain : (o : BoundOtherwise) → ElseWritten (named_otherwise entries o) → ElseHasUtf8 o → All C (otherwise_columns o) → ElsePlain IsColumnSaid IsValue o
     else_plain Nothing w u c = tt
     else_plain (Value e) w u c = to_plain e w u c
 
@@ -187,11 +187,11 @@ module _ (entries : List Entry) (C : ColumnId → Type 0) where
     all_utf8 merged no_expr h = tt
     all_utf8 merged (one_expr e es) h = (utf8_back e h.1, all_utf8 merged es h.2)
 
-    arms_utf8 : (as_ : BoundArms) → ArmsPlain IsColumnSaid IsValue as_ → ArmsUtf8 as_
+    arms_utf8 : (as_ : BoundArms) → ArmsPlain IsColumnSaid IsValue as_ → ArmsHaveUtf8 as_
     arms_utf8 no_arm h = tt
     arms_utf8 (one_arm when result as_) h = (utf8_back when h.0, utf8_back result h.1, arms_utf8 as_ h.2)
 
-    else_utf8 : (o : BoundOtherwise) → ElsePlain IsColumnSaid IsValue o → ElseUtf8 o
+    else_utf8 : (o : BoundOtherwise) → ElsePlain IsColumnSaid IsValue o → ElseHasUtf8 o
     else_utf8 Nothing h = tt
     else_utf8 (Value e) h = utf8_back e h
 

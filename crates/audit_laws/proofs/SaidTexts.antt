@@ -22,7 +22,7 @@ use Rattle.scope.specs.Entry.{Entry}
 use Rattle.expr_texts.specs.ExprTexts.{column_text, literal_text, literals_text, further_literals, sign_text, not_text, expr_text, members_text, further_text, arms_text, else_text}
 use Rattle.expr_texts.specs.Filters.{IsName, IsNamed, IsLiteral, AreLiterals, is_and, is_or, IsWritten, AreWritten, ArmsWritten, ElseWritten}
 use Rattle.bound_plans.specs.Named.{name_of, named, named_members, named_arms, named_otherwise}
-use Rattle.audit_laws.proofs.Said.{IsText, AreTexts, HasUtf8, HaveUtf8, ArmsUtf8, ElseUtf8}
+use Rattle.audit_laws.proofs.Said.{IsUtf8Datum, AreUtf8, HasUtf8, HaveUtf8, ArmsHaveUtf8, ElseHasUtf8}
 
 -- ---- texts in ASCII
 
@@ -96,18 +96,18 @@ whole done (p ∷ ps) u h = whole (done ++ p) ps (IsUtf8-append done p u h.0) h.
 
 -- ---- literals and signs
 
-literal_in_utf8 : (d : Datum) → IsLiteral d → IsText d → IsUtf8 (literal_text d)
+literal_in_utf8 : (d : Datum) → IsLiteral d → IsUtf8Datum d → IsUtf8 (literal_text d)
 literal_in_utf8 null l u = low (codes "NULL") refl
 literal_in_utf8 (int n) l u = number_text n l
 literal_in_utf8 (text t) l u = quoted_text t u
 literal_in_utf8 (bool true) l u = low (codes "TRUE") refl
 literal_in_utf8 (bool false) l u = low (codes "FALSE") refl
 
-further_in_utf8 : (ds : List Datum) → AreLiterals ds → AreTexts ds → IsUtf8 (further_literals ds)
+further_in_utf8 : (ds : List Datum) → AreLiterals ds → AreUtf8 ds → IsUtf8 (further_literals ds)
 further_in_utf8 [] l u = IsUtf8-nil
 further_in_utf8 (d ∷ ds) l u = whole (codes ", ") (literal_text d ∷ further_literals ds ∷ []) (low (codes ", ") refl) (literal_in_utf8 d l.0 u.0, (further_in_utf8 ds l.1 u.1, tt))
 
-literals_in_utf8 : (ds : List Datum) → AreLiterals ds → AreTexts ds → IsUtf8 (literals_text ds)
+literals_in_utf8 : (ds : List Datum) → AreLiterals ds → AreUtf8 ds → IsUtf8 (literals_text ds)
 literals_in_utf8 [] l u = IsUtf8-nil
 literals_in_utf8 (d ∷ ds) l u = IsUtf8-append (literal_text d) (further_literals ds) (literal_in_utf8 d l.0 u.0) (further_in_utf8 ds l.1 u.1)
 
@@ -174,12 +174,12 @@ module _ (entries : List Entry) where
     further_members_in_utf8 word is merged (one_expr e es) w u =
         whole word (text_at e ∷ further_text word (named_members entries es) ∷ []) is (said_text e w.1 u.0, (further_members_in_utf8 word is merged es w.2 u.1, tt))
 
-    arms_in_utf8 : (as_ : BoundArms) → ArmsWritten (named_arms entries as_) → ArmsUtf8 as_ → IsUtf8 (arms_text (named_arms entries as_))
+    arms_in_utf8 : (as_ : BoundArms) → ArmsWritten (named_arms entries as_) → ArmsHaveUtf8 as_ → IsUtf8 (arms_text (named_arms entries as_))
     arms_in_utf8 no_arm w u = IsUtf8-nil
     arms_in_utf8 (one_arm when result as_) w u =
         whole (codes " WHEN ") (text_at when ∷ codes " THEN " ∷ text_at result ∷ arms_text (named_arms entries as_) ∷ []) (low (codes " WHEN ") refl)
         (said_text when w.0 u.0, (low (codes " THEN ") refl, (said_text result w.1 u.1, (arms_in_utf8 as_ w.2 u.2, tt))))
 
-    else_in_utf8 : (o : BoundOtherwise) → ElseWritten (named_otherwise entries o) → ElseUtf8 o → IsUtf8 (else_text (named_otherwise entries o))
+    else_in_utf8 : (o : BoundOtherwise) → ElseWritten (named_otherwise entries o) → ElseHasUtf8 o → IsUtf8 (else_text (named_otherwise entries o))
     else_in_utf8 Nothing w u = IsUtf8-nil
     else_in_utf8 (Value e) w u = whole (codes " ELSE ") (text_at e ∷ []) (low (codes " ELSE ") refl) (said_text e w u, tt)

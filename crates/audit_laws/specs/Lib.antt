@@ -1,1 +1,2 @@
 pub mod AcceptedPlans
+pub mod ExplainedPlans
