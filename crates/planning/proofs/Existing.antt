@@ -1,7 +1,6 @@
 -- Every problem has a best code.
 use Rattle.std.proofs.Common.{◌≡◌, refl, Bool, true, false, not, ◌&&◌, ◌==◌, List, [], ◌∷◌, map, length}
 use Rattle.std.proofs.lemmas.Bool.{and_from, eq-eqb, not_from_false}
-use Rattle.expr.specs.declared.code.CodeStep.{CodeStep}
 use Rattle.expr.specs.Codes.{Code, Empty, Steps}
 use Rattle.trailcheck.specs.Admissible.{are_allowed_steps, is_admissible, is_refuted}
 use Rattle.trailcheck.specs.Settings.{Setting}

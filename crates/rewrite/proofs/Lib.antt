@@ -17,4 +17,5 @@ pub mod SimplifiedParts
 pub mod SimplifiedTerm
 pub mod SimplifyingSteps
 pub mod Sinking
+pub mod SmallSteps
 pub mod Tests

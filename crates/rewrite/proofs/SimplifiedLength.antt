@@ -51,13 +51,13 @@ length-adding known (Some e) i j = go (stands_in e known)
     go true = omega arith
     go false = omega (arith, length-append known (e ∷ []))
 
-length-adding_each : (known : List BoundExpr) (i : ℕ) (p : BoundExpr) (j : ℕ) (qs : List BoundExpr) → length (adding_each known i p j qs) + length known ≡ length (with_each known p qs)
+pub length-adding_each : (known : List BoundExpr) (i : ℕ) (p : BoundExpr) (j : ℕ) (qs : List BoundExpr) → length (adding_each known i p j qs) + length known ≡ length (with_each known p qs)
 length-adding_each known i p j [] = omega arith
 length-adding_each known i p j (q ∷ qs) =
     let new : List BoundExpr = with_any known (consequence p q) in
     omega (arith, length-append (adding known (consequence p q) i j) (adding_each new i p (suc j) qs), length-adding known (consequence p q) i j, length-adding_each new i p (suc j) qs)
 
-length-adding_all : (known : List BoundExpr) (i : ℕ) (ps qs : List BoundExpr) → length (adding_all known i ps qs) + length known ≡ length (with_all known ps qs)
+pub length-adding_all : (known : List BoundExpr) (i : ℕ) (ps qs : List BoundExpr) → length (adding_all known i ps qs) + length known ≡ length (with_all known ps qs)
 length-adding_all known i [] qs = omega arith
 length-adding_all known i (p ∷ ps) qs =
     let new : List BoundExpr = with_each known p qs in
@@ -75,7 +75,7 @@ length-dropping known (e ∷ es) = go (stands_in e known) (λ new. length-droppi
 
 -- ---- within the limits
 
-is_few : (es : List BoundExpr) → is_too_long es ≡ false → length es ≤ most_conjuncts
+pub is_few : (es : List BoundExpr) → is_too_long es ≡ false → length es ≤ most_conjuncts
 is_few es h = go (nat_le (length es) most_conjuncts) refl h
   where
     go : (b : Bool) → nat_le (length es) most_conjuncts ≡ b → not b ≡ false → length es ≤ most_conjuncts
