@@ -111,7 +111,7 @@ found_in name (x ∷ ts) t e = go (bytes_eq name x.name) (found_in name ts t) e
     go true rest e = (0, omega arith, some_is x t e)
     go false rest e = let it = rest e in (suc it.0, omega (arith, it.1), it.2)
 
-table_of : (cat : Catalog) (es : List Entry) (k : ℕ) (e : Entry) → AreTables cat es → slice_get es k ≡ Some e → table_named e.table.name cat ≡ Some e.table
+pub table_of : (cat : Catalog) (es : List Entry) (k : ℕ) (e : Entry) → AreTables cat es → slice_get es k ≡ Some e → table_named e.table.name cat ≡ Some e.table
 table_of cat [] k e h at = absurd (cc)
 table_of cat (x ∷ es) zero e h at = let same : x ≡ e = some_is x e at in subst (λ (x : Entry). table_named x.table.name cat ≡ Some x.table) same h.0
 table_of cat (x ∷ es) (suc k) e h at = table_of cat es k e h.1 at
