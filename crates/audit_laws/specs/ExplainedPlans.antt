@@ -1,8 +1,31 @@
 -- The plan that explains a text, and its audit.
-use Rattle.std.specs.List.{All}
+use Rattle.std.specs.Prelude.{◌≡◌, ◌<◌, ◌^◌, ℕ, List, All, map, Some, Ok}
+use Rattle.std.specs.Str.{IsUtf8}
+use Rattle.value.specs.Names.{Name}
+use Rattle.plan_laws.specs.Names.{AreNames}
+use Rattle.row_objects.specs.Objects.{Table}
+use Rattle.stats.specs.Statistics.{Stats, row_count}
+use Rattle.trailcheck.specs.declared.verdict.Verdict.TheVariants.{Accepted}
+use Rattle.plan_texts.specs.Plans.{Plan}
+use Rattle.plan_texts.specs.PlanTexts.{plan_text}
+use Rattle.bound_plans.specs.Entries.{plan_entries}
 use Rattle.catalog.specs.Catalog.{Catalog}
-use Rattle.expr_texts.specs.Filters.{IsName}
+use Rattle.catalog_laws.specs.WellFormed.{IsWellFormed}
+use Rattle.resolve.specs.Resolved.{Bound}
+use Rattle.analysis.specs.Analysis.{admitted}
+use Rattle.engine.specs.Audits.{Judged, audit}
+use Rattle.engine.specs.Explained.{best_plan, explained}
 
--- the columns of the tables have names of the grammar
-abbrev pub AreNames : Catalog → Type 0
-AreNames cat = All (λ t. All (λ c. IsName c.name) t.columns) cat.tables
+-- no table counts more rows than a number of 64 bits
+abbrev pub HasCounts : (Table → Stats) → Type 0
+HasCounts statistics = (t : Table) → row_count (statistics t) < 2 ^ 64
+
+-- the plan that explains an admitted text is accepted, by whatever statistics it was chosen
+abbrev pub ExplainedAreAccepted : Type 0
+ExplainedAreAccepted = (cat : Catalog) (statistics : Table → Stats) (role : Name) (text plan : List ℕ) → IsWellFormed cat → AreNames cat → HasCounts statistics → IsUtf8 text
+    → explained cat statistics role text ≡ Ok plan → audit cat role text plan ≡ Judged Accepted
+
+-- what explains an admitted text is the text of a plan: the one with the best code, which is always there
+abbrev pub ExplainedArePlans : Type 0
+ExplainedArePlans = (cat : Catalog) (statistics : Table → Stats) (role : Name) (text : List ℕ) (b : Bound) → admitted cat role text ≡ Ok b
+    → (p : Plan) × (best_plan cat role b (map (λ e. statistics e.table) b.entries) ≡ Some p) × (explained cat statistics role text ≡ Ok (plan_text (plan_entries b.entries) p))

@@ -3,4 +3,6 @@
 
 mod laws;
 
-pub use laws::law_accepted_plans_are_right;
+pub use laws::{
+    law_accepted_plans_are_right, law_explained_plans_are_accepted, law_explained_texts_are_plans,
+};

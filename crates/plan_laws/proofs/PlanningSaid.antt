@@ -10,9 +10,9 @@ use Rattle.expr.specs.Conjuncts.{movable_conjuncts}
 use Rattle.scope.specs.Entry.{Entry}
 use Rattle.expr_texts.specs.Filters.{filter_levels}
 use Rattle.algebra.specs.PlanningList.{planning_list}
-use Rattle.audit_laws.proofs.Said.{IsSaid}
-use Rattle.audit_laws.proofs.SaidPlain.{IsValue, IsColumnSaid, to_plain, written_back, utf8_back, columns_back}
-use Rattle.audit_laws.proofs.PlainLists.{IsKept, planning_plain}
+use Rattle.plan_laws.specs.Said.{IsSaid}
+use Rattle.plan_laws.proofs.SaidPlain.{IsValue, IsColumnSaid, to_plain, written_back, utf8_back, columns_back}
+use Rattle.plan_laws.proofs.PlainLists.{IsKept, planning_plain}
 
 module _ (entries : List Entry) where
   -- said, and with a fact that is known of each column

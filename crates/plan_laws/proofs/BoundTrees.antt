@@ -21,8 +21,8 @@ use Rattle.scope.proofs.Found.{first_given, pair_given}
 use Rattle.resolve.proofs.EntryTables.{given}
 use Rattle.bound_plans.specs.Named.{name_of, named, named_arms, named_members, named_otherwise}
 use Rattle.expr_texts.specs.Filters.{AreArms, AreLiterals, AreTwo, AreWritten, ArmsWritten, ElseWritten, IsNamed, IsWritten, arms_levels, else_levels, is_and, is_or, levels, most_levels}
-use Rattle.audit_laws.proofs.Said.{AreUtf8, ArmsHaveUtf8, ElseHasUtf8, HasUtf8, HaveUtf8}
-use Rattle.audit_laws.proofs.Grown.{AreGrown, AreReadable, ArmsGrown, ElseGrown, IsGrown}
+use Rattle.plan_laws.specs.Said.{AreUtf8, ArmsHaveUtf8, ElseHasUtf8, HasUtf8, HaveUtf8}
+use Rattle.plan_laws.proofs.Grown.{AreGrown, AreReadable, ArmsGrown, ElseGrown, IsGrown}
 
 -- ---- literals and members
 

@@ -22,10 +22,10 @@ use Rattle.bound_plans.specs.Entries.{column_names, plan_entries}
 use Rattle.bound_plans.specs.Found.{IsColumn, Unmistakable}
 use Rattle.bound_plans.specs.Named.{alias_of_entry, name_of_column, column_name, name_of, named, named_members, named_arms, named_otherwise}
 use Rattle.predicates.proofs.Keeping.{both}
-use Rattle.audit_laws.proofs.Said.{IsSaid}
-use Rattle.audit_laws.proofs.SaidPlain.{of_first, of_second}
-use Rattle.audit_laws.proofs.SaidTexts.{said_text}
-use Rattle.audit_laws.proofs.PlanningSaid.{IsSaidOf, planning_said_of}
+use Rattle.plan_laws.specs.Said.{IsSaid}
+use Rattle.plan_laws.proofs.SaidPlain.{of_first, of_second}
+use Rattle.plan_laws.proofs.SaidTexts.{said_text}
+use Rattle.plan_laws.proofs.PlanningSaid.{IsSaidOf, planning_said_of}
 
 -- ---- the entry of an alias, and the column of a name
 

@@ -19,8 +19,8 @@ use Rattle.resolve.specs.OrderBy.{output_key}
 use Rattle.resolve.specs.Resolved.{Bound, bound, bound_with, checked, ordered, unless_fault, with_order}
 use Rattle.resolve.proofs.EntryTables.{given}
 use Rattle.expr_texts.specs.Filters.{IsName}
-use Rattle.audit_laws.proofs.GrownQueries.{IsGrownCondition, IsGrownItem, IsGrownJoin, IsGrownQuery, IsGrownTable}
-use Rattle.audit_laws.proofs.Rules.{Each, If}
+use Rattle.plan_laws.proofs.GrownQueries.{IsGrownCondition, IsGrownItem, IsGrownJoin, IsGrownQuery, IsGrownTable}
+use Rattle.plan_laws.proofs.Rules.{Each, If}
 
 -- a table of FROM as the grammar makes it
 record IsGrownPart (j : JoinedTable) : Type 0 where
@@ -80,7 +80,7 @@ module _ (cat : Catalog) where
 kept : (es : List Entry) (q : BoundQuery) (b : Bound) (keys : List OutputKey) → ◌≡◌ {A = Result Bound BindError} (Ok record { entries = es; query = with_order q keys }) (Ok b) → es ≡ b.entries
 kept es q b keys e = cc
 
-bound_entries : (es : List Entry) (q : ast.Query) (b : Bound) → bound_with q es ≡ Ok b → es ≡ b.entries
+pub bound_entries : (es : List Entry) (q : ast.Query) (b : Bound) → bound_with q es ≡ Ok b → es ≡ b.entries
 bound_entries es q b e =
     let columns = given (checked es q) b (bound_query es q) e in
     let types = given (ordered es q) b (unless_fault (clause_error es columns.0.group_by q) columns.0) columns.2 in

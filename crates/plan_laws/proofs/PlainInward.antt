@@ -6,8 +6,8 @@ use Rattle.value.specs.Truths.{negated}
 use Rattle.expr.specs.declared.bound.ColumnId.{ColumnId}
 use Rattle.expr.specs.Bound.{BoundExpr, Literal, Not, And, Or, BoundExprs, no_expr, one_expr}
 use Rattle.predicates.specs.Inward.{before, and_members, or_members, and_before, or_before, inward, not_inward, and_inward, or_inward, not_and_inward, not_or_inward}
-use Rattle.audit_laws.proofs.Plain.{is_and, is_or, AreSome, AreTwo, IsPlain, ArePlain}
-use Rattle.audit_laws.proofs.PlainRebuilt.{truth_value}
+use Rattle.plan_laws.proofs.Plain.{is_and, is_or, AreSome, AreTwo, IsPlain, ArePlain}
+use Rattle.plan_laws.proofs.PlainRebuilt.{truth_value}
 
 -- ---- one list before another
 

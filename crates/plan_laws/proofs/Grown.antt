@@ -4,7 +4,7 @@ use Rattle.value.specs.Datum.{Datum}
 use Rattle.row_ast.specs.Ast as ast
 use Rattle.row_ast.specs.Ast.{Arms, Expr, Exprs, Otherwise}
 use Rattle.expr_texts.specs.Filters.{AreArms, AreTwo, IsLiteral, IsSome, is_and, is_or}
-use Rattle.audit_laws.proofs.Said.{IsUtf8Datum}
+use Rattle.plan_laws.specs.Said.{IsUtf8Datum}
 
 -- a literal that a text can have, in UTF-8
 abbrev pub IsReadable : Datum → Type 0

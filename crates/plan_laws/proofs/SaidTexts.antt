@@ -22,7 +22,7 @@ use Rattle.scope.specs.Entry.{Entry}
 use Rattle.expr_texts.specs.ExprTexts.{column_text, literal_text, literals_text, further_literals, sign_text, not_text, expr_text, members_text, further_text, arms_text, else_text}
 use Rattle.expr_texts.specs.Filters.{IsName, IsNamed, IsLiteral, AreLiterals, is_and, is_or, IsWritten, AreWritten, ArmsWritten, ElseWritten}
 use Rattle.bound_plans.specs.Named.{name_of, named, named_members, named_arms, named_otherwise}
-use Rattle.audit_laws.proofs.Said.{IsUtf8Datum, AreUtf8, HasUtf8, HaveUtf8, ArmsHaveUtf8, ElseHasUtf8}
+use Rattle.plan_laws.specs.Said.{IsUtf8Datum, AreUtf8, HasUtf8, HaveUtf8, ArmsHaveUtf8, ElseHasUtf8}
 
 -- ---- texts in ASCII
 

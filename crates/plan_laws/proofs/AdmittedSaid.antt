@@ -29,12 +29,12 @@ use Rattle.query_laws.proofs.Found.{found_there}
 use Rattle.query_laws.proofs.Parts.{is_made}
 use Rattle.expr_texts.specs.Filters.{IsName, IsNamed}
 use Rattle.bound_plans.specs.Named.{alias_of_entry, column_name, name_of, name_of_column}
-use Rattle.audit_laws.specs.ExplainedPlans.{AreNames}
-use Rattle.audit_laws.proofs.Rules.{Each, If}
-use Rattle.audit_laws.proofs.Said.{IsSaid}
-use Rattle.audit_laws.proofs.GrownQueries.{IsGrownCondition, IsGrownQuery, queries_grown}
-use Rattle.audit_laws.proofs.GrownEntries.{IsGrownEntry, query_entries}
-use Rattle.audit_laws.proofs.BoundConditions.{IsSaidIfMovable, condition_said, each_of, movable_said, ons_said}
+use Rattle.plan_laws.specs.Names.{AreNames}
+use Rattle.plan_laws.proofs.Rules.{Each, If}
+use Rattle.plan_laws.specs.Said.{IsSaid}
+use Rattle.plan_laws.proofs.GrownQueries.{IsGrownCondition, IsGrownQuery, queries_grown}
+use Rattle.plan_laws.proofs.GrownEntries.{IsGrownEntry, query_entries}
+use Rattle.plan_laws.proofs.BoundConditions.{IsSaidIfMovable, condition_said, each_of, movable_said, ons_said}
 
 -- ---- lists
 

@@ -17,8 +17,8 @@ use Rattle.row_ast.specs.Ast.{Expr, Exprs, And, Or, Otherwise, and_members, arms
 use Rattle.row_reader.specs.Language.{Located, Nested, Rule, a_negation, a_unary, an_expression, is, is_name, name_of, of}
 use Rattle.row_reader.specs.Expressions.{Argument, Bounds, CallSuffix, Dotted, Range, Star, Values, aggregate, and_of, and_operand, arm, arms, between, called, case, cast, compared, compared_with, comparison, conjunction, constant, count, counted, expression, folded_left, in_list, literal, name, negated_range, negation, null_test, null_tested, number_of, or_of, or_operand, otherwise, parenthesized, plain_column, primary, product, range, range_tail, ranged, ranged_sum, rule, sum, unary, unsigned_literal, value, value_list, word_literal}
 use Rattle.expr_texts.specs.Filters.{AreArms, AreTwo, IsName, IsSome, is_and, is_or}
-use Rattle.audit_laws.proofs.Grown.{AreGrown, AreReadable, ArmsGrown, ElseGrown, IsGrown, IsReadable}
-use Rattle.audit_laws.proofs.Rules.{Each, If, Makes, SomeEach, of_after, of_any, of_both, of_either, of_inside, of_listed, of_made, of_many, of_maybe, of_nest, of_nothing, of_second, of_word}
+use Rattle.plan_laws.proofs.Grown.{AreGrown, AreReadable, ArmsGrown, ElseGrown, IsGrown, IsReadable}
+use Rattle.plan_laws.proofs.Rules.{Each, If, Makes, SomeEach, of_after, of_any, of_both, of_either, of_inside, of_listed, of_made, of_many, of_maybe, of_nest, of_nothing, of_second, of_word}
 
 -- a name has the form of names, and a string literal is one that a text can have
 pub record IsGoodToken (w : Token) : Type 0 where

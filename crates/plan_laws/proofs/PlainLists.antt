@@ -17,10 +17,10 @@ use Rattle.predicates.specs.Offsets.{without_offsets}
 use Rattle.algebra.specs.Rules.{constant_of, other_column}
 use Rattle.algebra.specs.Runs.{stands_in}
 use Rattle.algebra.specs.PlanningList.{written_conditions, simplified, parts_of, simplified_parts, is_across, consequence, with_condition, with_any, with_each, with_all, with_consequences, with_others, without_repeats, is_too_long, planned, planning_list}
-use Rattle.audit_laws.proofs.Plain.{is_and, IsPlain, ArePlain}
-use Rattle.audit_laws.proofs.PlainRebuilt.{without_offsets_plain, folded_plain}
-use Rattle.audit_laws.proofs.PlainInward.{inward_plain}
-use Rattle.audit_laws.proofs.SaidLevels.{without_offsets_levels, folded_levels, inward_levels}
+use Rattle.plan_laws.proofs.Plain.{is_and, IsPlain, ArePlain}
+use Rattle.plan_laws.proofs.PlainRebuilt.{without_offsets_plain, folded_plain}
+use Rattle.plan_laws.proofs.PlainInward.{inward_plain}
+use Rattle.plan_laws.proofs.SaidLevels.{without_offsets_levels, folded_levels, inward_levels}
 
 first_below : (a b n : ℕ) → max a b ≤ n → a ≤ n
 first_below a b n h = omega arith

@@ -19,11 +19,11 @@ use Rattle.row_queries.specs.From.{condition, from, from_item, join, join_list, 
 use Rattle.row_queries.specs.Queries.{clauses, filter, query}
 use Rattle.expr_texts.specs.Filters.{IsName, filter_levels, levels}
 use Rattle.expr_texts.proofs.Origin.{queries_fit}
-use Rattle.audit_laws.proofs.Grown.{IsGrown}
-use Rattle.audit_laws.proofs.Rules.{Each, If, Makes, SomeEach, of_after, of_any, of_both, of_either, of_listed, of_made, of_many, of_maybe, of_second, of_word}
-use Rattle.audit_laws.proofs.Derived.{IsGoodToken, expressions_grown, name_yields}
-use Rattle.audit_laws.proofs.WordTokens.{IsWellNamed, well_named}
-use Rattle.audit_laws.proofs.QuotedTokens.{literal_utf8}
+use Rattle.plan_laws.proofs.Grown.{IsGrown}
+use Rattle.plan_laws.proofs.Rules.{Each, If, Makes, SomeEach, of_after, of_any, of_both, of_either, of_listed, of_made, of_many, of_maybe, of_second, of_word}
+use Rattle.plan_laws.proofs.Derived.{IsGoodToken, expressions_grown, name_yields}
+use Rattle.plan_laws.proofs.WordTokens.{IsWellNamed, well_named}
+use Rattle.plan_laws.proofs.QuotedTokens.{literal_utf8}
 
 -- ---- what holds of the parts
 

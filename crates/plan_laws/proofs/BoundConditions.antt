@@ -20,11 +20,11 @@ use Rattle.resolve.specs.BoundQueries.{bound_condition, bound_ons}
 use Rattle.resolve.proofs.EntryTables.{given}
 use Rattle.bound_plans.specs.Named.{name_of, named}
 use Rattle.expr_texts.specs.Filters.{IsNamed, filter_levels, is_and, levels, most_levels}
-use Rattle.audit_laws.proofs.Said.{IsSaid}
-use Rattle.audit_laws.proofs.Grown.{AreGrown, IsGrown}
-use Rattle.audit_laws.proofs.BoundTrees.{IsSaidAs, expr_said}
-use Rattle.audit_laws.proofs.GrownQueries.{IsGrownCondition}
-use Rattle.audit_laws.proofs.Rules.{Each, If}
+use Rattle.plan_laws.specs.Said.{IsSaid}
+use Rattle.plan_laws.proofs.Grown.{AreGrown, IsGrown}
+use Rattle.plan_laws.proofs.BoundTrees.{IsSaidAs, expr_said}
+use Rattle.plan_laws.proofs.GrownQueries.{IsGrownCondition}
+use Rattle.plan_laws.proofs.Rules.{Each, If}
 
 members_are : (xs : List BoundExpr) → members (bound_exprs_of xs) ≡ xs
 members_are [] = refl

@@ -15,7 +15,7 @@ use Rattle.predicates.proofs.Movables.{and_left, and_right}
 use Rattle.predicates.specs.Rebuilt.{rebuilt, all_rebuilt, arms_rebuilt, otherwise_rebuilt}
 use Rattle.predicates.specs.Folded.{is_literal, are_literal_arms, is_literal_otherwise, of_literals, nothing, ok_value, value_alone, literal_or, folded_node, folded}
 use Rattle.predicates.specs.Offsets.{without_offset, without_offsets}
-use Rattle.audit_laws.proofs.Plain.{is_and, is_or, AreSome, AreTwo, AreArms, IsPlain, ArePlain, ArmsPlain, ElsePlain}
+use Rattle.plan_laws.proofs.Plain.{is_and, is_or, AreSome, AreTwo, AreArms, IsPlain, ArePlain, ArmsPlain, ElsePlain}
 
 -- ---- an expression made anew
 

@@ -10,8 +10,8 @@ use Rattle.scope.specs.Entry.{Entry}
 use Rattle.expr_texts.specs.Filters as written
 use Rattle.expr_texts.specs.Filters.{IsName, IsLiteral, AreLiterals, IsWritten, AreWritten, ArmsWritten, ElseWritten}
 use Rattle.bound_plans.specs.Named.{alias_of_entry, column_name, named, named_members, named_arms, named_otherwise}
-use Rattle.audit_laws.proofs.Said.{IsUtf8Datum, AreUtf8, HasUtf8, HaveUtf8, ArmsHaveUtf8, ElseHasUtf8}
-use Rattle.audit_laws.proofs.Plain.{is_and, is_or, AreTwo, AreArms, AreValues, IsPlain, ArePlain, ArmsPlain, ElsePlain}
+use Rattle.plan_laws.specs.Said.{IsUtf8Datum, AreUtf8, HasUtf8, HaveUtf8, ArmsHaveUtf8, ElseHasUtf8}
+use Rattle.plan_laws.proofs.Plain.{is_and, is_or, AreTwo, AreArms, AreValues, IsPlain, ArePlain, ArmsPlain, ElsePlain}
 
 -- of the elements of two lists
 module _ {X : Type 0} (P : X → Type 0) where

@@ -1,0 +1,174 @@
+-- The plan that explains a text is accepted by its audit.
+use Rattle.std.proofs.Common.{◌≡◌, ◌<◌, ◌≤◌, ◌^◌, ℕ, zero, suc, true, if◌then◌else◌, List, [], ◌∷◌, map, length, Option, Some, option_map, Result, Ok, Err, slice_index_or, refl, sym, ap, subst, ◌∙◌, arith}
+use Rattle.std.specs.List.{All, AllByRecursion, IsDistinct}
+use Rattle.std.specs.Str.{IsUtf8, bytes_eq}
+use Rattle.std.proofs.lemmas.List.{length-map}
+use Rattle.std.proofs.lemmas.List.Elements.{recursion_from_All}
+use Rattle.std.proofs.lemmas.Option.{slice_get_within}
+use Rattle.value.specs.Names.{Name}
+use Rattle.expr.specs.Bound.{BoundExpr}
+use Rattle.expr.specs.BoundQuery.{BoundQuery}
+use Rattle.expr.specs.Codes.{Code}
+use Rattle.expr.specs.Columns.{columns}
+use Rattle.expr.specs.Conjuncts.{movable_conjuncts}
+use Rattle.expr.specs.NamedColumns.{named_columns}
+use Rattle.expr.specs.declared.bound.ColumnId.{ColumnId}
+use Rattle.row_objects.specs.Objects.{Table}
+use Rattle.scope.specs.Entry.{Entry}
+use Rattle.catalog.specs.Catalog.{Catalog}
+use Rattle.catalog_laws.specs.WellFormed.{IsWellFormed}
+use Rattle.access.specs.Guards.{guard}
+use Rattle.stats.specs.Statistics.{Stats, Unknown, row_count}
+use Rattle.algebra.specs.PlanningList.{planning_list}
+use Rattle.row_terms.specs.Written.{written}
+use Rattle.trailcheck.specs.Admissible.{is_admissible}
+use Rattle.trailcheck.specs.Settings.{Setting}
+use Rattle.trailcheck.specs.Verdicts.{verdict}
+use Rattle.trailcheck.specs.declared.verdict.Reason.TheVariants as reason
+use Rattle.trailcheck.specs.declared.verdict.Verdict.TheVariants.{Accepted, Refused}
+use Rattle.rewrite.specs.Laws.{PlansAreAccepted}
+use Rattle.planning.specs.Best.{BestIsThere}
+use Rattle.expr_texts.specs.Filters.{IsName}
+use Rattle.plan_texts.specs.Plans.{Plan}
+use Rattle.plan_texts.specs.PlanTexts.{plan_text}
+use Rattle.plan_texts.specs.Reading.{IsFilter, IsPlan, PlansReadBack, plan_at, plan_without_offsets}
+use Rattle.bound_plans.specs.Entries.{plan_entries}
+use Rattle.bound_plans.specs.Found.{ColumnsAreFound, IsColumn, NamesBindBack, Unmistakable}
+use Rattle.bound_plans.specs.Named.{named}
+use Rattle.syntax.specs.Tables.{HaveTables}
+use Rattle.resolve.specs.EntryTables.{AreTables}
+use Rattle.resolve.specs.Resolved.{Bound}
+use Rattle.replies.specs.Reply.{Reply}
+use Rattle.store.specs.Derived.{column_number}
+use Rattle.analysis.specs.Analysis.{admitted}
+use Rattle.query_laws.specs.Admitted.{IsGranted, NamedAreGranted}
+use Rattle.engine.specs.Audits.{Judged, admitted_audit, audit_of, judged}
+use Rattle.engine.specs.Explained.{best_text, explained_query, plan_with, problem, text_if_found, trail}
+use Rattle.engine.specs.Settings.{setting}
+use Rattle.engine.proofs.OfText as of_text
+use Rattle.engine.proofs.OfText.{text_conjuncts, text_entries, text_few, text_tables}
+use Rattle.plan_laws.specs.Names.{AreNames}
+use Rattle.audit_laws.specs.ExplainedPlans.{ExplainedAreAccepted, ExplainedArePlans, HasCounts}
+use Rattle.audit_laws.proofs.EntryNames.{admitted_aliases_differ, column_named, columns_few, entry_named, index_named, small_number, unmistakable}
+use Rattle.plan_laws.proofs.SoundPlans.{Facts, filters_each, filters_right, plan_is, trail_accepted}
+
+-- ---- the plan that explains a text
+
+pub explained_are_plans : BestIsThere → ExplainedArePlans
+explained_are_plans there cat statistics role text b is =
+    let counts : List Stats = map (λ (e : Entry). statistics e.table) b.entries in
+    let it = there (problem cat role b counts) in (
+      plan_with cat role b counts it.0,
+      ap (option_map (plan_with cat role b counts)) it.1,
+      ap (explained_query cat statistics role) is ∙ ap (λ o. let r : Result (List ℕ) Reply = Ok (text_if_found b.entries (option_map (plan_with cat role b counts) o)) in r) it.1,
+    )
+
+-- ---- the counts of rows
+
+rows_few : (statistics : Table → Stats) → HasCounts statistics → (es : List Entry) (i : ℕ) → row_count (slice_index_or (map (λ (e : Entry). statistics e.table) es) i Unknown) < 2 ^ 64
+rows_few statistics few [] i = omega arith
+rows_few statistics few (e ∷ es) zero = few e.table
+rows_few statistics few (e ∷ es) (suc i) = rows_few statistics few es i
+
+-- ---- the columns that are named
+
+granted_column : (cat : Catalog) (role : Name) (entries : List Entry) (id : ColumnId) → IsGranted cat role entries id → IsColumn entries id
+granted_column cat role entries id h = record { entry = h.entry; there = h.entry_is; within = slice_get_within h.entry.table.columns id.column h.column h.column_is }
+
+granted_columns : (cat : Catalog) (role : Name) (entries : List Entry) (ids : List ColumnId) → AllByRecursion (IsGranted cat role entries) ids → AllByRecursion (IsColumn entries) ids
+granted_columns cat role entries [] h = tt
+granted_columns cat role entries (id ∷ ids) h = (granted_column cat role entries id h.0, granted_columns cat role entries ids h.1)
+
+-- ---- the laws below
+
+pub record Laws : Type 0 where
+  pub back : PlansReadBack
+  pub bind : NamesBindBack
+  pub found : ColumnsAreFound
+  pub accept : PlansAreAccepted
+  pub there : BestIsThere
+  pub tables : HaveTables
+  pub small : of_text.AreSmall
+  pub granted : NamedAreGranted
+
+-- a condition that has a text is a filter with a text, where its columns are found
+abbrev pub SaidAreFilters : (List Entry → BoundExpr → Type 0) → Type 0
+SaidAreFilters IsSaid = (entries : List Entry) → Unmistakable entries → (e : BoundExpr) → All (IsColumn entries) (columns e) → IsSaid entries e → IsFilter (plan_entries entries) (named entries e)
+
+module _ (laws : Laws) where
+  module _ (cat : Catalog) (role : Name) (b : Bound) (text : List ℕ) (is : admitted cat role text ≡ Ok b) (fit : IsWellFormed cat) (names : AreNames cat) (alias_names : All (λ (e : Entry). IsName e.alias) b.entries) where
+    abbrev at : Setting
+    at = setting cat role b
+
+    tables : AreTables cat b.entries
+    tables = text_tables cat role b (text, is)
+
+    differ : IsDistinct bytes_eq (map (λ (e : Entry). e.alias) b.entries)
+    differ = admitted_aliases_differ cat role text b is
+
+    facts : Facts b.entries b.query at
+    facts = record {
+      listed = refl;
+      each = length-map b.entries (λ e. guard cat role e.table);
+      some = text_entries cat role b (text, is) laws.tables;
+      few = text_few cat role b (text, is) laws.small;
+      few_conjuncts = text_conjuncts cat role b (text, is) laws.small;
+      named = entry_named cat fit names b.entries tables differ alias_names;
+      columns = column_named cat fit names b.entries tables differ alias_names;
+      few_columns = columns_few cat fit names b.entries tables differ alias_names;
+      indexed = index_named cat fit names b.entries tables differ alias_names;
+      differ = unmistakable cat fit names b.entries tables differ alias_names;
+      query = granted_columns cat role b.entries (named_columns b.query) (recursion_from_All (IsGranted cat role b.entries) (named_columns b.query) (laws.granted cat role text b is));
+    }
+
+    module _ (IsSaid : List Entry → BoundExpr → Type 0) (said_filter : SaidAreFilters IsSaid) (said : All (IsSaid b.entries) (planning_list b.query)) (statistics : Table → Stats) (few : HasCounts statistics) where
+      abbrev counts : List Stats
+      counts = map (λ (e : Entry). statistics e.table) b.entries
+
+      module _ (code : Code) (admissible : is_admissible at code ≡ true) where
+        abbrev plan : Plan
+        plan = plan_with cat role b counts code
+
+        whole : IsPlan (plan_entries b.entries) plan
+        whole =
+            plan_is b.entries b.query at facts column_number small_number counts (rows_few statistics few b.entries) code admissible
+            (filters_each b.entries b.query at facts (IsSaid b.entries) (said_filter b.entries facts.differ) (recursion_from_All (IsSaid b.entries) (planning_list b.query) said))
+
+        judged_is : judged at (written (length b.entries) b.query) b.entries (plan_without_offsets plan) ≡ Accepted
+        judged_is =
+            ap (λ t. if t then verdict at (written (length b.entries) b.query) (trail cat role b code) code else Refused record { line = 0; reason = reason.Code }) (filters_right b.entries b.query at facts laws.bind laws.found)
+            ∙ trail_accepted b.entries b.query at facts laws.accept code admissible
+
+        audited : audit_of cat role b (plan_at (plan_entries b.entries) (plan_text (plan_entries b.entries) plan)) ≡ Judged Accepted
+        audited = ap (audit_of cat role b) (laws.back (plan_entries b.entries) plan whole) ∙ ap Judged judged_is
+
+      -- the text of the best plan is accepted
+      best_audited : audit_of cat role b (plan_at (plan_entries b.entries) (best_text cat role b counts)) ≡ Judged Accepted
+      best_audited =
+          let it = laws.there (problem cat role b counts) in
+          ap (λ o. audit_of cat role b (plan_at (plan_entries b.entries) (text_if_found b.entries (option_map (plan_with cat role b counts) o)))) it.1 ∙ audited it.0 it.2
+
+  -- ---- the law
+
+  module _ (IsSaid : List Entry → BoundExpr → Type 0) where
+    abbrev AdmittedAreSaid : Type 0
+    AdmittedAreSaid = (cat : Catalog) (role : Name) (text : List ℕ) (b : Bound) → IsWellFormed cat → AreNames cat → IsUtf8 text → admitted cat role text ≡ Ok b → All (IsSaid b.entries) (movable_conjuncts b.query)
+
+    abbrev PlanningListsAreSaid : Type 0
+    PlanningListsAreSaid = (entries : List Entry) (q : BoundQuery) → All (IsSaid entries) (movable_conjuncts q) → All (IsSaid entries) (planning_list q)
+
+    abbrev AliasesAreNames : Type 0
+    AliasesAreNames = (cat : Catalog) (role : Name) (text : List ℕ) (b : Bound) → IsWellFormed cat → AreNames cat → IsUtf8 text → admitted cat role text ≡ Ok b → All (λ (e : Entry). IsName e.alias) b.entries
+
+    pub explained_accepted : SaidAreFilters IsSaid → AdmittedAreSaid → PlanningListsAreSaid → AliasesAreNames → ExplainedAreAccepted
+    explained_accepted said_filter admitted_said planning_said admitted_aliases cat statistics role text plan fit names few utf8 explains = go (admitted cat role text) refl explains
+      where
+        same_text : (s t : List ℕ) → ◌≡◌ {A = Result (List ℕ) Reply} (Ok s) (Ok t) → s ≡ t
+        same_text s t e = cc
+
+        go : (r : Result Bound Reply) → admitted cat role text ≡ r → explained_query cat statistics role r ≡ Ok plan → admitted_audit cat role plan r ≡ Judged Accepted
+        go (Err refusal) is e = absurd (cc)
+        go (Ok b) is e =
+            let text_is : best_text cat role b (map (λ (e : Entry). statistics e.table) b.entries) ≡ plan = same_text (best_text cat role b (map (λ (e : Entry). statistics e.table) b.entries)) plan e in
+            subst (λ p. audit_of cat role b (plan_at (plan_entries b.entries) p) ≡ Judged Accepted) text_is
+            (best_audited cat role b text is fit names (admitted_aliases cat role text b fit names utf8 is) IsSaid said_filter (planning_said b.entries b.query (admitted_said cat role text b fit names utf8 is)) statistics few)
