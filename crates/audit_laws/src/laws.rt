@@ -34,7 +34,7 @@ pub fn law_explained_texts_are_plans()
 }
 
 /// The plan that explains a text is accepted by its audit, by whatever statistics it was chosen. The names of columns have to be words
-/// of the grammar, which they are where statements make the tables.
+/// of the grammar, which they are where the statements of tables are read from texts.
 pub fn law_explained_plans_are_accepted()
     ensures { ExplainedAreAccepted }
 {
