@@ -57,9 +57,9 @@ pub fn check<A: Heap>(
 ) -> Result<Verdict, AllocError>
     ensures { IfOk result (λ v. v ≡ verdict (settings.setting catalog.now role.now (bound_of bound.now)) (row_terms.written (length (bound_of bound.now).entries) (bound_of bound.now).query) (map step_of trail.now) (code_of code.now)) }
 {
-    let setting = setting(alloc, catalog, role, bound)?;
     let written = written(alloc, bound.entries.len(), &bound.query)?;
-    judge(alloc, &setting, written, trail, code)
+    let setting = &setting(alloc, catalog, role, bound)?;
+    judge(alloc, setting, written, trail, code)
 }
 
 // The checker's verdict on code and trail, where the filters are the planning list.
