@@ -1,9 +1,9 @@
 -- The movable conjuncts of an admitted query have texts that are read back, and its entries have names.
-use Rattle.std.proofs.Common.{◌≡◌, ℕ, zero, suc, Bool, true, false, cond, List, [], ◌∷◌, find, Option, Some, None, Result, Ok, Err, refl, sym, ap, subst}
+use Rattle.std.proofs.Common.{◌≡◌, ℕ, zero, suc, Bool, true, false, cond, List, [], ◌∷◌, find, Some, Result, Ok, Err, sym, ap, subst}
 use Rattle.std.specs.List.{All, flat_map, slice_get}
 use Rattle.std.specs.Str.{IsUtf8, bytes_eq}
-use Rattle.std.proofs.lemmas.List.Elements.{All-append, All-cons, All-head, All-nil, All-tail, All-weaker}
-use Rattle.memory.proofs.Cases.{none_is_not, ok_is, some_is}
+use Rattle.std.proofs.lemmas.List.Elements.{All-append, All-cons, All-head, All-nil, All-tail}
+use Rattle.memory.proofs.Cases.{none_is_not, some_is}
 use Rattle.value.specs.Columns.{Column}
 use Rattle.value.specs.Names.{Name}
 use Rattle.row_ast.specs.Ast as ast
@@ -16,7 +16,7 @@ use Rattle.scope.specs.declared.error.BindError.{BindError}
 use Rattle.scope.specs.declared.lookup.Scope.{Scope}
 use Rattle.scope.specs.Entry.{Entry}
 use Rattle.scope.specs.Lookup.{everywhere, find_column}
-use Rattle.catalog.specs.Catalog.{Catalog, is_role, table_named}
+use Rattle.catalog.specs.Catalog.{Catalog, is_role}
 use Rattle.catalog_laws.specs.WellFormed.{IsWellFormed}
 use Rattle.resolve.specs.EntryTables.{AreTables}
 use Rattle.resolve.specs.Resolved.{Bound, bound}

@@ -1,17 +1,17 @@
 -- Expressions without offsets, each column of one kind: what the forms of conditions keep of them.
-use Rattle.std.proofs.Common.{◌≡◌, refl, sym, ap, subst, ℕ, Bool, true, false, List, [], ◌∷◌, ◌++◌, Option, Some, None, if◌then◌else◌}
+use Rattle.std.proofs.Common.{◌≡◌, refl, subst, Bool, true, false, ◌++◌, Option, Some, None, if◌then◌else◌}
 use Rattle.std.specs.List.{AllByRecursion}
 use Rattle.value.specs.Datum.{Datum}
 use Rattle.value.specs.declared.operators.Comparison.TheVariants.{Equal}
 use Rattle.expr.specs.declared.bound.ColumnId.{ColumnId}
-use Rattle.expr.specs.Bound.{is_column, BoundExpr, Column, Literal, CurrentUser, Negate, Arithmetic, Comparison, Between, In, IsNull, Not, And, Or, Cast, Case, CountStar, Call, BoundExprs, no_expr, one_expr, BoundArms, no_arm, one_arm, BoundOtherwise, Nothing, Value}
+use Rattle.expr.specs.Bound.{BoundExpr, Column, Literal, CurrentUser, Negate, Arithmetic, Comparison, Between, In, IsNull, Not, And, Or, Cast, Case, CountStar, Call, BoundExprs, no_expr, one_expr, BoundArms, no_arm, one_arm, BoundOtherwise, Nothing, Value}
 use Rattle.expr.specs.Columns.{columns, all_columns, arms_columns, otherwise_columns}
 use Rattle.plan_laws.proofs.EachColumn.{left_of, of_both, right_of}
 use Rattle.predicates.specs.Equalities.{column_sides}
 use Rattle.predicates.specs.Folded.{folded, folded_node, literal_or, of_literals, value_alone}
 use Rattle.predicates.specs.Inward.{before, and_members, or_members, and_before, or_before, inward, not_inward, and_inward, or_inward, not_and_inward, not_or_inward}
 use Rattle.predicates.specs.Offsets.{without_offset, without_offsets}
-use Rattle.predicates.specs.Rebuilt.{rebuilt, all_rebuilt, arms_rebuilt, otherwise_rebuilt}
+use Rattle.predicates.specs.Rebuilt.{all_rebuilt, arms_rebuilt, otherwise_rebuilt}
 
 module _ (Q : ColumnId → Type 0) where
   abbrev mutual

@@ -1,8 +1,7 @@
 -- The movable conjuncts of the conditions of a query, which the grammar made, have texts.
-use Rattle.std.proofs.Common.{◌≡◌, ◌≤◌, ℕ, ◌+◌, max, Bool, true, false, cond, List, [], ◌∷◌, ◌++◌, filter, Option, Some, None, Result, Ok, refl, sym, ap, subst, ◌∙◌, arith}
+use Rattle.std.proofs.Common.{◌≡◌, ◌≤◌, ℕ, ◌+◌, Bool, true, false, cond, List, [], ◌∷◌, filter, Option, Some, None, Ok, refl, sym, ap, subst, ◌∙◌, arith}
 use Rattle.std.specs.List.{All, flat_map}
 use Rattle.std.proofs.lemmas.List.Elements.{All-append, All-cons, All-head, All-nil, All-tail}
-use Rattle.memory.specs.Results.{first_then}
 use Rattle.memory.proofs.Cases.{ok_is}
 use Rattle.row_ast.specs.Ast as ast
 use Rattle.row_ast.specs.Ast.{Expr, Exprs, no_expr, one_expr}

@@ -1,5 +1,5 @@
 -- An expression that the grammar makes has a text when its columns are found and it cannot fault.
-use Rattle.std.proofs.Common.{◌≡◌, ℕ, suc, Bool, true, false, ◌&&◌, List, [], ◌∷◌, Result, Ok, refl, sym, ap, ap₂, subst, ◌∙◌}
+use Rattle.std.proofs.Common.{◌≡◌, ℕ, suc, Bool, true, false, ◌&&◌, List, [], ◌∷◌, Result, Ok, refl, ap, ap₂, subst, ◌∙◌}
 use Rattle.std.specs.Prelude.{max}
 use Rattle.std.proofs.lemmas.Bool.{and_parts}
 use Rattle.memory.specs.Results.{and_then}

@@ -1,9 +1,9 @@
 -- What holds of each column that a query names holds of those of its movable conjuncts.
-use Rattle.std.proofs.Common.{◌≡◌, refl, Bool, true, false, List, [], ◌∷◌, ◌++◌, filter, Option, Some, None, cond}
+use Rattle.std.proofs.Common.{Bool, true, false, List, [], ◌∷◌, ◌++◌, filter, Option, Some, None, cond}
 use Rattle.std.specs.List.{AllByRecursion, flat_map}
 use Rattle.expr.specs.declared.bound.ColumnId.{ColumnId}
 use Rattle.expr.specs.Bound.{BoundExpr, BoundExprs, And, no_expr, one_expr}
-use Rattle.expr.specs.BoundQuery.{BoundItem, BoundQuery}
+use Rattle.expr.specs.BoundQuery.{BoundQuery}
 use Rattle.expr.specs.Columns.{all_columns, columns}
 use Rattle.expr.specs.Conjuncts.{conjuncts, conjuncts_in, conjuncts_of, members, movable_conjuncts}
 use Rattle.expr.specs.Movable.{movable}

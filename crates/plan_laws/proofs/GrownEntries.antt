@@ -1,5 +1,5 @@
 -- The entries of a query, which the grammar made: their aliases and the conditions of their ON.
-use Rattle.std.proofs.Common.{◌≡◌, ℕ, ◌+◌, Bool, true, false, cond, List, [], ◌∷◌, ◌++◌, length, map, Option, Some, None, Result, Ok, Err, refl, ap, subst, ◌∙◌}
+use Rattle.std.proofs.Common.{◌≡◌, ℕ, ◌+◌, Bool, true, false, cond, List, [], ◌∷◌, ◌++◌, length, map, Option, Some, None, Result, Ok, Err, ap, subst, ◌∙◌}
 use Rattle.memory.specs.Results.{first_then, on_each}
 use Rattle.memory.proofs.Cases.{ok_is}
 use Rattle.value.specs.declared.refusal.Refusal.TheVariants as r

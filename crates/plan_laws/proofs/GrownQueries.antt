@@ -1,12 +1,10 @@
 -- The conditions, the tables and their aliases of a query that the grammar makes of a text.
-use Rattle.std.proofs.Common.{◌≡◌, ◌≤◌, ℕ, List, [], ◌∷◌, Option, Some, None, refl}
+use Rattle.std.proofs.Common.{◌≤◌, ℕ, List, [], ◌∷◌}
 use Rattle.std.specs.Prelude.{All}
 use Rattle.std.specs.Str.{IsUtf8}
 use Rattle.std.proofs.lemmas.List.Elements.{All-head, All-tail}
-use Rattle.value.specs.Names.{Name}
-use Rattle.value.specs.Datum.{text}
 use Rattle.row_tokens.specs.Slices.{HasQuotes, StandsIn}
-use Rattle.row_tokens.specs.Tokens.{Token, quoted_value, words}
+use Rattle.row_tokens.specs.Tokens.{Token, words}
 use Rattle.row_tokens.proofs.NoNulls.{IsNoNull, no_nulls}
 use Rattle.row_tokens.proofs.Offsets.{are_slices}
 use Rattle.row_tokens.proofs.Shapes.{are_in_quotes}

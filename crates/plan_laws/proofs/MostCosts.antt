@@ -1,7 +1,6 @@
 -- The most that a code can cost, where no table has more rows than 64 bits count.
-use Rattle.std.proofs.Common.{◌≡◌, refl, ap, ◌∙◌, subst, ℕ, zero, suc, ◌+◌, ◌*◌, ◌^◌, ◌<◌, ◌≤◌, ◌==◌, nat_lt, Bool, true, false, List, [], ◌∷◌, ◌++◌, length, Option, Some, None, arith}
+use Rattle.std.proofs.Common.{◌≡◌, refl, ℕ, ◌+◌, ◌*◌, ◌^◌, ◌<◌, ◌≤◌, ◌==◌, nat_lt, Bool, true, false, List, [], ◌∷◌, ◌++◌, length, Option, Some, None, arith}
 use Rattle.std.specs.Int.Digits.{digits_of}
-use Rattle.std.proofs.Math.Nat.{le_refl}
 use Rattle.std.proofs.lemmas.Int.Digits.{length-digits_of-le}
 use Rattle.std.proofs.lemmas.Nat.{mul-le}
 use Rattle.expr.specs.declared.bound.ColumnId.{ColumnId}
@@ -13,15 +12,14 @@ use Rattle.expr.specs.declared.code.CodeStep.{CodeStep}
 use Rattle.expr.specs.Bound.{BoundExpr}
 use Rattle.expr.specs.Codes.{Code, Empty, Steps}
 use Rattle.predicates.specs.Numbered.{numbered}
-use Rattle.stats.specs.Card.{Entries, most_rows, reduced, rows_at}
+use Rattle.stats.specs.Card.{Entries, most_rows, rows_at}
 use Rattle.stats.specs.Factors.{million}
-use Rattle.stats.specs.Statistics.{Stats}
 use Rattle.plan_laws.proofs.MostRows.{card_within, factor_within, reduced_within}
 use Rattle.trailcheck.specs.Entries.{is_among}
 use Rattle.trailcheck.specs.Shapes.{entry_index}
 use Rattle.joins.specs.Orders.{Order, is_ordered_by, merge_sorting, order_after, order_of, sides, sorting_unless}
 use Rattle.joins.specs.Steps.{sort_steps}
-use Rattle.joindp.specs.Cost.{Estimates, access_cost, cost, cost_after, entry_size, factor_held, join_cost, last_sorting, size, step_cost, step_cost_of, steps_cost}
+use Rattle.joindp.specs.Cost.{Estimates, access_cost, cost, cost_after, entry_size, factor_held, join_cost, last_sorting, size, step_cost, steps_cost}
 
 -- ---- sorts of at most so many rows
 

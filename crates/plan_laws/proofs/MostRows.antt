@@ -1,5 +1,5 @@
 -- The most that factors and sizes can be: a million parts, and the most rows.
-use Rattle.std.proofs.Common.{◌≡◌, refl, sym, ap, ◌∙◌, subst, ℕ, zero, suc, ℤ, ◌+◌, ◌-◌, ◌*◌, ◌/◌, ◌^◌, ◌<◌, ◌≤◌, min, max, Bool, true, false, List, [], ◌∷◌, length, map, filter, Option, Some, None, if◌then◌else◌, int_lt, div-le_self, arith}
+use Rattle.std.proofs.Common.{◌≡◌, sym, ap, ◌∙◌, ℕ, zero, suc, ℤ, ◌+◌, ◌-◌, ◌*◌, ◌/◌, ◌≤◌, min, max, Bool, true, false, List, [], ◌∷◌, length, map, filter, Option, Some, None, if◌then◌else◌, int_lt, div-le_self, arith}
 use Rattle.std.specs.Prelude.{◌-ℤ◌}
 use Rattle.std.proofs.Math.Nat.{div-le_of_le-mul, le_refl, mul-add}
 use Rattle.std.proofs.lemmas.Nat.{le-div, mul-le}
@@ -9,7 +9,7 @@ use Rattle.value.specs.declared.operators.Comparison as operators
 use Rattle.value.specs.declared.operators.Comparison.TheVariants.{Equal, NotEqual, Less, LessOrEqual, Greater, GreaterOrEqual}
 use Rattle.expr.specs.Bound.{BoundExpr, BoundExprs, no_expr, one_expr, Column, Literal, CurrentUser, Negate, Arithmetic, Comparison, Between, In, IsNull, Not, And, Or, Cast, Case, CountStar, Call}
 use Rattle.stats.specs.declared.statistics.Bounds.{Bounds}
-use Rattle.stats.specs.Card.{Entries, Selection, all_rows, card, is_about, most_rows, reduced, rows_at, selection, selections, times}
+use Rattle.stats.specs.Card.{Entries, all_rows, card, is_about, most_rows, reduced, rows_at, selection, selections, times}
 use Rattle.stats.specs.Factors.{million, third, one_of, from_zero, part, part_or, negated_if, stats_at, distinct_at, equality, less_than, comparison, range, membership, factor, all_factor, any_factor}
 use Rattle.stats.specs.Statistics.{Stats}
 

@@ -1,19 +1,17 @@
 -- What holds of each condition of a planning list: what the parts of a simplified condition keep, and what follows from two.
-use Rattle.std.proofs.Common.{◌≡◌, refl, subst, Bool, true, false, List, [], ◌∷◌, ◌++◌, length, map, Option, Some, None, if◌then◌else◌}
+use Rattle.std.proofs.Common.{◌≡◌, refl, subst, Bool, true, false, List, [], ◌∷◌, ◌++◌, map, Option, Some, None, if◌then◌else◌}
 use Rattle.std.specs.Prelude.{option_and_then, option_map}
-use Rattle.std.specs.List.{AllByRecursion, flat_map}
-use Rattle.value.specs.Datum.{Datum}
+use Rattle.std.specs.List.{AllByRecursion}
 use Rattle.expr.specs.declared.bound.ColumnId.{ColumnId}
 use Rattle.expr.specs.Bound.{is_column, BoundExpr, BoundExprs, And, no_expr, one_expr}
 use Rattle.expr.specs.BoundQuery.{BoundQuery}
 use Rattle.expr.specs.Conjuncts.{members, movable_conjuncts}
 use Rattle.predicates.specs.Equalities.{column_equals, column_sides, literal_side}
-use Rattle.predicates.specs.Folded.{folded}
 use Rattle.predicates.specs.Inward.{inward}
 use Rattle.predicates.specs.Offsets.{without_offsets}
 use Rattle.plan_laws.proofs.EachColumn.{OfColumns, of_both}
 use Rattle.plan_laws.proofs.Bare.{AreBare, IsBare, folded_bare, inward_bare, sides_bare, without_bare}
-use Rattle.algebra.specs.PlanningList.{consequence, is_across, is_too_long, parts_of, planned, planning_list, simplified, simplified_parts, with_all, with_any, with_condition, with_consequences, with_each, with_others, without_repeats, written_conditions}
+use Rattle.algebra.specs.PlanningList.{consequence, is_across, is_too_long, parts_of, planning_list, simplified, simplified_parts, with_all, with_any, with_condition, with_consequences, with_each, with_others, without_repeats, written_conditions}
 use Rattle.algebra.specs.Rules.{constant_of, other_column}
 use Rattle.algebra.specs.Runs.{stands_in}
 

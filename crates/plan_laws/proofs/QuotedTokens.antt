@@ -1,11 +1,11 @@
 -- The string literals of a text in UTF-8 are in UTF-8.
-use Rattle.std.proofs.Common.{◌≡◌, ◌≢◌, ℕ, suc, ◌+◌, ◌-◌, ◌<◌, ◌≤◌, ◌==◌, nat_lt, Bool, true, false, List, [], ◌∷◌, ◌++◌, length, get_or, take, drop, slice_index, refl, sym, ap, ap₂, ◌∙◌, subst, append_assoc, arith}
+use Rattle.std.proofs.Common.{◌≡◌, ◌≢◌, ℕ, suc, ◌+◌, ◌-◌, ◌<◌, ◌==◌, nat_lt, Bool, true, false, List, [], ◌∷◌, ◌++◌, length, get_or, take, drop, slice_index, refl, sym, ap, ap₂, ◌∙◌, subst, append_assoc, arith}
 use Rattle.std.specs.Str.{IsUtf8, all_scalars, encode_utf8_all}
 use Rattle.std.proofs.Math.Utf8.{encode, scalar}
 use Rattle.std.proofs.lemmas.Bool.{and_parts, eqb-false, eqb-true, ltb-true}
 use Rattle.std.proofs.lemmas.List.{drop_at, get_or_append_left, get_or_at, length-append, take-append-drop, take_at}
 use Rattle.std.proofs.lemmas.Str.{IsCharBoundary-after_ascii, IsCharBoundary-before_ascii, IsUtf8-append, IsUtf8-drop, IsUtf8-encode, IsUtf8-nil, IsUtf8-take, encode_ascii, inside_one, len_utf8_bounds, length-encode}
-use Rattle.row_tokens.specs.Tokens.{between_quotes, in_quotes, quoted_value, undoubled}
+use Rattle.row_tokens.specs.Tokens.{in_quotes, quoted_value, undoubled}
 use Rattle.row_tokens.proofs.Quotes.{between_both, ends_with}
 
 -- ---- each doubled quote once

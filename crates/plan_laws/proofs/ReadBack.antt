@@ -1,17 +1,14 @@
 -- Conditions without offsets are the same after their texts are written and read.
-use Rattle.std.proofs.Common.{◌≡◌, refl, sym, ap, ap₂, ◌∙◌, ℕ, Bool, true, false, ◌&&◌, List, [], ◌∷◌, map, Result, Ok}
+use Rattle.std.proofs.Common.{◌≡◌, refl, sym, ap, ap₂, ◌∙◌, true, ◌&&◌, List, [], ◌∷◌, map, Result}
 use Rattle.std.specs.List.{AllByRecursion}
 use Rattle.row_ast.specs.Ast as ast
 use Rattle.expr.specs.declared.bound.ColumnId.{ColumnId}
 use Rattle.expr.specs.Bound as bound
 use Rattle.expr.specs.Bound.{BoundExpr, BoundExprs, BoundArms, BoundOtherwise}
-use Rattle.predicates.specs.Same.{same}
 use Rattle.plan_laws.proofs.Bare.{AreBare, ArmsBare, ElseBare, IsBare}
 use Rattle.predicates.proofs.Equal.{decides}
 use Rattle.scope.specs.declared.error.BindError.{BindError}
 use Rattle.scope.specs.Entry.{Entry}
-use Rattle.scope.specs.Lookup.{everywhere}
-use Rattle.scope.specs.BoundExprs.{bound_expr}
 use Rattle.expr_texts.specs.Trees.{without_offsets, all_without_offsets, arms_without_offsets, else_without_offsets}
 use Rattle.bound_plans.specs.Filters.{are_filters, is_condition, is_filter}
 use Rattle.bound_plans.specs.Found.{AreFound, NamesBindBack}

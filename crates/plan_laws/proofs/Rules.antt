@@ -1,5 +1,5 @@
 -- What holds of the values of rules, where something holds of each token.
-use Rattle.std.proofs.Common.{◌≡◌, ℕ, zero, suc, ◌⊎◌, inl, inr, Bool, true, List, [], ◌∷◌, Option, Some, None, refl, sym, ap, ◌∙◌, subst}
+use Rattle.std.proofs.Common.{◌≡◌, ℕ, zero, suc, inl, inr, Bool, true, List, [], ◌∷◌, Option, Some, None, sym, subst}
 use Rattle.row_grammar.specs.Grammar.{word, nothing, both, either, made, many, nest, inner}
 use Rattle.row_grammar.specs.Meaning.{Reading, Room, Many, DerivesIn, one_less, room_of}
 use Rattle.row_grammar.specs.Limits.{Deep, Derives, can_open}

@@ -1,5 +1,5 @@
 -- The plan with an admissible code has a text, its filters are the planning list, and the checker accepts its trail.
-use Rattle.std.proofs.Common.{◌≡◌, ◌<◌, ◌≤◌, ◌+◌, ◌^◌, ℕ, zero, suc, true, List, [], ◌∷◌, ◌++◌, map, length, Option, Some, None, option_map, refl, sym, ap, subst, ◌∙◌, arith}
+use Rattle.std.proofs.Common.{◌≡◌, ◌<◌, ◌≤◌, ◌^◌, ℕ, suc, true, List, [], ◌∷◌, ◌++◌, map, length, Option, Some, None, option_map, refl, sym, ap, subst, ◌∙◌, arith}
 use Rattle.std.specs.List.{All, AllByRecursion, slice_get}
 use Rattle.std.proofs.lemmas.List.{length-map}
 use Rattle.std.proofs.lemmas.List.Elements.{All-from_recursion}
@@ -8,12 +8,11 @@ use Rattle.bags.proofs.Members.{Each}
 use Rattle.value.specs.Limits.{most_conjuncts, most_entries}
 use Rattle.expr.specs.Bound.{BoundExpr}
 use Rattle.expr.specs.BoundQuery.{BoundQuery}
-use Rattle.expr.specs.Codes.{Code, Steps}
+use Rattle.expr.specs.Codes.{Code}
 use Rattle.expr.specs.Columns.{columns}
 use Rattle.expr.specs.Conjuncts.{movable_conjuncts}
 use Rattle.expr.specs.NamedColumns.{named_columns}
 use Rattle.expr.specs.declared.bound.ColumnId.{ColumnId}
-use Rattle.expr.specs.declared.code.CodeStep.{CodeStep}
 use Rattle.plan_laws.proofs.EachColumn.{of_conjuncts}
 use Rattle.plan_laws.proofs.Bare.{IsBare, columns_bare}
 use Rattle.scope.specs.Entry.{Entry}
@@ -38,7 +37,6 @@ use Rattle.plan_laws.proofs.MostCosts.{cost_small}
 use Rattle.planning.specs.LastSort.{last_sort}
 use Rattle.planning.specs.Wanted.{wanted_column}
 use Rattle.plan_laws.proofs.WantedNamed.{last_is_wanted, wanted_named}
-use Rattle.row_ast.specs.Ast.{Expr}
 use Rattle.expr_texts.specs.Trees.{without_offsets}
 use Rattle.plan_texts.specs.declared.plan.SortColumn.{SortColumn}
 use Rattle.plan_texts.specs.Plans.{Plan, PlanEntry}

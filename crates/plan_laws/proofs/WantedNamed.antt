@@ -12,7 +12,7 @@ use Rattle.plan_laws.proofs.EachColumn.{left_of, right_of}
 use Rattle.joindp.specs.Best.{Problem}
 use Rattle.joins.specs.Orders.{Order, is_ordered_by, steps_order}
 use Rattle.planning.specs.LastSort.{last_sort, unless_ordered}
-use Rattle.planning.specs.Wanted.{first_column_or, first_key_column, item_column, key_column, plain_column, wanted_column}
+use Rattle.planning.specs.Wanted.{first_column_or, first_key_column, item_column, plain_column, wanted_column}
 
 unless_wanted : (order : Order) (wanted : Option ColumnId) (id : ColumnId) → unless_ordered order wanted ≡ Some id → wanted ≡ Some id
 unless_wanted order None id h = absurd (cc)

@@ -3,13 +3,11 @@
 ghost use Rattle.plan_laws.specs.Laws.{AdmittedAreSaid, PlanningListsAreSaid};
 
 /// Each condition of a planning list has a text that is read back, where each movable conjunct of its query has one.
-#[tactic(auto, using(crate::proofs::PlanningSaid::planning_said))]
 pub fn law_planning_lists_are_said()
     ensures { PlanningListsAreSaid }
 {}
 
 /// Each movable conjunct of a query that is admitted has a text that is read back, where the names of columns are words of the grammar.
-#[tactic(auto, using(crate::proofs::AdmittedSaid::admitted_said))]
 pub fn law_admitted_are_said()
     ensures { AdmittedAreSaid }
 {}
