@@ -1,11 +1,10 @@
 -- The entries and columns of an admitted query: their names tell them apart, and are of the grammar.
-use Rattle.std.proofs.Common.{◌≡◌, ◌<◌, ◌≤◌, ◌+◌, ◌-◌, ◌^◌, ◌==◌, ℕ, zero, suc, Bool, true, false, ◌||◌, List, [], ◌∷◌, map, length, Option, Some, None, Result, Ok, Err, min, refl, sym, ap, subst, ◌∙◌, arith}
+use Rattle.std.proofs.Common.{◌≡◌, ◌<◌, ◌≤◌, ◌==◌, ℕ, zero, suc, Bool, true, false, ◌||◌, List, [], ◌∷◌, map, length, Some, Result, Ok, Err, refl, sym, ap, subst, ◌∙◌, arith}
 use Rattle.std.specs.List.{All, AllByRecursion, Contains, IsDistinct, list_any, slice_get}
 use Rattle.std.specs.Str.{bytes_eq}
 use Rattle.std.proofs.lemmas.Bool.{eqb-true}
 use Rattle.std.proofs.lemmas.List.Elements.{All-contains, All-from_recursion, recursion_from_All}
 use Rattle.std.proofs.lemmas.Map.Keys.{IsDistinct-head, IsDistinct-tail}
-use Rattle.std.proofs.lemmas.Option.{slice_get_within}
 use Rattle.value.specs.Columns.{Column}
 use Rattle.value.specs.Names.{Name}
 use Rattle.row_ast.specs.Ast.{Query}
@@ -28,7 +27,7 @@ use Rattle.store.specs.Derived.{column_number, indexed_columns}
 use Rattle.trailcheck.specs.Admissible.{is_listed}
 use Rattle.bound_plans.specs.Entries.{plan_entries}
 use Rattle.bound_plans.specs.Found.{Unmistakable}
-use Rattle.plan_laws.proofs.OwnNames.{has_column, has_entry, present}
+use Rattle.plan_laws.proofs.OwnNames.{has_column, has_entry}
 use Rattle.engine.specs.Settings.{indexed}
 use Rattle.engine.proofs.Readable.{found_in, table_of}
 use Rattle.plan_laws.specs.Names.{AreNames}
@@ -67,11 +66,12 @@ small_number column l = omega (arith, l)
 
 listed : (n column : ℕ) (ixs : List Index) → n ≤ most_columns → AllByRecursion (λ (i : Index). i.column < n) ixs → list_any (λ c. c == column) (indexed_columns ixs) ≡ true → (j : ℕ) × (j < n) × (suc j ≡ column)
 listed n column [] few h k = absurd (cc)
-listed n column (i ∷ ixs) few h k = go (column_number i.column == column) refl k
+listed n column (i ∷ ixs) few h k = go (column_number i.column == column) refl k (listed n column ixs few h.1)
   where
-    go : (b : Bool) → (column_number i.column == column) ≡ b → (b || list_any (λ c. c == column) (indexed_columns ixs)) ≡ true → (j : ℕ) × (j < n) × (suc j ≡ column)
-    go true is k = (i.column, h.0, sym (small_number i.column (let l = h.0 in omega (arith, l, few))) ∙ eqb-true (column_number i.column) column is)
-    go false is k = listed n column ixs few h.1 k
+    go : (b : Bool) → (column_number i.column == column) ≡ b → (b || list_any (λ c. c == column) (indexed_columns ixs)) ≡ true
+        → (list_any (λ c. c == column) (indexed_columns ixs) ≡ true → (j : ℕ) × (j < n) × (suc j ≡ column)) → (j : ℕ) × (j < n) × (suc j ≡ column)
+    go true is k more = (i.column, h.0, sym (small_number i.column (let l = h.0 in omega (arith, l, few))) ∙ eqb-true (column_number i.column) column is)
+    go false is k more = more k
 
 indexed_at : (es : List Entry) (i : ℕ) (e : Entry) → slice_get es i ≡ Some e → slice_get (indexed es) i ≡ Some (indexed_columns e.table.indexes)
 indexed_at [] i e g = absurd (cc)

@@ -1,5 +1,5 @@
 -- The plan that explains a text is accepted by its audit.
-use Rattle.std.proofs.Common.{◌≡◌, ◌<◌, ◌≤◌, ◌^◌, ℕ, zero, suc, true, if◌then◌else◌, List, [], ◌∷◌, map, length, Option, Some, option_map, Result, Ok, Err, slice_index_or, refl, sym, ap, subst, ◌∙◌, arith}
+use Rattle.std.proofs.Common.{◌≡◌, ◌<◌, ◌^◌, ℕ, zero, suc, true, if◌then◌else◌, List, [], ◌∷◌, map, length, option_map, Result, Ok, Err, slice_index_or, refl, ap, subst, ◌∙◌, arith}
 use Rattle.std.specs.List.{All, AllByRecursion, IsDistinct}
 use Rattle.std.specs.Str.{IsUtf8, bytes_eq}
 use Rattle.std.proofs.lemmas.List.{length-map}

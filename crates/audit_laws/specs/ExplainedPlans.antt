@@ -1,5 +1,5 @@
 -- The plan that explains a text, and its audit.
-use Rattle.std.specs.Prelude.{◌≡◌, ◌<◌, ◌^◌, ℕ, List, All, map, Some, Ok}
+use Rattle.std.specs.Prelude.{◌≡◌, ◌<◌, ◌^◌, ℕ, List, map, Some, Ok}
 use Rattle.std.specs.Str.{IsUtf8}
 use Rattle.value.specs.Names.{Name}
 use Rattle.plan_laws.specs.Names.{AreNames}
