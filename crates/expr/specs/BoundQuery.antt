@@ -14,6 +14,8 @@ pub record BoundQuery : Type 0 where
   pub items : List BoundItem
   -- of each entry
   pub ons : List (Option BoundExpr)
+  -- so many entries, the last ones, are left joined
+  pub left_count : ℕ
   pub filter : Option BoundExpr
   pub group_by : List ColumnId
   pub having : Option BoundExpr

@@ -1,5 +1,5 @@
 -- The conjuncts of a query.
-use Rattle.std.specs.Prelude.{Bool, true, false, not, List, [], ◌∷◌, ◌++◌, filter, Option, Some, None}
+use Rattle.std.specs.Prelude.{◌-◌, Bool, true, false, not, List, [], ◌∷◌, ◌++◌, length, filter, take, drop, Option, Some, None, option_to_list}
 use Rattle.std.specs.List.{flat_map}
 use Rattle.expr.specs.Bound as bound
 use Rattle.expr.specs.Bound.{BoundExpr, BoundExprs}
@@ -19,9 +19,17 @@ abbrev pub conjuncts_in : Option BoundExpr → List BoundExpr
 conjuncts_in None = []
 conjuncts_in (Some e) = conjuncts_of e
 
--- of each ON in the order of FROM, and then of WHERE
+-- the ON of each entry that is not left joined
+abbrev pub inner_ons : BoundQuery → List (Option BoundExpr)
+inner_ons q = take (length q.ons - q.left_count) q.ons
+
+-- the ONs of the left joined entries, in FROM order
+abbrev pub left_ons : BoundQuery → List BoundExpr
+left_ons q = flat_map option_to_list (drop (length q.ons - q.left_count) q.ons)
+
+-- of each ON in the order of FROM, those of left joins left out, and then of WHERE
 abbrev pub conjuncts : BoundQuery → List BoundExpr
-conjuncts q = flat_map conjuncts_in q.ons ++ conjuncts_in q.filter
+conjuncts q = flat_map conjuncts_in (inner_ons q) ++ conjuncts_in q.filter
 
 -- it may fault
 abbrev pub fragile : BoundExpr → Bool

@@ -5,7 +5,9 @@ pub mod Codes
 pub mod Coding
 pub mod Columns
 pub mod Conjuncts
+pub mod Fragile
 pub mod Movable
 pub mod NamedColumns
+pub mod Offsets
 pub mod View
 pub mod Weights

@@ -74,6 +74,7 @@ abbrev pub bound_query_of : {A : Type 0} → query.BoundQuery A → BoundQuery
 bound_query_of q = record {
   items = bound_items_of q.items;
   ons = map (λ o. option_map (λ b. bound_expr_of b.value) o) q.ons;
+  left_count = q.left_count;
   filter = option_map (λ b. bound_expr_of b.value) q.filter;
   group_by = q.group_by;
   having = option_map (λ b. bound_expr_of b.value) q.having;

@@ -78,7 +78,7 @@ fn push_conditions<'q, A: Heap>(
     Ok(())
 }
 
-// Of each ON in the order of FROM, and then of WHERE.
+// Of each ON in the order of FROM, those of left joins left out, and then of WHERE.
 fn conjuncts<'q, A: Heap>(
     alloc: A,
     query: &'q BoundQuery<A>,
@@ -86,7 +86,9 @@ fn conjuncts<'q, A: Heap>(
     ensures { IfOk result (λ v. map (λ e. bound_expr_of e.now) v.items ≡ spec.conjuncts (bound_query_of query.now)) }
 {
     let mut known = Vec::new(alloc);
-    push_conditions(&mut known, query.ons.as_slice())?;
+    let ons = query.ons.as_slice();
+    let inner = ons.len().saturating_sub(query.left_count);
+    push_conditions(&mut known, &ons[..inner])?;
     push_condition(&mut known, &query.filter)?;
     Ok(known)
 }
@@ -108,7 +110,7 @@ fn parted<'q, A: Heap>(
     Ok(part)
 }
 
-/// The conjuncts that cannot fault, in written order: of each ON in the order of FROM, and then of WHERE.
+/// The conjuncts that cannot fault, in written order: of each ON in the order of FROM, those of left joins left out, and then of WHERE.
 pub fn movable_conjuncts<'q, A: Heap>(
     alloc: A,
     query: &'q BoundQuery<A>,
@@ -120,7 +122,7 @@ pub fn movable_conjuncts<'q, A: Heap>(
     parted(alloc, &all, true)
 }
 
-/// The conjuncts that may fault, in written order: of each ON in the order of FROM, and then of WHERE.
+/// The conjuncts that may fault, in written order: of each ON in the order of FROM, those of left joins left out, and then of WHERE.
 pub fn fragile_conjuncts<'q, A: Heap>(
     alloc: A,
     query: &'q BoundQuery<A>,

@@ -31,6 +31,8 @@ pub struct BoundQuery<A: Heap> {
     pub items: Items<BoundItem<A>, A>,
     /// The ON of each entry.
     pub ons: Items<BoundCondition<A>, A>,
+    /// How many of the entries, the last ones, are left joined.
+    pub left_count: usize,
     /// WHERE.
     pub filter: BoundCondition<A>,
     /// The columns of GROUP BY, none without it.

@@ -109,6 +109,11 @@ pub record FromItem : Type 0 where
   pub first : TableRef
   pub joins : List Join
 
+-- LEFT JOIN table ON on
+pub record LeftJoin : Type 0 where
+  pub table : TableRef
+  pub on_ : Condition
+
 -- an output column by its heading, or by its position from 1
 pub data SortTarget : Type 0 where
   Heading : Name → SortTarget
@@ -123,6 +128,7 @@ pub record SortKey : Type 0 where
 pub record Query : Type 0 where
   pub select : SelectList
   pub from : List FromItem
+  pub lefts : List LeftJoin
   pub filter : Option Condition
   pub group_by : List ColumnRef
   pub having : Option Condition

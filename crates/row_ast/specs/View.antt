@@ -15,6 +15,7 @@ use Rattle.row_ast.specs.declared.query.TableRef.{TableRef}
 use Rattle.row_ast.specs.declared.query.Join.{Join}
 use Rattle.row_ast.specs.declared.query.Join.TheVariants as join
 use Rattle.row_ast.specs.declared.query.FromItem.{FromItem}
+use Rattle.row_ast.specs.declared.query.LeftJoin.{LeftJoin}
 use Rattle.row_ast.specs.declared.query.SortTarget.{SortTarget}
 use Rattle.row_ast.specs.declared.query.SortTarget.TheVariants as sort_target
 use Rattle.row_ast.specs.declared.query.SortKey.{SortKey}
@@ -91,6 +92,9 @@ join_of (join.Cross table) = ast.Cross (table_ref_of table)
 abbrev pub from_item_of : {A : Type 0} → FromItem A → ast.FromItem
 from_item_of f = record { first = table_ref_of f.first; joins = map join_of f.joins }
 
+abbrev pub left_join_of : {A : Type 0} → LeftJoin A → ast.LeftJoin
+left_join_of l = record { table = table_ref_of l.table; on_ = condition_of l.on }
+
 abbrev pub sort_target_of : {A : Type 0} → SortTarget A → ast.SortTarget
 sort_target_of (sort_target.Heading name) = ast.Heading name
 sort_target_of (sort_target.Position n) = ast.Position n
@@ -102,6 +106,7 @@ abbrev pub query_of : {A : Type 0} → Query A → ast.Query
 query_of q = record {
   select = select_list_of q.select;
   from = map from_item_of q.from;
+  lefts = map left_join_of q.lefts;
   filter = option_map condition_of q.filter;
   group_by = map column_ref_of q.group_by;
   having = option_map condition_of q.having;

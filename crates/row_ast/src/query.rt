@@ -64,6 +64,15 @@ pub struct FromItem<A: Heap> {
     pub joins: Items<Join<A>, A>,
 }
 
+/// A table that is joined to all tables before it, with a null row where none of its rows fits (PostgreSQL: LEFT JOIN).
+#[derive(Drop)]
+pub struct LeftJoin<A: Heap> {
+    /// The table.
+    pub table: TableRef<A>,
+    /// Its ON.
+    pub on: Condition<A>,
+}
+
 /// The output column of a key of ORDER BY.
 #[derive(Drop)]
 pub enum SortTarget<A: Heap> {
@@ -91,6 +100,8 @@ pub struct Query<A: Heap> {
     pub select: SelectList<A>,
     /// FROM.
     pub from: Items<FromItem<A>, A>,
+    /// The left joins at its end.
+    pub lefts: Items<LeftJoin<A>, A>,
     /// WHERE.
     pub filter: Option<Condition<A>>,
     /// The columns of GROUP BY, none without it.

@@ -43,7 +43,7 @@ starts p (b ∷ bs) = p b
 abbrev pub folded : List ℕ → List ℕ
 folded word = map to_ascii_lowercase word
 
--- the words that are no names; of the last fifteen no rule has any
+-- the words that are no names; of the last thirteen no rule has any
 abbrev pub reserved : List (List ℕ × TokenKind)
 reserved =
     (codes "all", k.All) ∷ (codes "and", k.And) ∷ (codes "asc", k.Asc) ∷ (codes "as", k.As) ∷ (codes "between", k.Between)
@@ -51,12 +51,12 @@ reserved =
     ∷ (codes "current_user", k.CurrentUser) ∷ (codes "desc", k.Desc) ∷ (codes "else", k.Else) ∷ (codes "end", k.End)
     ∷ (codes "false", k.False) ∷ (codes "for", k.For) ∷ (codes "from", k.From) ∷ (codes "group", k.Group)
     ∷ (codes "having", k.Having) ∷ (codes "in", k.In) ∷ (codes "inner", k.Inner) ∷ (codes "is", k.Is) ∷ (codes "join", k.Join)
-    ∷ (codes "limit", k.Limit) ∷ (codes "not", k.Not) ∷ (codes "null", k.Null) ∷ (codes "on", k.On) ∷ (codes "or", k.Or)
-    ∷ (codes "order", k.Order) ∷ (codes "select", k.Select) ∷ (codes "then", k.Then) ∷ (codes "to", k.To) ∷ (codes "true", k.True)
+    ∷ (codes "left", k.Left) ∷ (codes "limit", k.Limit) ∷ (codes "not", k.Not) ∷ (codes "null", k.Null) ∷ (codes "on", k.On) ∷ (codes "or", k.Or)
+    ∷ (codes "order", k.Order) ∷ (codes "outer", k.Outer) ∷ (codes "select", k.Select) ∷ (codes "then", k.Then) ∷ (codes "to", k.To) ∷ (codes "true", k.True)
     ∷ (codes "using", k.Using) ∷ (codes "when", k.When) ∷ (codes "where", k.Where)
     ∷ (codes "distinct", k.Reserved) ∷ (codes "except", k.Reserved) ∷ (codes "exists", k.Reserved) ∷ (codes "fetch", k.Reserved)
-    ∷ (codes "full", k.Reserved) ∷ (codes "intersect", k.Reserved) ∷ (codes "left", k.Reserved) ∷ (codes "like", k.Reserved)
-    ∷ (codes "natural", k.Reserved) ∷ (codes "offset", k.Reserved) ∷ (codes "outer", k.Reserved) ∷ (codes "right", k.Reserved)
+    ∷ (codes "full", k.Reserved) ∷ (codes "intersect", k.Reserved) ∷ (codes "like", k.Reserved)
+    ∷ (codes "natural", k.Reserved) ∷ (codes "offset", k.Reserved) ∷ (codes "right", k.Reserved)
     ∷ (codes "union", k.Reserved) ∷ (codes "window", k.Reserved) ∷ (codes "with", k.Reserved) ∷ []
 
 -- the words that are names but where a rule expects them

@@ -10,7 +10,7 @@ use Rattle.scope.specs.declared.error.BindError.{BindError}
 use Rattle.scope.specs.declared.lookup.Scope.{Scope}
 use Rattle.scope.specs.Entry.{Entry, fault}
 use Rattle.scope.specs.Lookup.{everywhere, on_scope}
-use Rattle.typing.specs.Offsets.{least_of, least_of_all}
+use Rattle.expr.specs.Offsets.{least_of, least_of_all}
 use Rattle.typing.specs.Typing.{Typed, typed, typed_condition}
 use Rattle.expr.specs.Bound.{is_column}
 use Rattle.typing.specs.Grouping.{misplaced}

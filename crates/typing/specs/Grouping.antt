@@ -8,7 +8,7 @@ use Rattle.scope.specs.declared.error.BindError.{BindError}
 use Rattle.scope.specs.declared.lookup.Scope.{Scope}
 use Rattle.scope.specs.Entry.{Entry}
 use Rattle.scope.specs.Lookup.{find_column}
-use Rattle.typing.specs.Offsets.{least_of}
+use Rattle.expr.specs.Offsets.{least_of}
 
 -- in an item or HAVING of a grouped query, outside aggregates, a column has to be one of GROUP BY
 abbrev pub misplaced_column : List ColumnId → Bool → ℕ → Result ColumnId BindError → Option ℕ

@@ -7,7 +7,7 @@ ghost use Rattle.scope.specs.View.{entries_of};
 ghost use Rattle.scope.specs.Lookup.{everywhere};
 ghost use Rattle.typing.specs.Clauses as spec;
 ghost use Rattle.typing.specs.Grouping.{misplaced};
-ghost use Rattle.typing.specs.Offsets.{least_of_all};
+ghost use Rattle.expr.specs.Offsets.{least_of_all};
 ghost use Rattle.typing.specs.Typing.{typed};
 
 use crate::grouped::{is_among, misplaced};

@@ -30,7 +30,7 @@ code_of r.ProgramLimitExceeded = codes "54000"
 
 abbrev pub meaning_of : Refusal → List ℕ
 meaning_of r.ConnectionDoesNotExist = codes "no such session"
-meaning_of r.FeatureNotSupported = codes "not supported yet"
+meaning_of r.FeatureNotSupported = codes "this LEFT JOIN is not supported"
 meaning_of r.InvalidGrantOperation = codes "the grant would make a role belong to itself"
 meaning_of r.InvalidSqlStatementName = codes "no prepared statement has this name"
 meaning_of r.InvalidCursorName = codes "no cursor has this name"

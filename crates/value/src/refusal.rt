@@ -95,7 +95,7 @@ impl Refusal {
     {
         match self {
             Refusal::ConnectionDoesNotExist => "no such session",
-            Refusal::FeatureNotSupported => "not supported yet",
+            Refusal::FeatureNotSupported => "this LEFT JOIN is not supported",
             Refusal::InvalidGrantOperation => "the grant would make a role belong to itself",
             Refusal::InvalidSqlStatementName => "no prepared statement has this name",
             Refusal::InvalidCursorName => "no cursor has this name",
