@@ -1,5 +1,6 @@
 pub mod Combinations
 pub mod Guards
+pub mod LeftCombinations
 pub mod Rows
 pub mod Sinks
 pub mod Slots
