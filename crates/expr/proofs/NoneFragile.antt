@@ -15,7 +15,7 @@ is_there i None h = cc
 is_there i (Some j) h = cc
 
 both_true : (a b : Bool) → a ≡ true → b ≡ true → (a && b) ≡ true
-both_true a b refl refl = refl
+both_true a b e f = rw (e, f) refl
 
 mutual
   pub none_is_movable : (e : BoundExpr) → first_fragile e ≡ None → movable e ≡ true
