@@ -9,7 +9,7 @@ ghost use Rattle.tuples.specs.Combinations.{combinations};
 ghost use Rattle.tuples.specs.LeftCombinations.{left_combinations};
 
 /// Without left joins the combinations of a query are all those of the rows of its entries.
-#[tactic(auto, using(crate::proofs::NoLefts::no_left_ons, crate::proofs::NoLefts::no_lefts))]
+#[tactic(auto, using(crate::proofs::NoLefts::no_lefts))]
 pub fn law_no_lefts()
     ensures ons { (q : BoundQuery) → q.left_count ≡ 0 → left_ons q ≡ [] }
     ensures combinations { (role : Name) (tables : List (List value.Row)) → left_combinations role [] tables ≡ combinations tables }
