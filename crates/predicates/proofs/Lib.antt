@@ -9,5 +9,6 @@ pub mod Folds
 pub mod Connected
 pub mod Sides
 pub mod Parts
+pub mod Rejects
 pub use Rattle.eval.proofs.Agreement
 pub use Rattle.eval.proofs.Movables

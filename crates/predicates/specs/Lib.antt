@@ -3,6 +3,7 @@ pub mod Offsets
 pub mod Inward
 pub mod Folded
 pub mod Laws
+pub mod NullRows
 pub mod Numbered
 pub mod Operands
 pub mod OperandsView

@@ -1,6 +1,7 @@
 //! Laws of every condition.
 
 ghost use Rattle.predicates.specs.Same.{SameIsEqual};
+ghost use Rattle.predicates.specs.NullRows.{NullRowsAreRejected};
 ghost use Rattle.predicates.specs.Closed.{FoldsWhatIsClosed};
 ghost use Rattle.predicates.specs.Laws.{BothHold, EqualityChains, EqualityTurns, FactoringKeeps, FoldingKeepsValue, InwardKeepsTruth, NeverTrue, NotNullKeeps, OffsetsKeepValue, PartsHold};
 
@@ -62,4 +63,9 @@ pub fn law_not_null_keeps_rows()
 /// The literals FALSE and NULL hold on no row.
 pub fn law_never_true()
     ensures { NeverTrue }
+{}
+
+/// A comparison with a column as one side is not true where the column is null, and neither are IS NOT NULL and IN of it.
+pub fn law_null_rows_are_rejected()
+    ensures { NullRowsAreRejected }
 {}

@@ -7,6 +7,7 @@ mod equalities;
 mod folding;
 mod forms;
 mod laws;
+mod null_rows;
 mod numbering;
 mod offsets;
 mod operands;
@@ -23,8 +24,10 @@ pub use forms::{folded, inward};
 pub use laws::{
     law_both_hold, law_equalities_chain, law_equality_turns, law_factoring_keeps_rows,
     law_folding_keeps_value, law_folds_what_is_closed, law_inward_keeps_truth, law_never_true,
-    law_not_null_keeps_rows, law_offsets_keep_value, law_parts_hold, law_same_is_equal,
+    law_not_null_keeps_rows, law_null_rows_are_rejected, law_offsets_keep_value, law_parts_hold,
+    law_same_is_equal,
 };
+pub use null_rows::rejecting_columns;
 pub use numbering::numbered;
 pub use offsets::copy_without_offsets;
 pub use operands::{Operands, is_same_node, operands_in};
