@@ -40,6 +40,12 @@ last_first first [] = first
 last_first first (f ∷ []) = first
 last_first first (f ∷ g ∷ more) = last_first (first + length (item_tables first f)) (g ∷ more)
 
+-- the same, of their tables
+abbrev pub first_of_last : List JoinedTable → ℕ
+first_of_last [] = 0
+first_of_last (j ∷ []) = j.first
+first_of_last (j ∷ k ∷ more) = first_of_last (k ∷ more)
+
 -- the table of a left join, which goes on the last comma item
 abbrev pub left_table : ℕ → ast.LeftJoin → JoinedTable
 left_table first l = record { table = l.table; first = first; on = Some l.on_ }
