@@ -61,6 +61,9 @@ zed | SELECT id FROM deal | 6 refused 42704
 audit | SELECT | 3 refused 42601 at 6
 audit | SELECT nosuch FROM deal | 3 refused 42703 at 7
 audit | SELECT id FROM nosuch | 3 refused 42P01 at 15
+audit | SELECT d.id FROM deal d LEFT JOIN region r ON d.region = r.id | 3 refused 0A000
+audit | SELECT d.id FROM deal d LEFT JOIN region r ON CAST(d.id AS text) = r.name | 3 refused 0A000 at 46
+lone | SELECT d.id FROM deal d LEFT JOIN region r ON d.region = r.id | 4 denied 42501 column id of table deal
 lone | SELECT id FROM deal | 4 denied 42501 column id of table deal
 guest | SELECT owner FROM deal | 4 denied 42501 column owner of table deal
 ";

@@ -104,6 +104,21 @@ ask 0 SELECT amount / parts FROM deal => fault 22012 at 14
 ask 0 SELECT id FROM deal => id / 1 / 2 / 3 / 4 / 5
 ";
 
+// A left join has no plan yet, and its ON may not fault; names and privileges come before that.
+const LEFT_JOINS: &str = "\
+login alice => session 0
+ask 0 SELECT d.id FROM deal d LEFT JOIN region r ON d.region = r.id => refused 0A000
+prepare 0 p SELECT d.id FROM deal d LEFT JOIN region r ON d.region = r.id => ok
+execute 0 p => refused 0A000
+declare 0 c SELECT d.id FROM deal d LEFT OUTER JOIN region r ON TRUE => refused 0A000
+fetch 0 c 1 => refused 34000
+ask 0 SELECT d.id FROM deal d LEFT JOIN region r ON d.amount/d.parts = r.id => refused 0A000 at 54
+login lone => session 1
+ask 1 SELECT d.id FROM deal d LEFT JOIN region r ON d.region = r.id => denied 42501 column id of table deal
+ask 1 SELECT r.id FROM region r LEFT JOIN deal d ON TRUE => denied 42501 table deal
+ask 1 SELECT d.id FROM deal d LEFT JOIN region r ON d.amount/d.parts = r.id => refused 0A000 at 54
+";
+
 // Statements of a superuser that are refused by what they name, by their condition, or since it is there already.
 const STATEMENTS: &str = "\
 login root => session 0
@@ -186,6 +201,11 @@ fn names_that_are_in_use_or_unknown(rt: HostRuntime) -> Result<(), Fail> {
 #[test]
 fn texts_are_refused_at_their_offset(rt: HostRuntime) -> Result<(), Fail> {
     Ok(run(&rt, OFFSETS)?)
+}
+
+#[test]
+fn left_joins_are_refused(rt: HostRuntime) -> Result<(), Fail> {
+    Ok(run(&rt, LEFT_JOINS)?)
 }
 
 #[test]

@@ -1,7 +1,8 @@
--- A query within the limits has few conjuncts, and as many when it is bound.
-use Rattle.std.proofs.Common.{◌≡◌, ℕ, ◌+◌, ◌≤◌, Bool, true, false, ◌&&◌, cond, List, [], ◌∷◌, ◌++◌, length, length-append, map, Option, Some, None, Result, Ok, Err, refl, sym, ap, subst, ◌∙◌, arith}
+-- A query within the limits has few conjuncts, and no more when it is bound.
+use Rattle.std.proofs.Common.{◌≡◌, ℕ, ◌+◌, ◌≤◌, Bool, true, false, ◌&&◌, cond, List, [], ◌∷◌, ◌++◌, ◌-◌, length, length-append, map, take, drop, Option, Some, None, Result, Ok, Err, refl, sym, ap, subst, ◌∙◌, arith}
 use Rattle.std.specs.List.{flat_map, sum, sum_by}
 use Rattle.std.proofs.lemmas.Bool.{leb-true}
+use Rattle.std.proofs.lemmas.List.{take-append-drop}
 use Rattle.std.proofs.lemmas.List.Concat.{length-flat_map}
 use Rattle.std.proofs.lemmas.List.Sums.{count_by-le-length, length-filter, sum-map, sum_by-append, sum_by-cons}
 use Rattle.memory.specs.Results.{and_then, first_then, on_each}
@@ -14,7 +15,7 @@ use Rattle.expr.specs.declared.bound.ColumnId.{ColumnId}
 use Rattle.expr.specs.Bound as bound
 use Rattle.expr.specs.Bound.{BoundExpr, bound_arms_of, bound_exprs_of}
 use Rattle.expr.specs.BoundQuery.{BoundItem, BoundQuery}
-use Rattle.expr.specs.Conjuncts.{conjuncts, conjuncts_in, conjuncts_of, members, movable_conjuncts}
+use Rattle.expr.specs.Conjuncts.{conjuncts, conjuncts_in, conjuncts_of, inner_ons, members, movable_conjuncts}
 use Rattle.expr.specs.Movable.{movable}
 use Rattle.row_objects.specs.Objects.{Table}
 use Rattle.scope.specs.declared.error.BindError.{BindError}
@@ -23,12 +24,12 @@ use Rattle.scope.specs.Entry.{Entry, fault}
 use Rattle.scope.specs.Lookup.{everywhere, find_column, on_scope}
 use Rattle.scope.specs.BoundExprs.{bound_arms, bound_expr, bound_members, bound_otherwise}
 use Rattle.syntax.specs.Limits as limits
-use Rattle.syntax.specs.Limits.{filter_members, from_members, join_members, within_limits}
+use Rattle.syntax.specs.Limits.{filter_members, from_members, join_members, left_members, within_limits}
 use Rattle.catalog.specs.Catalog.{Catalog}
-use Rattle.resolve.specs.Entries.{JoinedTable, alias_of, entries, entries_in, entry_in, first_table, found_entry, is_used, item_tables, joined, joined_by}
+use Rattle.resolve.specs.Entries.{JoinedTable, alias_of, entries, entries_in, entry_in, first_table, found_entry, is_used, item_tables, joined, joined_by, last_first, left_table, tables_of}
 use Rattle.resolve.specs.BoundQueries.{bound_condition, bound_ons, bound_parts, bound_query}
 use Rattle.resolve.specs.OrderBy.{output_key}
-use Rattle.resolve.specs.Resolved.{Bound, bound, bound_with, checked, ordered, unless_fault, with_order}
+use Rattle.resolve.specs.Resolved.{Bound, bound, bound_checked, bound_with, checked, left_fault, lefts_checked, ordered, unless_fault, with_order}
 use Rattle.scope.proofs.Found.{first_given}
 use Rattle.resolve.proofs.EntryTables.{given}
 use Rattle.analysis.specs.Analysis.{admitted_query, permitted}
@@ -167,27 +168,52 @@ items_joined first (f ∷ more) =
     let n = sum-map join_members f.joins in
     omega arith
 
+lefts_joined : (first : ℕ) (ls : List ast.LeftJoin) → sum_by table_members (map (left_table first) ls) ≡ left_members ls
+lefts_joined first [] = refl
+lefts_joined first (l ∷ ls) =
+    let n = lefts_joined first ls in
+    let k = sum_by-cons table_members (left_table first l) (map (left_table first) ls) in
+    let s = sum-map (λ l. limits.members l.on_) (l ∷ ls) in
+    let t = sum_by-cons (λ l. limits.members l.on_) l ls in
+    let u = sum-map (λ l. limits.members l.on_) ls in
+    omega arith
+
+tables_joined : (q : ast.Query) → sum_by table_members (tables_of q) ≡ limits.on_members q
+tables_joined q =
+    let n = items_joined 0 q.from in
+    let m = lefts_joined (last_first 0 q.from) q.lefts in
+    let k = sum_by-append table_members (joined 0 q.from) (map (left_table (last_first 0 q.from)) q.lefts) in
+    omega arith
+
 -- ---- the query
 
-parts_kept : (grouped : Bool) (limit : Option ℕ) (items : Result (List BoundItem) BindError) (ons : Result (List (Option BoundExpr)) BindError)
+parts_kept : (grouped : Bool) (lefts : ℕ) (limit : Option ℕ) (items : Result (List BoundItem) BindError) (ons : Result (List (Option BoundExpr)) BindError)
     (filter : Result (Option BoundExpr) BindError) (group_by : Result (List ColumnId) BindError) (having : Result (Option BoundExpr) BindError) (b : BoundQuery)
-    → bound_parts grouped limit items ons filter group_by having ≡ Ok b → (ons ≡ Ok b.ons) × (filter ≡ Ok b.filter)
+    → bound_parts grouped lefts limit items ons filter group_by having ≡ Ok b → (ons ≡ Ok b.ons) × (filter ≡ Ok b.filter)
 parts_kept grouped limit (Err fault) ons filter group_by having b e = absurd (cc)
 parts_kept grouped limit (Ok items) (Err fault) filter group_by having b e = absurd (cc)
 parts_kept grouped limit (Ok items) (Ok ons) (Err fault) group_by having b e = absurd (cc)
 parts_kept grouped limit (Ok items) (Ok ons) (Ok filter) (Err fault) having b e = absurd (cc)
 parts_kept grouped limit (Ok items) (Ok ons) (Ok filter) (Ok group_by) (Err fault) b e = absurd (cc)
 parts_kept grouped limit (Ok items) (Ok ons) (Ok filter) (Ok group_by) (Ok having) b e =
-    let same = ok_is (record { items = items; ons = ons; filter = filter; group_by = group_by; having = having; is_grouped = grouped; order_by = []; limit = limit }) b e in
+    let same = ok_is (record { items = items; ons = ons; left_count = lefts; filter = filter; group_by = group_by; having = having; is_grouped = grouped; order_by = []; limit = limit }) b e in
     (ap (λ b. Ok b.ons) same, ap (λ b. Ok b.filter) same)
 
-query_bound : (es : List Entry) (q : ast.Query) (b : BoundQuery) → bound_query es q ≡ Ok b → length (conjuncts b) ≡ sum_by entry_members es + filter_members q.filter
+-- of the first ones there are no more than of all
+of_the_first : (n : ℕ) (ons : List (Option BoundExpr)) → sum_by count_in (take n ons) ≤ sum_by count_in ons
+of_the_first n ons =
+    let k = sum_by-append count_in (take n ons) (drop n ons) in
+    let e = ap (sum_by count_in) (take-append-drop n ons) in
+    omega arith
+
+query_bound : (es : List Entry) (q : ast.Query) (b : BoundQuery) → bound_query es q ≡ Ok b → length (conjuncts b) ≤ sum_by entry_members es + filter_members q.filter
 query_bound es q b e =
-    let parts = parts_kept _ _ _ _ _ _ _ b e in
+    let parts = parts_kept _ _ _ _ _ _ _ _ b e in
     let n = ons_bound es 0 es b.ons parts.0 in
     let m = condition_bound es (everywhere es) q.filter b.filter parts.1 in
-    let k = length-append (flat_map conjuncts_in b.ons) (conjuncts_in b.filter) in
-    let l = length-flat_map conjuncts_in b.ons in
+    let k = length-append (flat_map conjuncts_in (inner_ons b)) (conjuncts_in b.filter) in
+    let l = length-flat_map conjuncts_in (inner_ons b) in
+    let f = of_the_first (length b.ons - b.left_count) b.ons in
     omega arith
 
 -- the checks and ORDER BY keep the conjuncts
@@ -202,14 +228,16 @@ checked_kept es q c b e =
     let keys = given (λ keys. Ok record { entries = es; query = with_order types.0 keys }) b (on_each (output_key types.0.items) q.order_by) types.2 in
     ap (λ c. length (conjuncts c)) (not_faulty _ c types.0 types.1) ∙ ap (λ b. length (conjuncts b.query)) (ok_is (record { entries = es; query = with_order types.0 keys.0 }) b keys.2)
 
-as_many_conjuncts : (cat : Catalog) (q : ast.Query) (b : Bound) → bound cat q ≡ Ok b → length (conjuncts b.query) ≡ limits.conjuncts q
-as_many_conjuncts cat q b e =
-    let found = given (bound_with q) b (entries cat q.from) e in
-    let columns = given (checked found.0 q) b (bound_query found.0 q) found.2 in
-    let n = checked_kept found.0 q columns.0 b columns.2 in
+as_few_conjuncts : (cat : Catalog) (q : ast.Query) (b : Bound) → bound cat q ≡ Ok b → length (conjuncts b.query) ≤ limits.conjuncts q
+as_few_conjuncts cat q b e =
+    let found = given (bound_with q) b (entries cat q) e in
+    let all = given lefts_checked b (bound_checked q found.0) found.2 in
+    let columns = given (checked found.0 q) all.0 (bound_query found.0 q) all.1 in
+    let n = checked_kept found.0 q columns.0 all.0 columns.2 in
     let m = query_bound found.0 q columns.0 columns.1 in
-    let k = entries_found cat [] (joined 0 q.from) found.0 found.1 in
-    let l = items_joined 0 q.from in
+    let k = entries_found cat [] (tables_of q) found.0 found.1 in
+    let l = tables_joined q in
+    let s = ap (λ b. length (conjuncts b.query)) (not_faulty (left_fault all.0.query) all.0 b all.2) in
     omega arith
 
 -- ---- those that are movable
@@ -231,7 +259,7 @@ permitted_conjuncts : (cat : Catalog) (role : Name) (q : ast.Query) (b : Bound) 
     → limits.conjuncts q ≤ most_conjuncts → bound cat q ≡ r → permitted cat role r ≡ Ok b → length (movable_conjuncts b.query) ≤ most_conjuncts
 permitted_conjuncts cat role q b (Err fault) few is e = absurd (cc)
 permitted_conjuncts cat role q b (Ok b') few is e =
-    let n = as_many_conjuncts cat q b' is in
+    let n = as_few_conjuncts cat q b' is in
     let m = few_movable b'.query in
     subst (λ (b : Bound). length (movable_conjuncts b.query) ≤ most_conjuncts) (not_denied b' b _ e) (omega arith)
 

@@ -1,15 +1,17 @@
 -- The members of an AND, and the conjuncts of a part.
-use Rattle.std.proofs.Common.{◌≡◌, Bool, true, false, ℕ, suc, ◌+◌, ◌<◌, ◌≤◌, List, [], ◌∷◌, ◌++◌, length, map, get_or, drop, drop-cons, append_assoc, append-nil, refl, sym, ap, ◌∙◌, arith}
+use Rattle.std.proofs.Common.{◌≡◌, Bool, true, false, ℕ, suc, ◌+◌, ◌-◌, ◌<◌, ◌≤◌, List, [], ◌∷◌, ◌++◌, length, map, get_or, take, drop, drop-cons, append_assoc, append-nil, refl, sym, ap, ◌∙◌, arith}
 use Rattle.std.specs.Prelude.{filter, Option, Result, Ok, Err, IfOk}
 use Rattle.std.specs.List.{flat_map, list_all}
+use Rattle.std.proofs.lemmas.List.{length-map, take-map}
 use Rattle.std.proofs.Math.Bool.{beq}
 use Rattle.std.proofs.Math.ListN.{drop_of_length-le}
+use Rattle.std.proofs.Math.Seq.{take-length}
 use Rattle.expr.specs.Bound.{BoundExpr}
 use Rattle.expr.specs.Movable.{movable}
 use Rattle.expr.specs.View.{bound_expr_of, bound_exprs}
 use Rattle.expr.specs.declared.bound.BoundExpr as declared
 use Rattle.expr.specs.BoundQuery.{BoundQuery}
-use Rattle.expr.specs.Conjuncts.{conjuncts, conjuncts_in, members, is_in_part}
+use Rattle.expr.specs.Conjuncts.{conjuncts, conjuncts_in, inner_ons, left_ons, members, is_in_part}
 
 pub members_of : {A : Type 0} (es : List (declared.BoundExpr A)) → members (bound_exprs es) ≡ map (λ e. bound_expr_of e) es
 members_of [] = refl
@@ -29,8 +31,19 @@ if_all_filtered view p xs (Ok v) h = rw h (all_filtered p xs)
 if_all_filtered view p xs (Err e) h = tt
 
 -- those of each ON, and then of WHERE
-pub of_each : (q : BoundQuery) (ons : List (Option BoundExpr)) (k0 k1 k2 : List BoundExpr) → ons ≡ q.ons → k0 ≡ [] → k1 ≡ k0 ++ flat_map conjuncts_in ons → k2 ≡ k1 ++ conjuncts_in q.filter → k2 ≡ conjuncts q
+pub of_each : (q : BoundQuery) (ons : List (Option BoundExpr)) (k0 k1 k2 : List BoundExpr) → ons ≡ inner_ons q → k0 ≡ [] → k1 ≡ k0 ++ flat_map conjuncts_in ons → k2 ≡ k1 ++ conjuncts_in q.filter → k2 ≡ conjuncts q
 of_each q ons k0 k1 k2 o e0 e1 e2 = rw (e2, e1, e0, o) refl
+
+-- the views of the first ONs, so many as there are before those of left joins
+pub inner_viewed : {Y : Type 0} (v : Y → Option BoundExpr) (q : BoundQuery) (xs ys : List Y) (n : ℕ) → xs ≡ ys → q.ons ≡ map v ys → n ≡ length xs - q.left_count → map v (take n xs) ≡ inner_ons q
+inner_viewed v q xs ys n e o l = rw (l, e, o) (sym (take-map v (length ys - q.left_count) ys) ∙ ap (λ k. take (k - q.left_count) (map v ys)) (sym (length-map ys v)))
+
+-- a query without left joins has their ONs alone
+pub no_left_ons : (q : BoundQuery) → q.left_count ≡ 0 → left_ons q ≡ []
+no_left_ons q none = let e : drop (length q.ons - q.left_count) q.ons ≡ [] = drop_of_length-le q.ons (omega (arith, none)) in rw e refl
+
+pub all_inner_ons : (q : BoundQuery) → q.left_count ≡ 0 → inner_ons q ≡ q.ons
+all_inner_ons q none = let e : length q.ons - q.left_count ≡ length q.ons = omega (arith, none) in rw e (take-length q.ons)
 
 -- ---- one view more of each item that is read
 

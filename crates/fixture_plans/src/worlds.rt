@@ -72,6 +72,7 @@ pub fn no_query(alloc: Global) -> BoundQuery<Global> {
     BoundQuery {
         items: Items::new(alloc),
         ons: Items::new(alloc),
+        left_count: 0,
         filter: None,
         group_by: Items::new(alloc),
         having: None,

@@ -21,6 +21,7 @@ use Rattle.analysis.proofs.EntryTables.{given}
 use Rattle.analysis.specs.Access.{RequiredPrivilege, denial}
 use Rattle.analysis.specs.Needed.{needed}
 use Rattle.analysis.specs.Analysis.{admitted, admitted_query, permitted, query_read, unless_denied}
+use Rattle.analysis.proofs.Admitted.{not_denied}
 
 -- ---- the parts
 
@@ -78,9 +79,9 @@ is_made cat q b e =
 
 -- ---- an admitted query
 
-not_denied : (b c : Bound) (o : Option RequiredPrivilege) → unless_denied b o ≡ Ok c → (b ≡ c) × (o ≡ None)
-not_denied b c None e = (ok_is b c e, refl)
-not_denied b c (Some privilege) e = absurd (cc)
+nothing_denied : (b c : Bound) (o : Option RequiredPrivilege) → unless_denied b o ≡ Ok c → o ≡ None
+nothing_denied b c None e = refl
+nothing_denied b c (Some privilege) e = absurd (cc)
 
 abbrev Granted : Catalog → Name → Bound → Type 0
 Granted cat role b = denial cat role (needed b.entries b.query) ≡ None
@@ -88,8 +89,9 @@ Granted cat role b = denial cat role (needed b.entries b.query) ≡ None
 permitted_bound : (cat : Catalog) (role : Name) (r : Result Bound BindError) (b : Bound) → permitted cat role r ≡ Ok b → (r ≡ Ok b) × Granted cat role b
 permitted_bound cat role (Err fault) b e = absurd (cc)
 permitted_bound cat role (Ok c) b e =
-    let it = not_denied c b (denial cat role (needed c.entries c.query)) e in
-    (ap (λ c. Ok c) it.0, subst (Granted cat role) it.0 it.1)
+    let lacking = denial cat role (needed c.entries c.query) in
+    let same = not_denied c b lacking e in
+    (ap (λ c. Ok c) same, subst (Granted cat role) same (nothing_denied c b lacking e))
 
 -- it is bound of a query, and none of the privileges that it needs is lacking
 pub admitted_bound : (cat : Catalog) (role : Name) (text : List ℕ) (b : Bound) → admitted cat role text ≡ Ok b

@@ -20,7 +20,7 @@ use Rattle.scope.specs.declared.lookup.Scope.{Scope}
 use Rattle.scope.specs.Entry.{Entry}
 use Rattle.scope.specs.Lookup.{everywhere, find_column, on_scope}
 use Rattle.scope.specs.BoundExprs.{bound_arms, bound_expr, bound_members, bound_otherwise, pair}
-use Rattle.typing.specs.Offsets.{least_of, least_of_all}
+use Rattle.expr.specs.Offsets.{least_of, least_of_all}
 use Rattle.typing.specs.Grouping.{misplaced, misplaced_arms, misplaced_call, misplaced_column, misplaced_members, misplaced_otherwise}
 use Rattle.typing.specs.Clauses.{are_grouped, every_grouped, first_fault, is_grouped, misplaced_by, misplaced_condition, misplaced_in, misplaced_ons, misplaced_select, misplaced_star, mistyped_in}
 use Rattle.analysis.specs.BoundQueries.{bound_condition, bound_item, bound_ons, bound_select, column_items, every_item, heading_or}

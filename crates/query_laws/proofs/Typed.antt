@@ -16,7 +16,7 @@ use Rattle.scope.specs.declared.lookup.Scope.{Scope}
 use Rattle.scope.specs.Entry.{Entry}
 use Rattle.scope.specs.Lookup.{everywhere, on_scope}
 use Rattle.scope.specs.BoundExprs.{bound_expr}
-use Rattle.typing.specs.Offsets.{least_of, least_of_all}
+use Rattle.expr.specs.Offsets.{least_of, least_of_all}
 use Rattle.typing.specs.Clauses.{first_fault, misplaced_in, mistyped, mistyped_condition, mistyped_in, mistyped_ons, mistyped_select}
 use Rattle.typing.specs.Typing.{TypeOf, Typed, column_type, fits, type_if, typed, typed_condition}
 use Rattle.type_laws.proofs.Admitted.{types_by_rules}

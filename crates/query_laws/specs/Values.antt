@@ -1,5 +1,5 @@
 -- The values of an admitted query over a well-formed database.
-use Rattle.std.specs.Prelude.{◌≡◌, ℕ, Contains, List, Ok}
+use Rattle.std.specs.Prelude.{◌≡◌, ◌⊎◌, ℕ, Contains, List, [], Ok}
 use Rattle.std.specs.List.{AllZip}
 use Rattle.value.specs.Names.{Name}
 use Rattle.expr.specs.Bound.{BoundExpr}
@@ -15,11 +15,11 @@ use Rattle.catalog_laws.specs.Database.{Database, rows_of}
 use Rattle.catalog_laws.specs.WellFormedDatabase.{IsWellFormedDatabase}
 use Rattle.query_laws.specs.Admitted.{IsPlain}
 
--- a row of the table of each entry
+-- a row of the table of each entry, or the null row
 abbrev pub IsCombination : Database → List Entry → Combination → Type 0
-IsCombination database entries these = AllZip (λ e row. Contains (rows_of database e.table.name) row) entries these
+IsCombination database entries these = AllZip (λ e row. Contains (rows_of database e.table.name) row ⊎ (row ≡ [])) entries these
 
--- on a combination of rows of its tables, an expression that has a type among the entries of an admitted query, and no
+-- on a combination of rows of its tables and null rows, an expression that has a type among the entries of an admitted query, and no
 -- aggregate, gives a value of the type, null or a fault
 abbrev pub ValuesAreOfTypes : Type 0
 ValuesAreOfTypes = (database : Database) (role : Name) (text : List ℕ) (b : Bound) (these : Combination) (x : BoundExpr) (t : TypeOf) → IsWellFormedDatabase database → admitted database.catalog role text ≡ Ok b →

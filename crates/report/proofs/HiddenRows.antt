@@ -1,5 +1,5 @@
 -- The answer is a function of the bags of the rows of each entry, restricted to the columns that the query names.
-use Rattle.std.proofs.Common.{◌≡◌, Bool, true, false, cond, List, [], ◌∷◌, map, filter, refl, sym, ap, ap₂, ◌∙◌, Option, Some, None, Result, Ok, Err}
+use Rattle.std.proofs.Common.{◌≡◌, Bool, true, false, List, [], ◌∷◌, map, filter, refl, sym, ap, ap₂, ◌∙◌, Option, Some, None, Result, Ok, Err}
 use Rattle.std.specs.List.{filter_map}
 use Rattle.bags.specs.Least.{least}
 use Rattle.bags.proofs.Bags.{SameSums-filter}
@@ -12,15 +12,17 @@ use Rattle.eval.specs.Meaning.{◌>>=◌}
 use Rattle.groups.specs.Stages.{fault_cmp, fault_in, given_in, gives, gives_if, stage, unless_fault}
 use Rattle.groups.proofs.SameGroups.{map-map}
 use Rattle.expr.specs.BoundQuery.{BoundQuery}
-use Rattle.expr.specs.Conjuncts.{conjuncts, fragile, fragile_conjuncts, movable_conjuncts}
+use Rattle.expr.specs.Conjuncts.{conjuncts, fragile, fragile_conjuncts, left_ons, movable_conjuncts}
 use Rattle.expr.specs.NamedColumns.{named_columns}
-use Rattle.tuples.specs.Combinations.{Combination, combinations, joined_cells, all_hold, passing}
+use Rattle.tuples.specs.Combinations.{Combination, joined_cells, all_hold, passing}
+use Rattle.tuples.specs.LeftCombinations.{left_combinations}
 use Rattle.report.specs.QueryStages.{keeps, where_fate, where_stage, items_fate, arguments_fate, rows_of_members}
 use Rattle.report.specs.Answer.{rows_of, in_order, rows_of_kept, answer, answer_over}
 use Rattle.report.specs.Restricted.{SeesSame}
-use Rattle.report.proofs.NamedColumns.{agree_items, agree_conjuncts, agree_some, same_all_hold, same_keeps, same_values, same_member}
-use Rattle.report.proofs.Restricting.{each_row, each_table, combinations_of_each, to_named, named_kept}
-use Rattle.report.proofs.SameCombinations.{same_bag_answer, same_combinations}
+use Rattle.report.proofs.NamedColumns.{agree_items, agree_conjuncts, agree_lefts, agree_some, same_all_hold, same_each, same_keeps, same_values, same_member}
+use Rattle.report.proofs.ChangedRows.{IsUnseen, each_row, each_table, filter-map, combinations_of_each, same_combinations}
+use Rattle.report.proofs.Restricting.{to_named, named_kept}
+use Rattle.report.proofs.SameCombinations.{same_bag_answer}
 
 -- ---- a stage that keeps some of the values that a function changes
 
@@ -56,14 +58,6 @@ module _ {X Y : Type 0} (g : X → Y) (test : X → Result Bool Fault) where
       ∙ changed_then f (least fault_cmp (filter_map fault_in (map (λ x. gives_if x (test x)) xs))) (filter_map given_in (map (λ x. gives_if x (test x)) xs))
 
 -- ---- combinations that are changed in columns that the query does not name
-
--- a test that a function does not change
-filter-map : {A : Type 0} (p : A → Bool) (f : A → A) → ((x : A) → p (f x) ≡ p x) → (xs : List A) → filter p (map f xs) ≡ map f (filter p xs)
-filter-map p f h [] = refl
-filter-map p f h (x ∷ xs) =
-    ap (λ b. cond b (f x ∷ filter p (map f xs)) (filter p (map f xs))) (h x)
-    ∙ elim (p x) as (λ b. cond b (f x ∷ filter p (map f xs)) (filter p (map f xs)) ≡ map f (cond b (x ∷ filter p xs) (filter p xs)))
-    [ true ↦ ap (λ l. f x ∷ l) (filter-map p f h xs) | false ↦ filter-map p f h xs ]
 
 -- a value that is the same of each is the same of all
 same_of_each : {X Y : Type 0} (f : X → Y) (g : X → X) → ((x : X) → f (g x) ≡ f x) → (xs : List X) → map f (map g xs) ≡ map f xs
@@ -106,12 +100,21 @@ module _ (role : Name) (q : BoundQuery) (g : Combination → Combination) (h : (
       ∙ kept_changed g kept_by (rows_of_kept role q) these
       ∙ (λ i. where_stage role q these >>= (λ kept. kept_stay kept i))
 
+-- no ON of a left join reads a column that the query does not name
+unseen : (role : Name) (q : BoundQuery) → IsUnseen role (to_named q) (left_ons q)
+unseen role q = record {
+  null_row = λ k. refl;
+  ons = λ c. same_each (joined_cells (each_row (to_named q) 0 c)) (joined_cells c) role (left_ons q) (agree_lefts (joined_cells (each_row (to_named q) 0 c)) (joined_cells c) q (named_kept q c));
+}
+
 -- rows that are not seen, and columns that are not named, make no difference
 pub same_answer_over : (role : Name) (q : BoundQuery) (one other : List (List Row)) → SeesSame q one other → answer_over role q one ≡ answer_over role q other
 same_answer_over role q one other same =
-    let restricted_combinations = λ (tables : List (List Row)). combinations (each_table (to_named q) tables) in
+    let restricted_combinations = λ (tables : List (List Row)). left_combinations role (left_ons q) (each_table (to_named q) 0 tables) in
     let passed = λ (tables : List (List Row)). passing role (movable_conjuncts q) (restricted_combinations tables) in
-    let whole = λ (tables : List (List Row)). sym (answer_stays role q (each_row (to_named q)) (named_kept q) (combinations tables)) ∙ ap (λ cs. answer role q (passing role (movable_conjuncts q) cs)) (sym (combinations_of_each (to_named q) tables)) in
+    let whole = λ (tables : List (List Row)).
+    sym (answer_stays role q (each_row (to_named q) 0) (named_kept q) (left_combinations role (left_ons q) tables)) ∙ ap (λ cs. answer role q (passing role (movable_conjuncts q) cs)) (sym (combinations_of_each role (to_named q) (left_ons q) (unseen role q) tables)) in
     whole one
-    ∙ same_bag_answer role q (passed one) (passed other) (SameSums-filter (restricted_combinations one) (restricted_combinations other) (same_combinations (to_named q) one other same.entries same.rows) (all_hold role (movable_conjuncts q)))
+    ∙ same_bag_answer role q (passed one) (passed other)
+    (SameSums-filter (restricted_combinations one) (restricted_combinations other) (same_combinations role (to_named q) (left_ons q) one other same.entries same.rows) (all_hold role (movable_conjuncts q)))
     ∙ sym (whole other)

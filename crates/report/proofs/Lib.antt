@@ -1,3 +1,4 @@
+pub mod ChangedRows
 pub mod Dropped
 pub mod FirstRows
 pub mod HiddenRows

@@ -1,8 +1,8 @@
 -- Evaluation depends only on the columns that the query names.
-use Rattle.std.proofs.Common.{◌≡◌, Bool, true, false, ◌&&◌, cond, List, [], ◌∷◌, ◌++◌, filter, option_to_list, refl, sym, ap, ap₂, ◌∙◌, append-nil, subst, arith, Option, Some, None, Contains, ◌⊎◌, inl, inr}
-use Rattle.std.specs.List.{flat_map, list_all}
+use Rattle.std.proofs.Common.{◌≡◌, ℕ, zero, suc, ◌-◌, Bool, true, false, ◌&&◌, cond, List, [], ◌∷◌, ◌++◌, length, filter, take, drop, option_to_list, refl, sym, ap, ap₂, ◌∙◌, append-nil, subst, arith, Option, Some, None, Contains, ◌⊎◌, inl, inr}
+use Rattle.std.specs.List.{All, flat_map, list_all}
 use Rattle.std.proofs.lemmas.Grind.{flat_map-append}
-use Rattle.std.proofs.lemmas.List.Elements.{Contains-append_cases}
+use Rattle.std.proofs.lemmas.List.Elements.{All-cons, All-nil, Contains-append_cases}
 use Rattle.value.specs.Names.{Name}
 use Rattle.expr.specs.declared.bound.ColumnId.{ColumnId}
 use Rattle.expr.specs.Bound as bound
@@ -15,7 +15,7 @@ use Rattle.eval.proofs.Agreement.{agree_left, agree_right, same_meaning, same_ho
 use Rattle.memory.specs.Results.{first_then}
 use Rattle.groups.specs.Members.{argument, arguments, key_on, with_key, member_on}
 use Rattle.expr.specs.BoundQuery.{BoundItem, BoundQuery}
-use Rattle.expr.specs.Conjuncts.{members, conjuncts_of, conjuncts_in, conjuncts}
+use Rattle.expr.specs.Conjuncts.{members, conjuncts_of, conjuncts_in, conjuncts, inner_ons, left_ons}
 use Rattle.expr.specs.NamedColumns.{item_columns, condition_columns, named_columns}
 use Rattle.report.specs.QueryStages.{truth_in, unless_dropped, keeps, values_of, item_aggregates, query_aggregates}
 
@@ -51,8 +51,14 @@ ons_conjuncts : (ons : List (Option BoundExpr)) → flat_map columns (flat_map c
 ons_conjuncts [] = refl
 ons_conjuncts (on ∷ ons) = flat_map-append columns (conjuncts_in on) (flat_map conjuncts_in ons) ∙ ap₂ ◌++◌ (condition_conjuncts on) (ons_conjuncts ons)
 
-query_conjuncts : (q : BoundQuery) → flat_map columns (conjuncts q) ≡ flat_map condition_columns q.ons ++ condition_columns q.filter
-query_conjuncts q = flat_map-append columns (flat_map conjuncts_in q.ons) (conjuncts_in q.filter) ∙ ap₂ ◌++◌ (ons_conjuncts q.ons) (condition_conjuncts q.filter)
+query_conjuncts : (q : BoundQuery) → flat_map columns (conjuncts q) ≡ flat_map condition_columns (inner_ons q) ++ condition_columns q.filter
+query_conjuncts q = flat_map-append columns (flat_map conjuncts_in (inner_ons q)) (conjuncts_in q.filter) ∙ ap₂ ◌++◌ (ons_conjuncts (inner_ons q)) (condition_conjuncts q.filter)
+
+-- the ONs as they are written
+whole_ons : (ons : List (Option BoundExpr)) → flat_map columns (flat_map option_to_list ons) ≡ flat_map condition_columns ons
+whole_ons [] = refl
+whole_ons (None ∷ ons) = whole_ons ons
+whole_ons (Some e ∷ ons) = ap (λ ids. columns e ++ ids) (whole_ons ons)
 
 -- ---- evaluation on cells that are the same in the columns that are named
 
@@ -81,8 +87,34 @@ module _ (one other : Cells) where
   agree_after_items : (q : BoundQuery) → AgreeOn (named_columns q) one other → AgreeOn (conditions_columns q ++ groups_columns q) one other
   agree_after_items q h = agree_right one other (flat_map item_columns q.items) (conditions_columns q ++ groups_columns q) h
 
+  agree_conditions : (q : BoundQuery) → AgreeOn (named_columns q) one other → AgreeOn (conditions_columns q) one other
+  agree_conditions q h = agree_left one other (conditions_columns q) (groups_columns q) (agree_after_items q h)
+
+  agree_ons : (q : BoundQuery) → AgreeOn (named_columns q) one other → AgreeOn (flat_map condition_columns q.ons) one other
+  agree_ons q h = agree_left one other (flat_map condition_columns q.ons) (condition_columns q.filter) (agree_conditions q h)
+
+  -- of the first ONs, and of the others
+  agree_first : (n : ℕ) (ons : List (Option BoundExpr)) → AgreeOn (flat_map condition_columns ons) one other → AgreeOn (flat_map condition_columns (take n ons)) one other
+  agree_first zero ons h = agree_none (flat_map condition_columns ons) h
+  agree_first (suc n) [] h = h
+  agree_first (suc n) (on ∷ ons) h =
+      agree_append (condition_columns on) (flat_map condition_columns (take n ons)) (agree_left one other (condition_columns on) (flat_map condition_columns ons) h)
+      (agree_first n ons (agree_right one other (condition_columns on) (flat_map condition_columns ons) h))
+
+  agree_others : (n : ℕ) (ons : List (Option BoundExpr)) → AgreeOn (flat_map condition_columns ons) one other → AgreeOn (flat_map condition_columns (drop n ons)) one other
+  agree_others zero ons h = h
+  agree_others (suc n) [] h = h
+  agree_others (suc n) (on ∷ ons) h = agree_others n ons (agree_right one other (condition_columns on) (flat_map condition_columns ons) h)
+
   pub agree_conjuncts : (q : BoundQuery) → AgreeOn (named_columns q) one other → AgreeOn (flat_map columns (conjuncts q)) one other
-  agree_conjuncts q h = subst (λ ids. AgreeOn ids one other) (sym (query_conjuncts q)) (agree_left one other (conditions_columns q) (groups_columns q) (agree_after_items q h))
+  agree_conjuncts q h =
+      subst (λ ids. AgreeOn ids one other) (sym (query_conjuncts q))
+      (agree_append (flat_map condition_columns (inner_ons q)) (condition_columns q.filter) (agree_first (length q.ons - q.left_count) q.ons (agree_ons q h))
+      (agree_right one other (flat_map condition_columns q.ons) (condition_columns q.filter) (agree_conditions q h)))
+
+  -- of the ONs of left joins
+  pub agree_lefts : (q : BoundQuery) → AgreeOn (named_columns q) one other → AgreeOn (flat_map columns (left_ons q)) one other
+  agree_lefts q h = subst (λ ids. AgreeOn ids one other) (sym (whole_ons (drop (length q.ons - q.left_count) q.ons))) (agree_others (length q.ons - q.left_count) q.ons (agree_ons q h))
 
   agree_groups : (q : BoundQuery) → AgreeOn (named_columns q) one other → AgreeOn (groups_columns q) one other
   agree_groups q h = agree_right one other (conditions_columns q) (groups_columns q) (agree_after_items q h)
@@ -175,6 +207,12 @@ module _ (one other : Cells) where
     same_all_hold [] h = refl
     same_all_hold (e ∷ es) h =
         ap₂ ◌&&◌ (same_holds one other role e (agree_left one other (columns e) (flat_map columns es) h)) (same_all_hold es (agree_right one other (columns e) (flat_map columns es) h))
+
+    pub same_each : (es : List BoundExpr) → AgreeOn (flat_map columns es) one other → All (λ e. holds one role e ≡ holds other role e) es
+    same_each [] h = All-nil (λ e. holds one role e ≡ holds other role e)
+    same_each (e ∷ es) h =
+        All-cons (λ x. holds one role x ≡ holds other role x) e es (same_holds one other role e (agree_left one other (columns e) (flat_map columns es) h))
+        (same_each es (agree_right one other (columns e) (flat_map columns es) h))
 
     pub same_keeps : (es : List BoundExpr) → AgreeOn (flat_map columns es) one other → keeps one role es ≡ keeps other role es
     same_keeps [] h = refl

@@ -1,17 +1,16 @@
--- Combinations of restricted rows.
-use Rattle.std.proofs.Common.{◌≡◌, ℕ, zero, suc, ◌+◌, ◌==◌, Bool, true, false, cond, List, [], ◌∷◌, ◌++◌, map, filter, slice_index_or, refl, sym, ap, ◌∙◌, arith, Contains, add-zero, zero-add, subst}
-use Rattle.std.specs.List.{flat_map, list_any}
-use Rattle.std.proofs.lemmas.List.{map-append}
+-- Restricted rows of combinations.
+use Rattle.std.proofs.Common.{◌≡◌, ℕ, zero, suc, ◌+◌, ◌==◌, Bool, true, false, cond, List, [], ◌∷◌, map, filter, slice_index_or, refl, arith, Contains, add-zero, zero-add, subst}
+use Rattle.std.specs.List.{list_any}
 use Rattle.memory.proofs.Cases.{or_second}
 use Rattle.value.specs.Datum.{Row, cell}
 use Rattle.expr.specs.declared.bound.ColumnId.{ColumnId}
 use Rattle.eval.specs.Laws.{AgreeOn}
-use Rattle.groups.proofs.SameGroups.{map-map}
 use Rattle.expr.specs.BoundQuery.{BoundQuery}
-use Rattle.tuples.specs.Combinations.{Combination, combinations, joined_cells}
+use Rattle.tuples.specs.Combinations.{Combination, joined_cells}
 use Rattle.expr.specs.NamedColumns.{named_columns}
 use Rattle.row_marks.proofs.MarkOutcomes.{itself}
 use Rattle.report.specs.Restricted.{kept_from, restricted, named_in}
+use Rattle.report.proofs.ChangedRows.{each_row}
 
 -- ---- a column that is kept is as it was
 
@@ -39,37 +38,14 @@ place_among (x ∷ ids) id (suc k, less, is) = past (x.entry == id.entry) (place
     past true h = or_second (x.column == id.column) _ h
     past false h = h
 
--- ---- the row of each entry, changed by a function of the entry's index
+-- ---- the row of each entry, changed in other columns
 
-abbrev pub each_row : (ℕ → Row → Row) → Combination → Combination
-each_row f [] = []
-each_row f (row ∷ rows) = f 0 row ∷ each_row (λ i. f (suc i)) rows
-
-abbrev pub each_table : (ℕ → Row → Row) → List (List Row) → List (List Row)
-each_table f [] = []
-each_table f (rows ∷ tables) = map (f 0) rows ∷ each_table (λ i. f (suc i)) tables
-
-cell_of_each : (f : ℕ → Row → Row) (these : Combination) (i k : ℕ) → ((row : Row) → cell (f i row) k ≡ cell row k) → cell (slice_index_or (each_row f these) i []) k ≡ cell (slice_index_or these i []) k
-cell_of_each f [] i k h = refl
-cell_of_each f (row ∷ rows) zero k h = h row
-cell_of_each f (row ∷ rows) (suc i) k h = cell_of_each (λ j. f (suc j)) rows i k h
-
-map-flat_map : {A B C : Type 0} (g : B → C) (f : A → List B) (xs : List A) → map g (flat_map f xs) ≡ flat_map (λ x. map g (f x)) xs
-map-flat_map g f [] = refl
-map-flat_map g f (x ∷ xs) = map-append g (f x) (flat_map f xs) ∙ ap (λ l. map g (f x) ++ l) (map-flat_map g f xs)
-
-flat_map-map : {A B C : Type 0} (g : B → List C) (f : A → B) (xs : List A) → flat_map g (map f xs) ≡ flat_map (λ x. g (f x)) xs
-flat_map-map g f [] = refl
-flat_map-map g f (x ∷ xs) = ap (λ l. g (f x) ++ l) (flat_map-map g f xs)
-
--- the combinations of changed rows are the changed combinations
-pub combinations_of_each : (f : ℕ → Row → Row) (tables : List (List Row)) → combinations (each_table f tables) ≡ map (each_row f) (combinations tables)
-combinations_of_each f [] = refl
-combinations_of_each f (rows ∷ tables) =
-    let after = λ (i : ℕ). f (suc i) in
-    flat_map-map (λ row. map (λ rest. row ∷ rest) (combinations (each_table after tables))) (f 0) rows
-    ∙ (λ i. flat_map (λ row. (ap (map (λ rest. f 0 row ∷ rest)) (combinations_of_each after tables) ∙ map-map (λ rest. f 0 row ∷ rest) (each_row after) (combinations tables) ∙ sym (map-map (each_row f) (λ rest. row ∷ rest) (combinations tables))) i) rows)
-    ∙ sym (map-flat_map (each_row f) (λ row. map (λ rest. row ∷ rest) (combinations tables)) rows)
+cell_of_each : (f : ℕ → Row → Row) (n : ℕ) (these : Combination) (i k : ℕ) → ((row : Row) → cell (f (n + i) row) k ≡ cell row k) → cell (slice_index_or (each_row f n these) i []) k ≡ cell (slice_index_or these i []) k
+cell_of_each f n [] i k h = refl
+cell_of_each f n (row ∷ rows) zero k h = let e : n + 0 ≡ n = omega arith in subst (λ m. cell (f m row) k ≡ cell row k) e (h row)
+cell_of_each f n (row ∷ rows) (suc i) k h =
+    let e : n + suc i ≡ n + 1 + i = omega arith in
+    cell_of_each f (n + 1) rows i k (subst (λ m. (other : Row) → cell (f m other) k ≡ cell other k) e h)
 
 -- ---- the rows of each entry, restricted to its columns that a query names
 
@@ -77,8 +53,11 @@ abbrev pub to_named : BoundQuery → ℕ → Row → Row
 to_named q entry = restricted (named_in q entry)
 
 -- the columns that the query names of a combination are as they were
-pub named_kept : (q : BoundQuery) (these : Combination) → AgreeOn (named_columns q) (joined_cells (each_row (to_named q) these)) (joined_cells these)
+pub named_kept : (q : BoundQuery) (these : Combination) → AgreeOn (named_columns q) (joined_cells (each_row (to_named q) 0 these)) (joined_cells these)
 named_kept q these = record {
-  columns = λ id within. cell_of_each (to_named q) these id.entry id.column (λ row. cell_of_restricted (named_in q id.entry) row id.column (place_among (named_columns q) id within));
+  columns = λ id within.
+      let e : id.entry ≡ 0 + id.entry = omega arith in
+      let kept : (row : Row) → cell (to_named q id.entry row) id.column ≡ cell row id.column = λ row. cell_of_restricted (named_in q id.entry) row id.column (place_among (named_columns q) id within) in
+      cell_of_each (to_named q) 0 these id.entry id.column (subst (λ n. (row : Row) → cell (to_named q n row) id.column ≡ cell row id.column) e kept);
   aggregates = λ offset. refl;
 }

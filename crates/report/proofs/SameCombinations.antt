@@ -1,7 +1,7 @@
 -- The answer is a function of the bag of combinations.
-use Rattle.std.proofs.Common.{◌≡◌, ℕ, suc, Bool, true, false, List, [], ◌∷◌, map, length, slice_index_or, refl, ap, arith, Ok, IsPermutation}
+use Rattle.std.proofs.Common.{◌≡◌, Bool, true, false, List, map, ap, Ok, IsPermutation}
 use Rattle.bags.proofs.Order.{SameSums, SameSums-IsPermutation}
-use Rattle.bags.proofs.Bags.{SameSums-map, SameSums-flat_map}
+use Rattle.bags.proofs.Bags.{SameSums-map}
 use Rattle.value.specs.Datum.{Row}
 use Rattle.value.specs.Names.{Name}
 use Rattle.eval.specs.Meaning.{◌>>=◌}
@@ -9,11 +9,10 @@ use Rattle.groups.proofs.SameStage.{alike_stage, alike_next}
 use Rattle.groups.specs.Members.{Member}
 use Rattle.groups.proofs.SameGroups.{same_group_rows}
 use Rattle.expr.specs.BoundQuery.{BoundQuery}
-use Rattle.tuples.specs.Combinations.{Combination, combinations}
+use Rattle.tuples.specs.Combinations.{Combination}
 use Rattle.report.specs.QueryStages.{query_aggregates, where_fate, where_stage, items_fate, items_stage, arguments_fate, arguments_stage, sums_stage, rows_of_group_rows, rows_of_members, rows_of_groups}
 use Rattle.report.specs.Answer.{rows_of, in_order, rows_of_kept, answer}
 use Rattle.report.proofs.OutputOrder.{same_ordered}
-use Rattle.report.proofs.Restricting.{each_table}
 
 module _ (role : Name) (q : BoundQuery) where
   same_in_order : (xs ys : List Row) → SameSums xs ys → in_order role q xs ≡ in_order role q ys
@@ -46,15 +45,3 @@ module _ (role : Name) (q : BoundQuery) where
 
   pub same_answer : (one other : List Combination) → IsPermutation one other → answer role q one ≡ answer role q other
   same_answer one other same = same_bag_answer one other (SameSums-IsPermutation one other same)
-
--- tables whose changed rows are the same bags have the same bag of combinations of them
-pub same_combinations : (f : ℕ → Row → Row) (one other : List (List Row)) → length one ≡ length other →
-    ((i : ℕ) → IsPermutation (map (f i) (slice_index_or one i [])) (map (f i) (slice_index_or other i []))) →
-    SameSums (combinations (each_table f one)) (combinations (each_table f other))
-same_combinations f [] [] e h = λ g. refl
-same_combinations f [] (ys ∷ yss) e h = absurd (omega (arith, e))
-same_combinations f (xs ∷ xss) [] e h = absurd (omega (arith, e))
-same_combinations f (xs ∷ xss) (ys ∷ yss) e h =
-    let after = λ (i : ℕ). f (suc i) in
-    let more : SameSums (combinations (each_table after xss)) (combinations (each_table after yss)) = same_combinations after xss yss (omega (arith, e)) (λ i. h (suc i)) in
-    SameSums-flat_map (map (f 0) xs) (map (f 0) ys) (SameSums-IsPermutation (map (f 0) xs) (map (f 0) ys) (h 0)) _ _ (λ row. SameSums-map (combinations (each_table after xss)) (combinations (each_table after yss)) more (λ rest. row ∷ rest))

@@ -5,8 +5,9 @@ use Rattle.value.specs.declared.faults.Fault.{Fault}
 use Rattle.value.specs.Names.{Name}
 use Rattle.eval.specs.Meaning.{◌>>=◌}
 use Rattle.expr.specs.BoundQuery.{BoundQuery}
-use Rattle.expr.specs.Conjuncts.{movable_conjuncts}
-use Rattle.tuples.specs.Combinations.{Combination, combinations, passing}
+use Rattle.expr.specs.Conjuncts.{left_ons, movable_conjuncts}
+use Rattle.tuples.specs.Combinations.{Combination, passing}
+use Rattle.tuples.specs.LeftCombinations.{left_combinations}
 use Rattle.report.specs.Ordered.{ordered}
 use Rattle.report.specs.QueryStages.{where_stage, items_stage, rows_of_groups}
 
@@ -28,4 +29,4 @@ module _ (role : Name) (q : BoundQuery) where
 
   -- the answer over these rows of each entry
   abbrev pub answer_over : List (List Row) → Result (List Row) Fault
-  answer_over tables = answer (passing role (movable_conjuncts q) (combinations tables))
+  answer_over tables = answer (passing role (movable_conjuncts q) (left_combinations role (left_ons q) tables))

@@ -10,6 +10,7 @@ mod statement;
 pub use expr::{Arm, ColumnRef, Expr};
 pub use parts::column_in;
 pub use query::{
-    Condition, FromItem, Join, LeftJoin, Query, SelectItem, SelectList, SortKey, SortTarget, TableRef,
+    Condition, FromItem, Join, LeftJoin, Query, SelectItem, SelectList, SortKey, SortTarget,
+    TableRef,
 };
 pub use statement::{CreatePolicy, Grant, RowSecurity, Statement};

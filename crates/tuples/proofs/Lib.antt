@@ -1,3 +1,4 @@
 pub mod Joining
+pub mod NoLefts
 pub mod OneEntry
 pub mod Slots

@@ -5,6 +5,7 @@
 mod combination;
 mod guard;
 mod joined;
+mod laws;
 mod rows;
 mod sink;
 mod slot;
@@ -14,6 +15,7 @@ mod world;
 pub use combination::Combo;
 pub use guard::{Guard, shows};
 pub use joined::{JoinedRow, PairedRow};
+pub use laws::law_no_lefts;
 pub use rows::TableRow;
 pub use sink::Sink;
 pub use slot::Slot;

@@ -2,8 +2,8 @@
 use Rattle.std.proofs.Common.{◌≡◌, ℕ, List, [], ◌∷◌, ◌++◌, flat_map, map, Option, Some, None, refl, sym, ap, ◌∙◌, nat_cmp}
 use Rattle.std.specs.Prelude.{option_to_list}
 use Rattle.bags.specs.Least.{least}
-use Rattle.typing.specs.Offsets.{least_of, least_of_all}
-use Rattle.typing.proofs.Leasts.{least_of_assoc, lesser_is}
+use Rattle.expr.specs.Offsets.{least_of, least_of_all}
+use Rattle.expr.proofs.Leasts.{least_of_assoc, lesser_is}
 
 -- the least offset of a list
 abbrev pub least_in : List ℕ → Option ℕ

@@ -5,7 +5,7 @@ use Rattle.expr.specs.declared.bound.ColumnId.{ColumnId}
 use Rattle.scope.specs.declared.lookup.Scope.{Scope}
 use Rattle.scope.specs.Entry.{Entry}
 use Rattle.scope.specs.Lookup.{find_column}
-use Rattle.typing.specs.Offsets.{least_of}
+use Rattle.expr.specs.Offsets.{least_of}
 use Rattle.typing.specs.Grouping.{misplaced, misplaced_arms, misplaced_call, misplaced_column, misplaced_members, misplaced_otherwise}
 use Rattle.type_laws.specs.Faults.{MisplacedIsLeast, misplacements, misplacements_of_arms, misplacements_of_call, misplacements_of_members, misplacements_of_otherwise}
 use Rattle.type_laws.proofs.Leasts.{least_in, least_cons, least_one, least_two}

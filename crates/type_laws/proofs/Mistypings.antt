@@ -7,7 +7,8 @@ use Rattle.scope.specs.declared.lookup.Scope.{Scope}
 use Rattle.scope.specs.Entry.{Entry}
 use Rattle.bags.specs.Least.{lesser}
 use Rattle.std.specs.Ordering.{nat_cmp}
-use Rattle.typing.specs.Offsets.{both, least_of}
+use Rattle.expr.specs.Offsets.{least_of}
+use Rattle.typing.specs.Offsets.{both}
 use Rattle.typing.specs.Clauses.{mistyped}
 use Rattle.typing.specs.Typing.{Typed, aggregate_type, arm_type, between_type, can_cast, common, common_of, common_of_all, common_type, fits, is_condition, result_type, truth_if_common, type_if, type_of, typed, typed_arms, typed_members, typed_otherwise}
 use Rattle.type_laws.specs.Faults.{MistypedIsLeast, inner_or_own, mistypings, mistypings_of_arms, mistypings_of_members, mistypings_of_otherwise}

@@ -6,7 +6,7 @@ use Rattle.expr.specs.declared.bound.ColumnId.{ColumnId}
 use Rattle.scope.specs.declared.lookup.Scope.{Scope}
 use Rattle.scope.specs.Entry.{Entry}
 use Rattle.scope.specs.Lookup.{everywhere, on_scope}
-use Rattle.typing.specs.Offsets.{least_of}
+use Rattle.expr.specs.Offsets.{least_of}
 use Rattle.typing.specs.Grouping.{misplaced}
 use Rattle.typing.specs.Typing.{fits, type_if, typed, typed_condition}
 use Rattle.typing.specs.Clauses.{every_grouped, first_fault, is_grouped, misplaced_condition, misplaced_in, misplaced_ons, misplaced_select, misplaced_star, mistyped, mistyped_condition, mistyped_in, mistyped_ons, mistyped_select}

@@ -10,9 +10,9 @@ use Rattle.scope.specs.declared.error.BindError.{BindError}
 use Rattle.scope.specs.Entry.{Entry}
 use Rattle.scope.specs.Lookup.{find_column}
 use Rattle.row_ast.proofs.Walks.{exprs_step, exprs_over, arms_step, arms_over}
-use Rattle.typing.specs.Offsets.{least_of}
+use Rattle.expr.specs.Offsets.{least_of}
 use Rattle.typing.specs.Grouping.{misplaced_column, misplaced, misplaced_members, misplaced_arms}
-use Rattle.typing.proofs.Leasts.{least_of_assoc, least_of_none}
+use Rattle.expr.proofs.Leasts.{least_of_assoc, least_of_none}
 
 -- the least of two offsets that are known
 pub least_is : (a b a' b' r : Option ℕ) → r ≡ least_of a b → a ≡ a' → b ≡ b' → r ≡ least_of a' b'

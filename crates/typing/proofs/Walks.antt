@@ -12,9 +12,10 @@ use Rattle.scope.specs.Entry.{Entry}
 use Rattle.scope.specs.Lookup.{on_scope}
 use Rattle.row_ast.proofs.Walks.{exprs_step, exprs_over, arms_step, arms_over}
 use Rattle.typing.specs.Clauses.{mistyped_condition, mistyped_ons}
-use Rattle.typing.specs.Offsets.{both, least_of}
+use Rattle.expr.specs.Offsets.{least_of}
+use Rattle.typing.specs.Offsets.{both}
 use Rattle.typing.specs.Typing.{ArmsTyped, TypeOf, Typed, arm_type, both_arms, both_hold, common, common_of, is_condition, typed, typed_members, typed_arms}
-use Rattle.typing.proofs.Leasts.{least_assoc, least_of_assoc, least_of_none}
+use Rattle.expr.proofs.Leasts.{least_assoc, least_of_assoc, least_of_none}
 
 -- ---- parts that are typed, in whatever order they are read
 

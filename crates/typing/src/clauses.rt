@@ -11,9 +11,8 @@ ghost use Rattle.expr.specs.Offsets.{least_of_all};
 ghost use Rattle.typing.specs.Typing.{typed};
 
 use crate::grouped::{is_among, misplaced};
-use crate::offsets::least_of;
 use crate::types::{Typed, typed, typed_condition};
-use expr::ColumnId;
+use expr::{ColumnId, least_of};
 use memory::Heap;
 use row_ast::{Condition, Expr, Query, SelectItem, SelectList};
 use scope::{BindError, Entry, Scope, everywhere, on_scope};

@@ -7,8 +7,7 @@ ghost use Rattle.expr.specs.Bound.{is_column};
 ghost use Rattle.scope.specs.View.{entries_of};
 ghost use Rattle.typing.specs.Grouping as spec;
 
-use crate::offsets::least_of;
-use expr::{ColumnId, is_column};
+use expr::{ColumnId, is_column, least_of};
 use memory::Heap;
 use row_ast::{Arm, Expr};
 use scope::{BindError, Entry, Scope, find_column};

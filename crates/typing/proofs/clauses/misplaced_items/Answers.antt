@@ -2,10 +2,10 @@ use Rattle.std.proofs.Common.{◌∙◌, ap, arith, map}
 use Rattle.row_ast.specs.View.{select_item_of}
 use Rattle.scope.specs.View.{entry_of}
 use Rattle.scope.specs.Lookup.{everywhere}
-use Rattle.typing.specs.Offsets.{least_of}
+use Rattle.expr.specs.Offsets.{least_of}
 use Rattle.typing.specs.Grouping.{misplaced}
 use Rattle.memory.proofs.Lists.{known_next}
-use Rattle.typing.proofs.Leasts.{least_after, least_next, least_of_none}
+use Rattle.expr.proofs.Leasts.{least_after, least_next, least_of_none}
 use Rattle.typing.proofs.Walks.{known_over}
 use Rattle.typing.proofs.clauses.misplaced_items.Goals as goal
 

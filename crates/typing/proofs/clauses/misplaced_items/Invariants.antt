@@ -3,8 +3,8 @@ use Rattle.row_ast.specs.View.{select_item_of}
 use Rattle.scope.specs.View.{entry_of}
 use Rattle.scope.specs.Lookup.{everywhere}
 use Rattle.typing.specs.Grouping.{misplaced}
-use Rattle.typing.specs.Offsets.{least_of_all}
-use Rattle.typing.proofs.Leasts.{least_after}
+use Rattle.expr.specs.Offsets.{least_of_all}
+use Rattle.expr.proofs.Leasts.{least_after}
 use Rattle.typing.proofs.clauses.misplaced_items.Given as goal
 
 abbrev pub invariant-loop-item : goal.invariant-loop-item

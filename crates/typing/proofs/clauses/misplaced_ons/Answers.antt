@@ -1,9 +1,9 @@
 use Rattle.std.proofs.Common.{◌∙◌, ap, arith, false, map}
 use Rattle.scope.specs.View.{entry_of}
 use Rattle.typing.specs.Clauses.{misplaced_condition}
-use Rattle.typing.specs.Offsets.{least_of}
+use Rattle.expr.specs.Offsets.{least_of}
 use Rattle.memory.proofs.Lists.{known_next}
-use Rattle.typing.proofs.Leasts.{least_after, least_next, least_of_none}
+use Rattle.expr.proofs.Leasts.{least_after, least_next, least_of_none}
 use Rattle.typing.proofs.Walks.{known_over}
 use Rattle.typing.proofs.clauses.misplaced_ons.Goals as goal
 

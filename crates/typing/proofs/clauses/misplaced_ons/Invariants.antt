@@ -1,7 +1,7 @@
 use Rattle.std.proofs.Common.{◌≡◌, drop, false, map}
 use Rattle.scope.specs.View.{entry_of}
 use Rattle.typing.specs.Clauses.{misplaced_condition, misplaced_ons}
-use Rattle.typing.proofs.Leasts.{least_after}
+use Rattle.expr.proofs.Leasts.{least_after}
 use Rattle.typing.proofs.clauses.misplaced_ons.Given as goal
 
 abbrev pub invariant-loop-entry : goal.invariant-loop-entry

@@ -4,8 +4,8 @@ use Rattle.scope.specs.View.{entry_of}
 use Rattle.scope.specs.Lookup.{everywhere}
 use Rattle.typing.specs.Clauses.{mistyped}
 use Rattle.typing.specs.Typing.{typed}
-use Rattle.typing.specs.Offsets.{least_of_all}
-use Rattle.typing.proofs.Leasts.{least_after}
+use Rattle.expr.specs.Offsets.{least_of_all}
+use Rattle.expr.proofs.Leasts.{least_after}
 use Rattle.typing.proofs.clauses.mistyped_items.Given as goal
 
 abbrev pub invariant-loop-item : goal.invariant-loop-item

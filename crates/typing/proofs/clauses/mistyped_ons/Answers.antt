@@ -1,6 +1,6 @@
 use Rattle.std.proofs.Common.{◌∙◌, ap, arith, map}
 use Rattle.scope.specs.View.{entry_of}
-use Rattle.typing.specs.Offsets.{least_of}
+use Rattle.expr.specs.Offsets.{least_of}
 use Rattle.typing.proofs.Walks.{on_next, ons_over}
 use Rattle.typing.proofs.clauses.mistyped_ons.Goals as goal
 

@@ -1,7 +1,7 @@
 use Rattle.std.proofs.Common.{◌≡◌, drop, map}
 use Rattle.scope.specs.View.{entry_of}
 use Rattle.typing.specs.Clauses.{mistyped_ons}
-use Rattle.typing.specs.Offsets.{least_of}
+use Rattle.expr.specs.Offsets.{least_of}
 use Rattle.typing.proofs.clauses.mistyped_ons.Given as goal
 
 abbrev pub invariant-loop-number : goal.invariant-loop-number

@@ -2,7 +2,7 @@ use Rattle.std.proofs.Common.{◌≡◌, ◌≤◌, drop, map}
 use Rattle.row_ast.specs.View.{expr_of, exprs, arms as arms_of}
 use Rattle.scope.specs.View.{entry_of}
 use Rattle.typing.specs.Grouping.{misplaced_members, misplaced_arms}
-use Rattle.typing.specs.Offsets.{least_of}
+use Rattle.expr.specs.Offsets.{least_of}
 use Rattle.row_ast.specs.Weights.{weight, all_weight, arms_weight}
 use Rattle.typing.proofs.grouped.+misplaced.Given as goal
 

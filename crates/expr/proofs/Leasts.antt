@@ -6,7 +6,7 @@ use Rattle.std.proofs.lemmas.Bool.{eq-eqb, ltb-false, ltb-true, ne_eqb}
 use Rattle.bags.specs.Least.{lesser}
 use Rattle.bags.proofs.Least.{lesser_assoc}
 use Rattle.memory.proofs.Cases.{some_is}
-use Rattle.typing.specs.Offsets.{least, least_of, least_of_all}
+use Rattle.expr.specs.Offsets.{least, least_of, least_of_all}
 
 -- two tests whether an offset is the greater
 is_greater : (i j : ℕ) → is_gt (nat_cmp i j) ≡ nat_lt j i

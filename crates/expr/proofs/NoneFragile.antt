@@ -1,5 +1,5 @@
 -- What has nothing in it that may fault cannot fault.
-use Rattle.std.proofs.Common.{◌≡◌, Bool, true, ◌&&◌, ℕ, Option, Some, None, refl}
+use Rattle.std.proofs.Common.{◌≡◌, Bool, true, false, ◌&&◌, ℕ, Option, Some, None, refl}
 use Rattle.expr.specs.Bound.{BoundExpr, Column, Literal, CurrentUser, Negate, Arithmetic, Comparison, Between, In, IsNull, Not, And, Or, Cast, Case, CountStar, Call, BoundExprs, no_expr, one_expr, BoundArms, no_arm, one_arm, BoundOtherwise, Nothing, Value}
 use Rattle.expr.specs.Offsets.{least_of}
 use Rattle.expr.specs.Fragile.{first_fragile, fragile_members, fragile_arms, fragile_otherwise}
@@ -7,23 +7,23 @@ use Rattle.expr.specs.Movable.{movable, all_movable, arms_movable, otherwise_mov
 
 none_of : (a b : Option ℕ) → least_of a b ≡ None → (a ≡ None) × (b ≡ None)
 none_of None b h = (refl, h)
-none_of (Some i) None ()
-none_of (Some i) (Some j) ()
+none_of (Some i) None h = cc
+none_of (Some i) (Some j) h = cc
 
-some_first : {X : Type 1} (i : ℕ) (b : Option ℕ) → least_of (Some i) b ≡ None → X
-some_first i None ()
-some_first i (Some j) ()
+is_there : (i : ℕ) (b : Option ℕ) → least_of (Some i) b ≡ None → false ≡ true
+is_there i None h = cc
+is_there i (Some j) h = cc
 
 both_true : (a b : Bool) → a ≡ true → b ≡ true → (a && b) ≡ true
-both_true a b refl refl = refl
+both_true a b e f = rw (e, f) refl
 
 mutual
   pub none_is_movable : (e : BoundExpr) → first_fragile e ≡ None → movable e ≡ true
   none_is_movable (Column id) h = refl
   none_is_movable (Literal d) h = refl
   none_is_movable CurrentUser h = refl
-  none_is_movable (Negate offset e) h = some_first offset (first_fragile e) h
-  none_is_movable (Arithmetic op offset e f) h = some_first offset (least_of (first_fragile e) (first_fragile f)) h
+  none_is_movable (Negate offset e) h = is_there offset (first_fragile e) h
+  none_is_movable (Arithmetic op offset e f) h = is_there offset (least_of (first_fragile e) (first_fragile f)) h
   none_is_movable (Comparison op offset e f) h =
       let n = none_of (first_fragile e) (first_fragile f) h in both_true (movable e) (movable f) (none_is_movable e n.0) (none_is_movable f n.1)
   none_is_movable (Between negated offset e low high) h =
@@ -35,11 +35,11 @@ mutual
   none_is_movable (Not offset e) h = none_is_movable e h
   none_is_movable (And offset es) h = members_are_movable es h
   none_is_movable (Or offset es) h = members_are_movable es h
-  none_is_movable (Cast offset to e) h = some_first offset (first_fragile e) h
+  none_is_movable (Cast offset to e) h = is_there offset (first_fragile e) h
   none_is_movable (Case offset as_ o) h =
       let n = none_of (fragile_arms as_) (fragile_otherwise o) h in both_true (arms_movable as_) (otherwise_movable o) (arms_are_movable as_ n.0) (otherwise_is_movable o n.1)
-  none_is_movable (CountStar offset) ()
-  none_is_movable (Call f offset e) h = some_first offset (first_fragile e) h
+  none_is_movable (CountStar offset) h = cc
+  none_is_movable (Call f offset e) h = is_there offset (first_fragile e) h
 
   members_are_movable : (es : BoundExprs) → fragile_members es ≡ None → all_movable es ≡ true
   members_are_movable no_expr h = refl
