@@ -1,5 +1,6 @@
 -- A step keeps the bag.
-use Rattle.std.proofs.Common.{◌≡◌, true, false, List, [], ◌∷◌, length, map, Option, Some, None, Ok, refl, ap, subst}
+use Rattle.std.proofs.Common.{◌≡◌, true, false, List, [], ◌∷◌, length, map, Option, Some, None, Ok, refl, sym, ap, ◌∙◌, subst}
+use Rattle.std.proofs.lemmas.List.{length-map}
 use Rattle.tuples.specs.Guards.{Guard}
 use Rattle.expr.specs.BoundQuery.{BoundQuery}
 use Rattle.tuples.specs.World.{GuardedTable, World}
@@ -15,6 +16,10 @@ use Rattle.algebra.proofs.Keeps.{Keeps, at_node-keeps}
 use Rattle.algebra.proofs.Sound as sound
 
 module _ (w : World) (frame : List Guard) (has : HasFrame w frame) where
+  -- a guard for each table
+  same_count : length frame ≡ length w.tables
+  same_count = sym (ap length has) ∙ length-map w.tables (λ t. t.guard)
+
   rewritten-keeps : (r : Rewrite) (x : Term) → is_movable_term x ≡ true → Keeps w x (rewritten frame r x)
   rewritten-keeps rewrites.SplitFilter = sound.split_filter-keeps w
   rewritten-keeps rewrites.MergeFilters = sound.merge_filters-keeps w
@@ -37,10 +42,13 @@ module _ (w : World) (frame : List Guard) (has : HasFrame w frame) where
   rewritten-keeps (rewrites.DropConstant p q) = sound.drop_added-keeps w true p q
   rewritten-keeps rewrites.CarryNot = sound.carry_not-keeps w
   rewritten-keeps rewrites.FoldLiterals = sound.fold_literals-keeps w
-  rewritten-keeps rewrites.EmptyFilter = sound.empty_filter-keeps w (length frame)
-  rewritten-keeps rewrites.EmptyInput = sound.empty_input-keeps w (length frame)
+  rewritten-keeps rewrites.EmptyFilter = sound.empty_filter-keeps w (length frame) same_count
+  rewritten-keeps rewrites.EmptyInput = sound.empty_input-keeps w (length frame) same_count
   rewritten-keeps rewrites.FactorOut = sound.factor_out-keeps w
   rewritten-keeps rewrites.NotNull = sound.not_null-keeps w
+  rewritten-keeps rewrites.MakeInner = sound.make_inner-keeps w
+  rewritten-keeps rewrites.PushUnderLeft = sound.push_under_left-keeps w
+  rewritten-keeps rewrites.PullOverLeft = sound.pull_over_left-keeps w
 
   rewritten_if-keeps : (o : Option Rewrite) (x : Term) → is_movable_term x ≡ true → Keeps w x (rewritten_if frame o x)
   rewritten_if-keeps None x m = tt
@@ -51,7 +59,7 @@ module _ (w : World) (frame : List Guard) (has : HasFrame w frame) where
 
 -- a world of these guards, with no rows
 bare_query : BoundQuery
-bare_query = record { items = []; ons = []; filter = None; group_by = []; having = None; is_grouped = false; order_by = []; limit = None }
+bare_query = record { items = []; ons = []; left_count = 0; filter = None; group_by = []; having = None; is_grouped = false; order_by = []; limit = None }
 
 abbrev bare_table : Guard → GuardedTable
 bare_table guard = record { rows = []; guard = guard }
@@ -72,4 +80,4 @@ steps_keep frame step x y m h =
     same : MeanSame frame x y
     same w has =
         let kept : Keeps w x (Ok y) = subst (Keeps w x) h (applied-keeps w frame has step x m) in
-        IsPermutation-SameSums_slots (mean w x) (mean w y) kept.1
+        IsPermutation-SameSums_slots (mean w x) (mean w y) kept.2

@@ -4,7 +4,7 @@ use Rattle.std.specs.List.Sorted.{IsPermutation}
 use Rattle.expr.specs.Movable.{movable}
 use Rattle.tuples.specs.Guards.{Guard}
 use Rattle.tuples.specs.World.{World}
-use Rattle.row_terms.specs.Terms.{Term, Raw, Guarded, Filtered, Joined, Empty}
+use Rattle.row_terms.specs.Terms.{Term, Raw, Guarded, Filtered, Joined, LeftJoined, Empty}
 use Rattle.row_terms.specs.Means.{mean}
 use Rattle.algebra.specs.Steps.{Step}
 use Rattle.algebra.specs.Rewrites.{applied}
@@ -15,6 +15,7 @@ is_movable_term (Raw entry) = true
 is_movable_term (Guarded entry x) = is_movable_term x
 is_movable_term (Filtered e x) = movable e && is_movable_term x
 is_movable_term (Joined x y) = is_movable_term x && is_movable_term y
+is_movable_term (LeftJoined on x y) = movable on && (is_movable_term x && is_movable_term y)
 is_movable_term (Empty entries) = true
 
 -- the world's tables have these guards

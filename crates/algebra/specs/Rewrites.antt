@@ -3,7 +3,7 @@ use Rattle.std.specs.Prelude.{true, false, List, [], ◌∷◌, length, Option, 
 use Rattle.tuples.specs.Guards.{Guard}
 use Rattle.row_terms.specs.declared.path.Branch.{Branch}
 use Rattle.row_terms.specs.declared.path.Branch.TheVariants.{First, Second}
-use Rattle.row_terms.specs.Terms.{Term, Guarded, Filtered, Joined}
+use Rattle.row_terms.specs.Terms.{Term, Guarded, Filtered, Joined, LeftJoined}
 use Rattle.algebra.specs.declared.step.Reason.TheVariants.{NoNode, Misfit}
 use Rattle.algebra.specs.declared.step.Rewrite.{Rewrite}
 use Rattle.algebra.specs.declared.step.Rewrite.TheVariants as rewrites
@@ -38,6 +38,9 @@ rewritten frame rewrites.EmptyFilter = Rules.empty_filter (length frame)
 rewritten frame rewrites.EmptyInput = Rules.empty_input (length frame)
 rewritten frame rewrites.FactorOut = Rules.factor_out
 rewritten frame rewrites.NotNull = Rules.not_null
+rewritten frame rewrites.MakeInner = Rules.make_inner
+rewritten frame rewrites.PushUnderLeft = Rules.push_under_left
+rewritten frame rewrites.PullOverLeft = Rules.pull_over_left
 
 -- no rule of that number, direction and arguments fits any node
 abbrev pub rewritten_if : List Guard → Option Rewrite → Term → Outcome
@@ -56,6 +59,8 @@ at_node f (First ∷ path) (Guarded i x) = inside (Guarded i) (at_node f path x)
 at_node f (First ∷ path) (Filtered e x) = inside (Filtered e) (at_node f path x)
 at_node f (First ∷ path) (Joined x y) = inside (λ z. Joined z y) (at_node f path x)
 at_node f (Second ∷ path) (Joined x y) = inside (Joined x) (at_node f path y)
+at_node f (First ∷ path) (LeftJoined on x y) = inside (λ z. LeftJoined on z y) (at_node f path x)
+at_node f (Second ∷ path) (LeftJoined on x y) = inside (LeftJoined on x) (at_node f path y)
 at_node f (b ∷ path) _ = Err NoNode
 
 -- the term after a step, or the reason why there is none

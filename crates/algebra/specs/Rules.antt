@@ -1,5 +1,5 @@
 -- The rewrite rules: of each the node that it fits, what takes its place, and on what condition. R is a raw entry, G i a guard,
--- F e a filter, * a join, E an empty term.
+-- F e a filter, * a join, + e a left join, E an empty term.
 use Rattle.std.specs.Prelude.{ℕ, zero, suc, Bool, true, false, nat_le, ◌&&◌, ◌||◌, List, length, Option, Some, None, option_map, option_and_then, slice_get, Result, Ok, Err, if◌then◌else◌}
 use Rattle.value.specs.Limits.{most_conjuncts}
 use Rattle.expr.specs.declared.bound.ColumnId.{ColumnId}
@@ -9,9 +9,10 @@ use Rattle.predicates.specs.Connectives.{both, parted, factored}
 use Rattle.predicates.specs.Equalities.{column_equals, column_sides, columns_equal, is_never_true, literal_side, not_null_form}
 use Rattle.predicates.specs.Inward.{inward}
 use Rattle.predicates.specs.Folded.{folded}
+use Rattle.predicates.specs.NullRows.{rejects_null_rows}
 use Rattle.predicates.specs.Same.{same}
 use Rattle.tuples.specs.Guards.{Guard, All}
-use Rattle.row_terms.specs.Terms.{Term, Guarded, Filtered, Joined, Empty}
+use Rattle.row_terms.specs.Terms.{Term, Guarded, Filtered, Joined, LeftJoined, Empty, covers}
 use Rattle.algebra.specs.declared.step.Reason.{Reason}
 use Rattle.algebra.specs.declared.step.Reason.TheVariants.{Misfit, Unmet}
 use Rattle.algebra.specs.Runs.{run, stands_in, reads_only, is_only, emptied}
@@ -89,6 +90,22 @@ swap_sides _ = Err Misfit
 abbrev pub exchange_right : Term → Outcome
 exchange_right (Joined (Joined x y) z) = Ok (Joined (Joined x z) y)
 exchange_right _ = Err Misfit
+
+-- ---- left joins
+
+-- F f (X + e Y) to F f (F e (X * Y)), where f is true on no null row of Y
+abbrev pub make_inner : Term → Outcome
+make_inner (Filtered f (LeftJoined on x y)) = where_met (rejects_null_rows (covers y) f) (Filtered f (Filtered on (Joined x y)))
+make_inner _ = Err Misfit
+
+-- F f (X + e Y) to (F f X) + e Y, where the entries of f are in X
+abbrev pub push_under_left : Term → Outcome
+push_under_left (Filtered f (LeftJoined on x y)) = where_met (reads_only x f) (LeftJoined on (Filtered f x) y)
+push_under_left _ = Err Misfit
+
+abbrev pub pull_over_left : Term → Outcome
+pull_over_left (LeftJoined on (Filtered f x) y) = where_met (reads_only x f) (Filtered f (LeftJoined on x y))
+pull_over_left _ = Err Misfit
 
 -- ---- guards
 

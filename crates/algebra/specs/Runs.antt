@@ -1,10 +1,10 @@
 -- The filters that stand one on another, the entries of a term, and those of a condition.
-use Rattle.std.specs.Prelude.{ℕ, Bool, ◌==◌, ◌&&◌, List, [], ◌∷◌, filter}
-use Rattle.std.specs.List.{list_all, list_any, range_with_len}
+use Rattle.std.specs.Prelude.{ℕ, Bool, ◌==◌, ◌&&◌, List, [], ◌∷◌}
+use Rattle.std.specs.List.{list_all, list_any}
 use Rattle.expr.specs.Bound.{BoundExpr}
 use Rattle.expr.specs.Columns.{columns}
 use Rattle.predicates.specs.Same.{same}
-use Rattle.row_terms.specs.Terms.{Term, Raw, Guarded, Filtered, Joined, Empty, covers}
+use Rattle.row_terms.specs.Terms.{Term, Raw, Guarded, Filtered, Joined, LeftJoined, Empty, covers, entries_in}
 
 -- the conditions of the filters from the node downward without a gap, numbered from 0
 abbrev pub run : Term → List BoundExpr
@@ -25,6 +25,7 @@ no_other entry (Raw own) = own == entry
 no_other entry (Guarded own x) = no_other entry x
 no_other entry (Filtered e x) = no_other entry x
 no_other entry (Joined x y) = no_other entry x && no_other entry y
+no_other entry (LeftJoined on x y) = no_other entry x && no_other entry y
 no_other entry (Empty entries) = list_all (λ i. i == entry) entries
 
 -- the entry is the only one of the term
@@ -33,4 +34,4 @@ is_only entry x = covers x entry && no_other entry x
 
 -- no combination, of the entries of a term, where there are so many
 abbrev pub emptied : ℕ → Term → Term
-emptied count x = Empty (filter (covers x) (range_with_len 0 count))
+emptied count x = Empty (entries_in count x)

@@ -23,11 +23,11 @@ forward =
     (1, rewrites.SplitFilter) ∷ (2, rewrites.MergeFilters) ∷ (3, rewrites.SwapFilters) ∷ (4, rewrites.PushLeft) ∷ (5, rewrites.PushRight)
     ∷ (6, rewrites.SwapSides) ∷ (7, rewrites.ExchangeRight) ∷ (8, rewrites.PushUnderGuard) ∷ (9, rewrites.DropGuard) ∷ (10, rewrites.DropFilter)
     ∷ (13, rewrites.CarryNot) ∷ (14, rewrites.FoldLiterals) ∷ (15, rewrites.EmptyFilter) ∷ (16, rewrites.EmptyInput) ∷ (17, rewrites.FactorOut)
-    ∷ (18, rewrites.NotNull) ∷ [])
+    ∷ (18, rewrites.NotNull) ∷ (19, rewrites.MakeInner) ∷ (20, rewrites.PushUnderLeft) ∷ [])
 
 -- and from right to left
 abbrev pub backward : ℕ → Option Rewrite
-backward = numbered ((4, rewrites.PullLeft) ∷ (5, rewrites.PullRight) ∷ (8, rewrites.PullOverGuard) ∷ [])
+backward = numbered ((4, rewrites.PullLeft) ∷ (5, rewrites.PullRight) ∷ (8, rewrites.PullOverGuard) ∷ (20, rewrites.PullOverLeft) ∷ [])
 
 -- the rules with one argument, which they have from right to left
 abbrev pub backward_of_one : ℕ → ℕ → Option Rewrite

@@ -11,6 +11,7 @@ use crate::empty_terms::{empty_filter, empty_input};
 use crate::equalities::{add_filter, drop_added};
 use crate::guards::{add_guard, drop_guard, pull_over_guard, push_under_guard};
 use crate::joins::{exchange_right, pull_left, pull_right, push_left, push_right, swap_sides};
+use crate::left_joins::{make_inner, pull_over_left, push_under_left};
 use crate::one_filter::{carry_not, factor_out, fold_literals, not_null};
 use crate::step::{Reason, Rewrite, Step, rewrite_of};
 use crate::two_filters::{copy_filter, drop_filter, merge_filters, split_filter, swap_filters};
@@ -53,6 +54,9 @@ fn rewritten<A: Heap>(
         Rewrite::EmptyInput => empty_input(alloc, frame.len(), term),
         Rewrite::FactorOut => factor_out(alloc, term),
         Rewrite::NotNull => not_null(alloc, term),
+        Rewrite::MakeInner => make_inner(alloc, term),
+        Rewrite::PushUnderLeft => push_under_left(alloc, term),
+        Rewrite::PullOverLeft => pull_over_left(alloc, term),
     }
 }
 
@@ -109,6 +113,22 @@ fn at_node<A: Heap>(
         (Branch::Second, Term::Joined { left, right }) => {
             let right = at_node(alloc, frame, rewrite, path, Box::into_inner(right))?;
             Ok(Term::Joined {
+                left,
+                right: boxed(alloc, right)?,
+            })
+        }
+        (Branch::First, Term::LeftJoined { on, left, right }) => {
+            let left = at_node(alloc, frame, rewrite, path, Box::into_inner(left))?;
+            Ok(Term::LeftJoined {
+                on,
+                left: boxed(alloc, left)?,
+                right,
+            })
+        }
+        (Branch::Second, Term::LeftJoined { on, left, right }) => {
+            let right = at_node(alloc, frame, rewrite, path, Box::into_inner(right))?;
+            Ok(Term::LeftJoined {
+                on,
                 left,
                 right: boxed(alloc, right)?,
             })

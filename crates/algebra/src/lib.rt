@@ -8,6 +8,7 @@ mod equalities;
 mod guards;
 mod joins;
 mod laws;
+mod left_joins;
 mod one_filter;
 mod planning;
 mod runs;

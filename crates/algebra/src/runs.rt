@@ -1,15 +1,16 @@
 //! The filters that stand one on another, and the entries of terms and conditions.
 
-ghost use Rattle.std.specs.Prelude.{◌≡◌, ◌==◌, ◌++◌, ◌∷◌, [], IfOk, OnOk, filter, option_map, slice_get};
-ghost use Rattle.std.specs.List.{list_all};
+ghost use Rattle.std.specs.Prelude.{◌≡◌, ◌==◌, ◌++◌, ◌∷◌, [], IfOk, OnOk, filter, option_map, option_to_list, slice_get};
+ghost use Rattle.std.specs.List.{list_all, list_any};
 ghost use Rattle.expr.specs.Columns.{columns};
+ghost use Rattle.predicates.specs.NullRows.{rejects_null_rows};
 ghost use Rattle.row_terms.specs.Terms as terms;
 ghost use Rattle.row_terms.specs.View.{term_of};
 ghost use Rattle.algebra.specs.Runs as spec;
 
 use expr::{ColumnId, MovableExpr, push_columns};
 use memory::{Heap, Items};
-use predicates::is_same;
+use predicates::{is_same, rejecting_columns};
 use row_terms::{Term, covers};
 use std::alloc::AllocError;
 
@@ -64,6 +65,24 @@ pub fn reads_only<A: Heap>(
     Ok(covers_all(term, columns.as_slice()))
 }
 
+// True where there is a column, and the term covers its entry.
+fn covers_column<A: Heap>(term: &Term<A>, column: Option<ColumnId>) -> bool
+    ensures { result ≡ list_any (λ id. terms.covers (term_of term.now) id.entry) (option_to_list column) }
+{
+    match column {
+        Some(id) => covers(term, id.entry),
+        None => false,
+    }
+}
+
+/// True where the condition is true on no null row of the term.
+pub(crate) fn rejects_nulls_of<A: Heap>(term: &Term<A>, condition: &MovableExpr<A>) -> bool
+    ensures { result ≡ rejects_null_rows (terms.covers (term_of term.now)) condition.now }
+{
+    let (one, other) = rejecting_columns(condition);
+    covers_column(term, one) || covers_column(term, other)
+}
+
 // True where all are the entry.
 fn are_all(entries: &[usize], entry: usize) -> bool
     ensures { result ≡ list_all (λ i. i == entry) entries.now }
@@ -80,6 +99,7 @@ fn no_other<A: Heap>(entry: usize, term: &Term<A>) -> bool
         Term::Guarded { input, .. } => no_other(entry, input),
         Term::Filtered { input, .. } => no_other(entry, input),
         Term::Joined { left, right } => no_other(entry, left) && no_other(entry, right),
+        Term::LeftJoined { left, right, .. } => no_other(entry, left) && no_other(entry, right),
         Term::Empty { entries } => are_all(entries.as_slice(), entry),
     }
 }

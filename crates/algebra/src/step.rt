@@ -47,6 +47,9 @@ pub enum Rewrite {
     EmptyInput,
     FactorOut,
     NotNull,
+    MakeInner,
+    PushUnderLeft,
+    PullOverLeft,
 }
 
 /// A reason for which there is no term after a step.
@@ -81,6 +84,8 @@ fn forward(rule: u64) -> Option<Rewrite>
         16 => Some(Rewrite::EmptyInput),
         17 => Some(Rewrite::FactorOut),
         18 => Some(Rewrite::NotNull),
+        19 => Some(Rewrite::MakeInner),
+        20 => Some(Rewrite::PushUnderLeft),
         _ => None,
     }
 }
@@ -93,6 +98,7 @@ fn backward(rule: u64) -> Option<Rewrite>
         4 => Some(Rewrite::PullLeft),
         5 => Some(Rewrite::PullRight),
         8 => Some(Rewrite::PullOverGuard),
+        20 => Some(Rewrite::PullOverLeft),
         _ => None,
     }
 }

@@ -28,8 +28,8 @@ use Rattle.scope.proofs.Found.{first_given}
 use Rattle.catalog_laws.specs.Catalog.{Catalog}
 use Rattle.analysis.specs.BoundQueries.{bound_condition, bound_ons}
 use Rattle.analysis.specs.Entries.{JoinedTable, alias_of, entries, entries_in, entry_in, found_entry, is_used, joined, last_first, left_table}
-use Rattle.analysis.specs.Resolved.{Bound, bound, bound_with, left_fault}
-use Rattle.analysis.proofs.EntryTables.{given, lefts_pass, same_entries, some_joined}
+use Rattle.analysis.specs.Resolved.{Bound, bound, bound_with}
+use Rattle.analysis.proofs.EntryTables.{given, same_entries, some_joined}
 use Rattle.query_laws.specs.LeftJoins.{HasLeftJoins, LeftJoinsAreBound}
 use Rattle.query_laws.proofs.Found.{expr_holds, one_more, the_match, the_one}
 use Rattle.query_laws.proofs.Parts.{is_made}
@@ -159,32 +159,32 @@ none_mapped f (Some x) h = absurd (cc)
 -- ---- the law
 
 module _ (cat : Catalog) (q : ast.Query) (b : Bound) (some : 0 < length q.from) (is : bound cat q ≡ Ok b) where
-  lasting : Parted cat (last_first 0 q.from) (joined 0 q.from) q.lefts b.entries × (left_fault b.query ≡ None)
-  lasting =
+  all_parted : Parted cat (last_first 0 q.from) (joined 0 q.from) q.lefts b.entries
+  all_parted =
       let found = given (bound_with q) b (entries cat q) is in
-      let es : found.0 ≡ b.entries = same_entries found.0 q b found.2 in
-      (subst (Parted cat (last_first 0 q.from) (joined 0 q.from) q.lefts) es (parted cat (last_first 0 q.from) [] (joined 0 q.from) q.lefts found.0 found.1), (lefts_pass q found.0 b found.2).1)
+      subst (Parted cat (last_first 0 q.from) (joined 0 q.from) q.lefts) (same_entries found.0 q b found.2) (parted cat (last_first 0 q.from) [] (joined 0 q.from) q.lefts found.0 found.1)
 
   has_left_joins : HasLeftJoins b
   has_left_joins =
-      let last = lasting in
-      let parts = (is_made cat q b is).parts in
+      let made = is_made cat q b is in
+      let parts = made.parts in
+      let split = all_parted in
       let es = b.entries in
-      let a = last.0.0 in
-      let lefts = last.0.1 in
+      let a = split.0 in
+      let lefts = split.1 in
       let ons = all_ons es 0 es b.query.ons parts.ons in
       let those = length-append a lefts in
-      let whole = ap length last.0.2 in
+      let whole = ap length split.2 in
       let some_first = some_joined q.from some in
-      let at : length b.query.ons - b.query.left_count ≡ length a = omega (arith, ons, those, whole, last.0.4, parts.lefts) in
+      let at : length b.query.ons - b.query.left_count ≡ length a = omega (arith, ons, those, whole, split.4, parts.lefts) in
       let start : length es - b.query.left_count ≡ 0 + length a = omega (arith, at, ons) in
-      let of_lefts = of_entries es (0 + length a) lefts last.0.5 (drop (length a) b.query.ons) (last_ons es 0 a lefts b.query.ons (ap (bound_ons es 0) last.0.2 ∙ parts.ons)) in
+      let of_lefts = of_entries es (0 + length a) lefts split.5 (drop (length a) b.query.ons) (last_ons es 0 a lefts b.query.ons (ap (bound_ons es 0) split.2 ∙ parts.ons)) in
       let same : left_ons b.query ≡ flat_map option_to_list (drop (length a) b.query.ons) = ap (λ n. flat_map option_to_list (drop n b.query.ons)) at in
       record {
         ons = ons;
-        inner = omega (arith, those, whole, last.0.3, last.0.4, parts.lefts, some_first);
-        as_many = ap length same ∙ of_lefts.0 ∙ last.0.4 ∙ parts.lefts;
-        movable = all_movable (left_ons b.query) (none_mapped (fault r.FeatureNotSupported) (least_of_all (map first_fragile (left_ons b.query))) last.1);
+        inner = omega (arith, those, whole, split.3, split.4, parts.lefts, some_first);
+        as_many = ap length same ∙ of_lefts.0 ∙ split.4 ∙ parts.lefts;
+        movable = all_movable (left_ons b.query) (none_mapped (fault r.FeatureNotSupported) (least_of_all (map first_fragile (left_ons b.query))) made.lefts);
         reach = λ k on at_k. subst (λ n. IsUpTo (n + k) on) (sym start) (of_lefts.1 k on (sym (ap (λ l. slice_get l k) same) ∙ at_k));
       }
 

@@ -3,6 +3,7 @@ pub mod Found
 pub mod Granted
 pub mod InOrder
 pub mod LeftJoins
+pub mod LeftRows
 pub mod Parts
 pub mod Placed
 pub mod Typed

@@ -10,4 +10,4 @@ mod values;
 pub use admitted::law_admitted;
 pub use binding::law_bound_in_order;
 pub use left_joins::law_left_joins;
-pub use values::law_admitted_values;
+pub use values::{law_admitted_values, law_combinations_are_of_rows};

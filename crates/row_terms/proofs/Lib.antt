@@ -1,5 +1,7 @@
 pub mod Covered
 pub mod NextEntry
+pub mod NullRows
+pub mod Ranges
 pub mod SlotLists
 pub mod Unions
 pub mod WrittenRows

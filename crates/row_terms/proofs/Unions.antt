@@ -1,5 +1,5 @@
--- The union of combinations: either side may come first, and of three the last two may be exchanged.
-use Rattle.std.proofs.Common.{◌≡◌, ℕ, zero, suc, List, [], ◌∷◌, Option, Some, None, refl, sym, ap, ◌∙◌, subst}
+-- The union of combinations: either side may come first, of three the last two may be exchanged, and it has the slots of both.
+use Rattle.std.proofs.Common.{◌≡◌, ℕ, zero, suc, Bool, true, false, List, [], ◌∷◌, Option, Some, None, refl, sym, ap, ◌∙◌, subst}
 use Rattle.memory.proofs.Cases.{some_is}
 use Rattle.bags.specs.Products.{then_union}
 use Rattle.tuples.specs.declared.slot.Slot.{Slot}
@@ -79,20 +79,25 @@ union-exchange (x ∷ xs) (y ∷ ys) (z ∷ zs) =
     ∙ ap (with_slot (then_either (either x z) y)) (union-exchange xs ys zs)
     ∙ sym (then-cons (either x z) (union xs zs) y ys)
 
--- ---- the rows of the left side
+-- ---- the slots of the left side
 
--- the combination has a row of the entry
-pub record HasRow (entry : ℕ) (slots : List Slot) : Type 0 where
-  pub number : ℕ
-  pub is : slot_at slots entry ≡ Row number
+abbrev pub is_there : Slot → Bool
+is_there Absent = false
+is_there NullRow = true
+is_there (Row number) = true
 
-row_of : (u z : List Slot) (i n : ℕ) → ◌≡◌ {A = Option (List Slot)} (Some u) (Some z) → slot_at u i ≡ Row n → slot_at z i ≡ Row n
-row_of u z i n e h = subst (λ l. slot_at l i ≡ Row n) (some_is u z e) h
+-- the combination has a row, or the null row, of the entry
+abbrev pub HasSlot : ℕ → List Slot → Type 0
+HasSlot entry slots = is_there (slot_at slots entry) ≡ true
 
-either-left : (n : ℕ) (y s : Slot) → either (Row n) y ≡ Some s → s ≡ Row n
-either-left n Absent s e = sym (some_is _ _ e)
-either-left n NullRow s e = absurd (cc)
-either-left n (Row m) s e = absurd (cc)
+either-left : (x y s : Slot) → is_there x ≡ true → either x y ≡ Some s → s ≡ x
+either-left Absent y s h e = absurd (cc)
+either-left NullRow Absent s h e = sym (some_is _ _ e)
+either-left NullRow NullRow s h e = absurd (cc)
+either-left NullRow (Row n) s h e = absurd (cc)
+either-left (Row m) Absent s h e = sym (some_is _ _ e)
+either-left (Row m) NullRow s h e = absurd (cc)
+either-left (Row m) (Row n) s h e = absurd (cc)
 
 with-parts : (s : Option Slot) (o : Option (List Slot)) (z : List Slot) → with_slot s o ≡ Some z → (c : Slot) × (u : List Slot) × (s ≡ Some c) × (o ≡ Some u) × (c ∷ u ≡ z)
 with-parts None None z e = absurd (cc)
@@ -100,13 +105,22 @@ with-parts None (Some u) z e = absurd (cc)
 with-parts (Some c) None z e = absurd (cc)
 with-parts (Some c) (Some u) z e = (c, u, refl, refl, some_is _ _ e)
 
--- a union has the rows of its left side
-pub left_row : (xs ys z : List Slot) (i n : ℕ) → union xs ys ≡ Some z → slot_at xs i ≡ Row n → slot_at z i ≡ Row n
-left_row [] ys z i n e h = absurd (cc)
-left_row (x ∷ xs) [] z i n e h = row_of (x ∷ xs) z i n e h
-left_row (x ∷ xs) (y ∷ ys) z zero n e h =
+-- a union has the slots of its left side
+pub left_slot : (xs ys z : List Slot) (i : ℕ) → union xs ys ≡ Some z → HasSlot i xs → slot_at z i ≡ slot_at xs i
+left_slot [] ys z i e h = absurd (cc)
+left_slot (x ∷ xs) [] z i e h = ap (λ l. slot_at l i) (sym (some_is (x ∷ xs) z e))
+left_slot (x ∷ xs) (y ∷ ys) z zero e h =
     let p = with-parts (either x y) (union xs ys) z e in
-    subst (λ l. slot_at l 0 ≡ Row n) p.4 (either-left n y p.0 (subst (λ a. either a y ≡ Some p.0) h p.2))
-left_row (x ∷ xs) (y ∷ ys) z (suc i) n e h =
+    subst (λ l. slot_at l 0 ≡ x) p.4 (either-left x y p.0 h p.2)
+left_slot (x ∷ xs) (y ∷ ys) z (suc i) e h =
     let p = with-parts (either x y) (union xs ys) z e in
-    subst (λ l. slot_at l (suc i) ≡ Row n) p.4 (left_row xs ys p.1 i n p.3 h)
+    subst (λ l. slot_at l (suc i) ≡ slot_at xs i) p.4 (left_slot xs ys p.1 i p.3 h)
+
+pub left_has : (i : ℕ) (x y z : List Slot) → HasSlot i x → union x y ≡ Some z → HasSlot i z
+left_has i x y z h e = ap is_there (left_slot x y z i e h) ∙ h
+
+pub right_slot : (xs ys z : List Slot) (i : ℕ) → union xs ys ≡ Some z → HasSlot i ys → slot_at z i ≡ slot_at ys i
+right_slot xs ys z i e h = left_slot ys xs z i (union-swap ys xs ∙ e) h
+
+pub right_has : (i : ℕ) (x y z : List Slot) → HasSlot i y → union x y ≡ Some z → HasSlot i z
+right_has i x y z h e = ap is_there (right_slot x y z i e h) ∙ h

@@ -31,6 +31,13 @@ pub enum Term<A: Heap> {
         left: Box<Term<A>, A>,
         right: Box<Term<A>, A>,
     },
+    /// Each combination of the left side with those of the right on which a condition is true; where there is none, with the
+    /// null rows of the right side's entries.
+    LeftJoined {
+        on: MovableExpr<A>,
+        left: Box<Term<A>, A>,
+        right: Box<Term<A>, A>,
+    },
     /// No combination, of these entries.
     Empty {
         entries: Items<usize, A>,
@@ -44,7 +51,7 @@ fn is_among(entries: &[usize], entry: usize) -> bool
     entries.iter().any(|i| *i == entry)
 }
 
-/// True where the term's combinations have a row of the entry.
+/// True where the term's combinations have a row, or the null row, of the entry.
 pub fn covers<A: Heap>(term: &Term<A>, entry: usize) -> bool
     ensures { result ≡ spec.covers (term_of term.now) entry }
 {
@@ -53,6 +60,7 @@ pub fn covers<A: Heap>(term: &Term<A>, entry: usize) -> bool
         Term::Guarded { input, .. } => covers(input, entry),
         Term::Filtered { input, .. } => covers(input, entry),
         Term::Joined { left, right } => covers(left, entry) || covers(right, entry),
+        Term::LeftJoined { left, right, .. } => covers(left, entry) || covers(right, entry),
         Term::Empty { entries } => is_among(entries.as_slice(), entry),
     }
 }
