@@ -2,6 +2,7 @@ pub mod FittingValues
 pub mod Found
 pub mod Granted
 pub mod InOrder
+pub mod LeftJoins
 pub mod LeftRows
 pub mod Parts
 pub mod Placed

@@ -69,7 +69,7 @@ module _ (cat : Catalog) where
       let m = ap length rest.4 in
       omega arith
 
-some_joined : (from : List ast.FromItem) → 0 < length from → 0 < length (joined 0 from)
+pub some_joined : (from : List ast.FromItem) → 0 < length from → 0 < length (joined 0 from)
 some_joined [] h = absurd (omega arith)
 some_joined (f ∷ more) h = let n = length-append (item_tables 0 f) (joined (0 + length (item_tables 0 f)) more) in omega arith
 
@@ -89,7 +89,7 @@ lefts_pass q es b e =
     let passes = unless_given (left_fault found.0.query) found.0 b found.2 in
     (found.1 ∙ ap Ok passes.1, ap (λ x. left_fault x.query) (sym passes.1) ∙ passes.0)
 
-same_entries : (es : List Entry) (q : ast.Query) (b : Bound) → bound_with q es ≡ Ok b → es ≡ b.entries
+pub same_entries : (es : List Entry) (q : ast.Query) (b : Bound) → bound_with q es ≡ Ok b → es ≡ b.entries
 same_entries es q b e =
     let columns = given (checked es q) b (bound_query es q) (lefts_pass q es b e).0 in
     let types = given (ordered es q) b (unless_fault (clause_error es columns.0.group_by q) columns.0) columns.2 in

@@ -14,7 +14,9 @@ ghost use Rattle.row_queries.specs.View.{clauses_of};
 
 use crate::tables::{condition, from, left_joins};
 use memory::{Heap, Items, Text};
-use row_ast::{ColumnRef, Condition, FromItem, LeftJoin, Query, SelectItem, SelectList, SortKey, SortTarget};
+use row_ast::{
+    ColumnRef, Condition, FromItem, LeftJoin, Query, SelectItem, SelectList, SortKey, SortTarget,
+};
 use row_expressions::expression;
 use row_reader::comma_list::comma_list;
 use row_reader::names::{columns, name_after};
@@ -321,7 +323,8 @@ fn from_clauses<'t, A: Heap>(
     ensures { Parses (λ t. (map (λ c. from_item_of c) t.0, (map (λ l. left_join_of l) t.1.0, clauses_of t.1.1))) (both tables.from (both tables.left_joins rules.clauses)) reader tokens.now result }
 {
     let (items, rest) = from(reader, tokens)?;
-    before(items, left_clauses(reader, rest))
+    let ((lefts, following), rest) = left_clauses(reader, rest)?;
+    Ok(((items, (lefts, following)), rest))
 }
 
 /// `SELECT list FROM items`, its left joins and the clauses after them.

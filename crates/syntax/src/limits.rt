@@ -40,6 +40,12 @@ fn join_members<A: Heap>(join: &Join<A>) -> usize
     }
 }
 
+fn left_join_members<A: Heap>(left_join: &LeftJoin<A>) -> usize
+    ensures { result ≡ sizes.members (left_join_of left_join.now).on_ }
+{
+    members(&left_join.on.predicate)
+}
+
 fn filter_members<A: Heap>(filter: &Option<Condition<A>>) -> usize
     ensures { result ≡ filter_members (option_map (λ c. condition_of c) filter.now) }
 {
@@ -77,7 +83,7 @@ fn left_by_lefts<A: Heap>(lefts: &[LeftJoin<A>], room: usize) -> Option<usize>
 {
     let mut left = room;
     for left_join in lefts {
-        left = left.checked_sub(members(&left_join.on.predicate))?;
+        left = left.checked_sub(left_join_members(left_join))?;
     }
     Some(left)
 }

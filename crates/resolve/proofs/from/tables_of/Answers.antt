@@ -1,6 +1,5 @@
-use Rattle.std.proofs.Common.{map, ap, ◌∙◌, ◌++◌}
-use Rattle.row_ast.specs.View.{left_join_of, query_of}
-use Rattle.resolve.specs.Entries.{left_table}
+use Rattle.std.proofs.Common.{map}
+use Rattle.row_ast.specs.View.{query_of}
 use Rattle.resolve.specs.View.{joined_table_of}
 use Rattle.resolve.proofs.LeftTables.{all_tables}
 use Rattle.resolve.proofs.from.tables_of.Goals as goal

@@ -11,6 +11,6 @@ pub returns-in-Ok : goal.returns-in-Ok
 returns-in-Ok g c =
     given (λ (b : Bound g.row.A.Denot). bound_of b) c.lefts_checked.result (bound_checked (query_of c.args.query.now) (map (λ e. entry_of e) c.args.entries)) (bound_of c.in-Ok.bound) lefts_checked c.in-Ok.ensures c.lefts_checked.ensures
 
-pub returns : goal.returns
-returns g c =
+pub returns-in-Err : goal.returns-in-Err
+returns-in-Err g c =
     failed (λ (b : Bound g.row.A.Denot). bound_of b) (λ (b : Bound g.row.A.Denot). bound_of b) c.in-Err.failure (bound_checked (query_of c.args.query.now) (map (λ e. entry_of e) c.args.entries)) lefts_checked _ refl c.in-Err.ensures
