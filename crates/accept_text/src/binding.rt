@@ -10,7 +10,7 @@ use std::process::Abort;
 use std::test::Fail;
 
 // A query, and its items by heading, the entries of FROM with their ON, and its other clauses; or its first error.
-static BOUND: [(&str, &str); 30] = [
+static BOUND: [(&str, &str); 35] = [
     ("SELECT id, owner FROM deal", "id: 0.0, owner: 0.1 FROM 0"),
     (
         "SELECT deal.amount, Deal.ID FROM DEAL",
@@ -42,6 +42,27 @@ static BOUND: [(&str, &str); 30] = [
     (
         "SELECT owner FROM region, deal JOIN note ON id = deal.amount AND note.deal = id",
         "owner: 1.1 FROM 0, 1, 2 ON AND[(1.0 = 1.2), (2.0 = 1.0)]",
+    ),
+    (
+        "SELECT name FROM deal d LEFT JOIN region r ON d.id = r.id",
+        "name: 1.1 FROM 0, LEFT 1 ON (0.0 = 1.0)",
+    ),
+    (
+        "SELECT * FROM note JOIN region ON id = deal LEFT OUTER JOIN note n ON body = name",
+        "42702 at 70",
+    ),
+    // The ON of a left join has the last item of FROM in scope, and the left joins before it.
+    (
+        "SELECT owner FROM region, deal LEFT JOIN note ON id = deal.amount LEFT JOIN region r ON r.id = note.deal AND deal.id = 1",
+        "owner: 1.1 FROM 0, 1, LEFT 2 ON (1.0 = 1.2), LEFT 3 ON AND[(3.0 = 2.0), (1.0 = 1)]",
+    ),
+    (
+        "SELECT d.id FROM deal d LEFT JOIN region r ON n.deal = r.id LEFT JOIN note n ON TRUE",
+        "42P01 at 46",
+    ),
+    (
+        "SELECT owner FROM region s, deal d LEFT JOIN note n ON s.id = n.deal",
+        "42P01 at 55",
     ),
     (
         "SELECT owner, count(*) FROM deal WHERE amount > 0 GROUP BY owner, deal.id HAVING sum(amount) >= 10",
@@ -140,7 +161,7 @@ fn bound_as(
     query: &Query<Global>,
     placed: bool,
 ) -> Result<String, AllocError> {
-    let entries = match entries(alloc, catalog, query.from.as_slice()) {
+    let entries = match entries(alloc, catalog, query) {
         Ok(entries) => entries,
         Err(failure) => return error_text(alloc, failure),
     };

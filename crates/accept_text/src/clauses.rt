@@ -9,7 +9,7 @@ use std::alloc::{AllocError, Global};
 use std::process::Abort;
 use std::test::Fail;
 
-static ACCEPTED: [(&str, &str); 18] = [
+static ACCEPTED: [(&str, &str); 20] = [
     ("SELECT id FROM deal WHERE amount > 1", "accepted"),
     (
         "SELECT owner, sum(amount) FROM deal WHERE id <> 0 GROUP BY owner",
@@ -66,6 +66,15 @@ static ACCEPTED: [(&str, &str); 18] = [
     ),
     (
         "SELECT d.id FROM deal d JOIN region r ON d.id = r.id AND d.owner = r.name",
+        "accepted",
+    ),
+    // What may fault is in the ON of an inner join, in WHERE and in items.
+    (
+        "SELECT d.id + 1 FROM deal d JOIN region r ON d.id + 1 = r.id LEFT JOIN note n ON n.deal = d.id WHERE d.id / 2 = 1",
+        "accepted",
+    ),
+    (
+        "SELECT count(*) FROM deal d LEFT JOIN region r ON CASE WHEN d.id IN (-1, 2) THEN NULL ELSE r.name <> CURRENT_USER END",
         "accepted",
     ),
 ];
@@ -169,8 +178,40 @@ static MISTYPED: [(&str, &str); 26] = [
     ("SELECT CAST(id = 1 AS text) FROM deal", "42804 at 7"),
 ];
 
+// What may fault in the ON of a left join: the least offset, over all left joins.
+static LEFT_JOINS: [(&str, &str); 7] = [
+    (
+        "SELECT d.id FROM deal d LEFT JOIN region r ON -d.id = r.id AND CAST(r.name AS bigint) = 1",
+        "0A000 at 46",
+    ),
+    (
+        "SELECT d.id FROM deal d LEFT JOIN region r ON d.id = r.id AND CAST(r.name AS bigint) = 1",
+        "0A000 at 62",
+    ),
+    (
+        "SELECT d.id FROM deal d LEFT JOIN region r ON d.amount + 1 = r.id",
+        "0A000 at 55",
+    ),
+    (
+        "SELECT d.id FROM deal d LEFT JOIN region r ON NOT (d.id BETWEEN 1 AND r.id % 2)",
+        "0A000 at 75",
+    ),
+    (
+        "SELECT d.id FROM deal d LEFT JOIN region r ON CASE WHEN d.id = 1 THEN TRUE ELSE r.id * 2 IN (4) END",
+        "0A000 at 85",
+    ),
+    (
+        "SELECT d.id FROM deal d LEFT JOIN region r ON d.id = r.id OR r.id IS NULL LEFT JOIN note n ON n.deal - 1 = d.id",
+        "0A000 at 101",
+    ),
+    (
+        "SELECT d.id FROM deal d LEFT JOIN region r ON d.id = r.id / 2 LEFT JOIN note n ON - n.deal = d.id",
+        "0A000 at 58",
+    ),
+];
+
 // Conditions that are none, and the first of several errors.
-static CONDITIONS: [(&str, &str); 16] = [
+static CONDITIONS: [(&str, &str); 20] = [
     ("SELECT id FROM deal WHERE amount", "42804 at 26"),
     ("SELECT id FROM deal WHERE (owner)", "42804 at 26"),
     ("SELECT id FROM deal WHERE id + 1", "42804 at 26"),
@@ -206,7 +247,23 @@ static CONDITIONS: [(&str, &str); 16] = [
         "SELECT id BETWEEN owner AND 1 + 'x' FROM deal",
         "42804 at 30",
     ),
-    // Names come before aggregates, and these before types.
+    // Names come before aggregates, these before types, and these before the ONs of left joins.
+    (
+        "SELECT d.id FROM deal d LEFT JOIN region r ON d.id + 1",
+        "42804 at 46",
+    ),
+    (
+        "SELECT d.id FROM deal d LEFT JOIN region r ON count(*) = 1",
+        "42803 at 46",
+    ),
+    (
+        "SELECT d.id FROM deal d LEFT JOIN region r ON d.id + 1 = r.id WHERE d.owner",
+        "42804 at 68",
+    ),
+    (
+        "SELECT d.id FROM deal d LEFT JOIN region r ON d.id + 1 = r.id ORDER BY id, nosuch",
+        "42703 at 75",
+    ),
     (
         "SELECT id = 'x' FROM deal WHERE count(*) = 1",
         "42803 at 32",
@@ -268,6 +325,12 @@ fn misplaced_aggregates_and_columns_are_refused(rt: HostRuntime) -> Result<(), F
 #[test]
 fn values_of_the_wrong_type_are_refused(rt: HostRuntime) -> Result<(), Fail> {
     are_checked(&rt, &MISTYPED)?;
+    Ok(())
+}
+
+#[test]
+fn what_may_fault_in_a_left_join_is_refused(rt: HostRuntime) -> Result<(), Fail> {
+    are_checked(&rt, &LEFT_JOINS)?;
     Ok(())
 }
 

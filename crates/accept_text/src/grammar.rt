@@ -282,7 +282,7 @@ static NAMES: [Row; 13] = [
 ];
 
 // Items and FROM.
-static TABLES: [Row; 27] = [
+static TABLES: [Row; 26] = [
     ("SELECT * FROM t", Ok("SELECT * FROM t")),
     ("SELECT t.* FROM t", Err(9)),
     ("SELECT *, a FROM t", Err(8)),
@@ -314,7 +314,6 @@ static TABLES: [Row; 27] = [
         "SELECT a FROM t, u JOIN v ON b AND c JOIN w ON d WHERE e",
         Ok("SELECT a FROM t, u JOIN v ON AND[b, c] JOIN w ON d WHERE e"),
     ),
-    ("SELECT a FROM t LEFT JOIN u ON a = b", Err(16)),
     ("SELECT a FROM t u RIGHT JOIN v ON a = b", Err(18)),
     ("SELECT a FROM t JOIN u", Err(22)),
     ("SELECT a FROM t JOIN u USING (a)", Err(23)),
@@ -325,6 +324,49 @@ static TABLES: [Row; 27] = [
     ("SELECT a FROM t.u", Err(15)),
     ("SELECT a FROM t, WHERE b", Err(17)),
     ("SELECT 1", Err(8)),
+];
+
+// Left joins, which come last in FROM.
+static LEFT_JOINS: [Row; 22] = [
+    (
+        "SELECT a FROM t LEFT JOIN u ON a = b",
+        Ok("SELECT a FROM t LEFT JOIN u ON (a = b)"),
+    ),
+    (
+        "SELECT a FROM t left outer join u AS x ON a",
+        Ok("SELECT a FROM t LEFT JOIN u AS x ON a"),
+    ),
+    (
+        "SELECT a FROM t x, u JOIN v ON b LEFT JOIN w y ON c OR d LEFT OUTER JOIN w ON e WHERE f LIMIT 1",
+        Ok(
+            "SELECT a FROM t AS x, u JOIN v ON b LEFT JOIN w AS y ON OR[c, d] LEFT JOIN w ON e WHERE f LIMIT 1",
+        ),
+    ),
+    (
+        "SELECT a FROM t LEFT JOIN u ON b AND (c AND d) GROUP BY a",
+        Ok("SELECT a FROM t LEFT JOIN u ON AND[b, c, d] GROUP BY a"),
+    ),
+    (
+        "SELECT a FROM t CROSS JOIN u LEFT JOIN v ON TRUE",
+        Ok("SELECT a FROM t CROSS JOIN u LEFT JOIN v ON TRUE"),
+    ),
+    ("SELECT a FROM t LEFT JOIN u ON a, v", Err(32)),
+    ("SELECT a FROM t LEFT JOIN u ON a JOIN v ON b", Err(33)),
+    ("SELECT a FROM t LEFT JOIN u ON a INNER JOIN v ON b", Err(33)),
+    ("SELECT a FROM t LEFT JOIN u ON a CROSS JOIN v", Err(33)),
+    ("SELECT a FROM t LEFT JOIN u ON a RIGHT JOIN v ON b", Err(33)),
+    ("SELECT a FROM t LEFT JOIN u ON a FULL JOIN v ON b", Err(33)),
+    ("SELECT a FROM t LEFT JOIN u", Err(27)),
+    ("SELECT a FROM t LEFT JOIN u USING (a)", Err(28)),
+    ("SELECT a FROM t LEFT JOIN (u) ON a", Err(26)),
+    ("SELECT a FROM t LEFT u ON a", Err(21)),
+    ("SELECT a FROM t LEFT OUTER u ON a", Err(27)),
+    ("SELECT a FROM t OUTER JOIN u ON a", Err(16)),
+    ("SELECT a FROM t LEFT INNER JOIN u ON a", Err(21)),
+    ("SELECT a FROM t JOIN u LEFT JOIN v ON a ON b", Err(23)),
+    ("SELECT a FROM LEFT JOIN u ON a", Err(14)),
+    ("SELECT left FROM t", Err(7)),
+    ("SELECT a AS outer FROM t", Err(12)),
 ];
 
 // The clauses after FROM, each once and in order.
@@ -452,7 +494,11 @@ static LONGEST_FRONTS: [Row; 15] = [
 ];
 
 // The same with offsets: of names, of operations and of the first token of a condition.
-static PLACED: [Row; 15] = [
+static PLACED: [Row; 16] = [
+    (
+        "SELECT a FROM t LEFT JOIN u ON b = c LEFT OUTER JOIN v AS w ON d",
+        Ok("SELECT a@7 FROM t@14 LEFT JOIN u@26 ON@31 (b@31 =@33 c@35) LEFT JOIN v@53 AS w ON@63 d@63"),
+    ),
     (
         "SELECT a + b * c FROM t",
         Ok("SELECT (a@7 +@9 (b@11 *@13 c@15)) FROM t@22"),
@@ -551,6 +597,10 @@ fn tables() -> &'static [Row] {
     &TABLES
 }
 
+fn left_joins() -> &'static [Row] {
+    &LEFT_JOINS
+}
+
 fn clauses() -> &'static [Row] {
     &CLAUSES
 }
@@ -579,6 +629,7 @@ fn queries_by_the_grammar(rt: HostRuntime) {
     read_as(&rt, "calls", false, calls());
     read_as(&rt, "names", false, names());
     read_as(&rt, "tables", false, tables());
+    read_as(&rt, "left_joins", false, left_joins());
     read_as(&rt, "clauses", false, clauses());
     read_as(&rt, "tokens", false, tokens());
     read_as(&rt, "ends", false, ends());

@@ -38,6 +38,11 @@ const ON: (&str, &str) = (
     "",
 );
 
+const LEFT_ON: (&str, &str) = (
+    "SELECT a FROM t JOIN u ON b AND c LEFT JOIN v ON d LEFT JOIN w ON e WHERE ",
+    "",
+);
+
 const POLICY: (&str, &str) = ("CREATE POLICY p ON t USING (", ")");
 
 const NAME: &str = "abcdefghijklmnopqrstuvwxyz_0123456789_ABCDEFGHIJKLMNOPQRSTUVWXY";
@@ -211,6 +216,21 @@ static RUNS: [Group; 6] = [
             ),
             (ON, ("", "a", " AND a"), 60, None),
             (ON, ("", "a", " AND a"), 61, PAST),
+            (LEFT_ON, ("", "a", " AND a"), 59, None),
+            (LEFT_ON, ("", "a", " AND a"), 60, PAST),
+            // The last of them is a conjunct of a left join.
+            (
+                ("SELECT a FROM t LEFT JOIN u ON b LEFT JOIN v ON ", " WHERE c AND d"),
+                ("", "a", " AND a"),
+                60,
+                None,
+            ),
+            (
+                ("SELECT a FROM t LEFT JOIN u ON b LEFT JOIN v ON ", " WHERE c AND d"),
+                ("", "a", " AND a"),
+                61,
+                PAST,
+            ),
         ],
     ),
     (
@@ -223,6 +243,30 @@ static RUNS: [Group; 6] = [
             (("SELECT a FROM ", ""), ("", "a", " CROSS JOIN a"), 8, PAST),
             (("SELECT a FROM ", ""), ("", "a", " JOIN a ON b"), 7, None),
             (("SELECT a FROM ", ""), ("", "a", " JOIN a ON b"), 8, PAST),
+            (
+                ("SELECT a FROM ", ""),
+                ("", "a", " LEFT JOIN a ON b"),
+                7,
+                None,
+            ),
+            (
+                ("SELECT a FROM ", ""),
+                ("", "a", " LEFT JOIN a ON b"),
+                8,
+                PAST,
+            ),
+            (
+                ("SELECT a FROM t, u JOIN v ON b", ""),
+                ("", "", " LEFT JOIN a ON b"),
+                5,
+                None,
+            ),
+            (
+                ("SELECT a FROM t, u JOIN v ON b", ""),
+                ("", "", " LEFT JOIN a ON b"),
+                6,
+                PAST,
+            ),
             (("SELECT ", " FROM t"), ("", "a", ", a"), 63, None),
             (("SELECT ", " FROM t"), ("", "a", ", a"), 64, PAST),
             (

@@ -14,7 +14,7 @@ use std::test::Fail;
 use value::Refusal;
 
 // A query, and the privileges that it needs: on columns, and on tables of which any part will do.
-static NEEDED: [(&str, &str); 13] = [
+static NEEDED: [(&str, &str); 15] = [
     ("SELECT id, owner FROM deal", "deal.id deal.owner "),
     ("SELECT * FROM deal", "deal.id deal.owner deal.amount "),
     ("SELECT count(*) FROM deal", "deal "),
@@ -39,6 +39,14 @@ static NEEDED: [(&str, &str); 13] = [
     ),
     ("SELECT a.id, b.id FROM deal a, deal b", "deal.id deal.id "),
     (
+        "SELECT d.id FROM deal d LEFT JOIN region r ON d.amount = r.id WHERE owner = 'x'",
+        "deal.id deal.amount region.id deal.owner ",
+    ),
+    (
+        "SELECT d.id FROM deal d LEFT JOIN region r ON TRUE LEFT JOIN note n ON d.id = 1",
+        "deal.id deal.id region note ",
+    ),
+    (
         "SELECT a.id FROM deal a CROSS JOIN deal b, note",
         "deal.id deal note ",
     ),
@@ -49,7 +57,7 @@ static NEEDED: [(&str, &str); 13] = [
 ];
 
 // A query, and the first error of its names.
-static FAULTS: [(&str, Refusal, u32); 21] = [
+static FAULTS: [(&str, Refusal, u32); 26] = [
     ("SELECT id FROM nosuch", Refusal::UndefinedTable, 15),
     ("SELECT nosuch FROM deal", Refusal::UndefinedColumn, 7),
     ("SELECT id FROM deal, region", Refusal::AmbiguousColumn, 7),
@@ -86,6 +94,31 @@ static FAULTS: [(&str, Refusal, u32); 21] = [
         "SELECT owner FROM note n, deal d JOIN region r ON d.id = n.deal",
         Refusal::UndefinedTable,
         57,
+    ),
+    (
+        "SELECT d.id FROM deal d LEFT JOIN deal d ON TRUE",
+        Refusal::DuplicateAlias,
+        34,
+    ),
+    (
+        "SELECT d.id FROM deal d LEFT JOIN nosuch d ON nosuch",
+        Refusal::UndefinedTable,
+        34,
+    ),
+    (
+        "SELECT d.id FROM deal d LEFT JOIN region r ON s.id = r.id LEFT JOIN region s ON TRUE",
+        Refusal::UndefinedTable,
+        46,
+    ),
+    (
+        "SELECT d.id FROM deal d LEFT JOIN region r ON CAST(d.id AS text) = r.name ORDER BY nosuch",
+        Refusal::UndefinedColumn,
+        83,
+    ),
+    (
+        "SELECT d.id FROM deal d LEFT JOIN region r ON -d.id = r.id AND CAST(r.name AS bigint) = 1",
+        Refusal::FeatureNotSupported,
+        46,
     ),
     (
         "SELECT nosuch FROM deal d JOIN region r ON d.id = x.id",
@@ -148,7 +181,7 @@ fn needed_as(
     catalog: &Catalog<Global>,
     query: &Query<Global>,
 ) -> Result<String, AllocError> {
-    let entries = match entries(alloc, catalog, query.from.as_slice()) {
+    let entries = match entries(alloc, catalog, query) {
         Ok(entries) => entries,
         Err(failure) => return error_text(alloc, failure),
     };

@@ -6,8 +6,9 @@ use Rattle.value.specs.Datum.{Row}
 use Rattle.value.specs.Names.{Name}
 use Rattle.expr.specs.BoundQuery.{BoundQuery}
 use Rattle.expr.specs.Codes.{Code}
-use Rattle.expr.specs.Conjuncts.{movable_conjuncts}
-use Rattle.tuples.specs.Combinations.{Combination, combinations, passing}
+use Rattle.expr.specs.Conjuncts.{left_ons, movable_conjuncts}
+use Rattle.tuples.specs.Combinations.{Combination, passing}
+use Rattle.tuples.specs.LeftCombinations.{left_combinations}
 use Rattle.tuples.specs.Guards.{shows}
 use Rattle.tuples.specs.World.{seen_rows}
 use Rattle.row_terms.specs.Laws.{WrittenMeans}
@@ -41,7 +42,7 @@ use Rattle.engine.specs.Answer.{seen}
 use Rattle.engine.specs.Audits.{Audit, Judged, admitted_audit, audit_of, judged}
 use Rattle.engine.specs.Guarded.{guarded_tables}
 use Rattle.engine.specs.Settings.{setting}
-use Rattle.engine.proofs.OfText.{text_entries, text_tables}
+use Rattle.engine.proofs.OfText.{text_entries, text_inner, text_tables}
 use Rattle.engine.proofs.Planned.{code_passing}
 use Rattle.engine.proofs.Readable.{found_in}
 use Rattle.engine.proofs.Steps.{filter_same}
@@ -96,14 +97,14 @@ OrderPlaysNoPart = (role : Name) (q : BoundQuery) (one other : List Combination)
 
 module _ (means : WrittenMeans) (same : ShapesMeanSame) (shown : GuardsShow) (have : HaveTables) (order : OrderPlaysNoPart) where
   code_passes : (cat : Catalog) (role : Name) (text : List ℕ) (b : Bound) → IsWellFormed cat → admitted cat role text ≡ Ok b → (code : Code) → is_admissible (setting cat role b) code ≡ true → (rows : Rows)
-      → IsPermutation (given_by cat rows role b code) (passing role (movable_conjuncts b.query) (combinations (seen cat rows role b.entries)))
+      → IsPermutation (given_by cat rows role b code) (passing role (movable_conjuncts b.query) (left_combinations role (left_ons b.query) (seen cat rows role b.entries)))
   code_passes cat role text b fit is code fits rows =
       let w = world_over cat rows role b in
       let at = setting cat role b in
       let some : 0 < length w.tables = subst (λ n. 0 < n) (sym (as_many cat role rows b.entries)) (text_entries cat role b (text, is) have) in
-      subst (λ tables. IsPermutation (given_by cat rows role b code) (passing role (movable_conjuncts b.query) (combinations tables)))
+      subst (λ tables. IsPermutation (given_by cat rows role b code) (passing role (movable_conjuncts b.query) (left_combinations role (left_ons b.query) tables)))
       (left_rows cat role rows shown fit b.entries (text_tables cat role b (text, is)))
-      (code_passing means same w some at (their_guards cat role rows b.entries) refl code fits (mean w (shape at code)) (IsPermutation-refl (mean w (shape at code))))
+      (code_passing means same w some (text_inner cat role b (text, is)) at (their_guards cat role rows b.entries) refl code fits (mean w (shape at code)) (IsPermutation-refl (mean w (shape at code))))
 
   pub accepted_are_right : AcceptedAreRight
   accepted_are_right cat role text plan fit is =

@@ -2,8 +2,9 @@
 use Rattle.std.specs.Prelude.{◌≡◌, ℕ, List, map, Ok, IsPermutation}
 use Rattle.value.specs.Names.{Name}
 use Rattle.expr.specs.Codes.{Code}
-use Rattle.expr.specs.Conjuncts.{movable_conjuncts}
-use Rattle.tuples.specs.Combinations.{Combination, combinations, passing}
+use Rattle.expr.specs.Conjuncts.{left_ons, movable_conjuncts}
+use Rattle.tuples.specs.Combinations.{Combination, passing}
+use Rattle.tuples.specs.LeftCombinations.{left_combinations}
 use Rattle.tuples.specs.World.{World, combination_at}
 use Rattle.row_terms.specs.Means.{mean}
 use Rattle.trailcheck.specs.Shapes.{shape}
@@ -37,7 +38,7 @@ pub record IsRight (cat : Catalog) (role : Name) (text plan : List ℕ) : Type 0
   pub is_admitted : admitted cat role text ≡ Ok query
   pub is_read : plan_at (plan_entries query.entries) plan ≡ Ok read
   -- its shape gives exactly the combinations of rows that the role sees that pass the movable conjuncts
-  pub passes : (rows : Rows) → IsPermutation (given_by cat rows role query read.code) (passing role (movable_conjuncts query.query) (combinations (seen cat rows role query.entries)))
+  pub passes : (rows : Rows) → IsPermutation (given_by cat rows role query read.code) (passing role (movable_conjuncts query.query) (left_combinations role (left_ons query.query) (seen cat rows role query.entries)))
   -- so over them the query has its answer
   pub answers : (rows : Rows) → report.answer role query.query (given_by cat rows role query read.code) ≡ answer cat rows role query
 

@@ -1,9 +1,10 @@
 -- The bound query of a text that a role may ask.
-use Rattle.std.proofs.Common.{◌≡◌, ◌<◌, ◌≤◌, ℕ, true, List, length, Ok}
+use Rattle.std.proofs.Common.{◌≡◌, ◌<◌, ◌≤◌, ℕ, true, List, [], length, Ok}
 use Rattle.value.specs.Limits.{most_conjuncts, most_entries}
 use Rattle.value.specs.Names.{Name}
 use Rattle.row_ast.specs.Ast.{Query}
-use Rattle.expr.specs.Conjuncts.{movable_conjuncts}
+use Rattle.expr.specs.Conjuncts.{left_ons, movable_conjuncts}
+use Rattle.expr.proofs.Conjoined.{no_left_ons}
 use Rattle.catalog.specs.Catalog.{Catalog}
 use Rattle.syntax.specs.Limits.{within_limits}
 use Rattle.syntax.specs.Parsing.{parsed_query}
@@ -12,6 +13,7 @@ use Rattle.resolve.specs.EntryTables.{AreTables}
 use Rattle.resolve.specs.Resolved.{Bound}
 use Rattle.resolve.proofs.EntryTables.{given}
 use Rattle.analysis.specs.Analysis.{admitted_query, query_read}
+use Rattle.analysis.proofs.Admitted.{admitted_has_none}
 use Rattle.engine.specs.Plans.{IsAdmitted}
 use Rattle.engine.proofs.Few.{admitted_few}
 use Rattle.engine.proofs.FewConjuncts.{admitted_conjuncts}
@@ -40,3 +42,7 @@ module _ (cat : Catalog) (role : Name) (b : Bound) (is : IsAdmitted cat role b) 
 
   pub text_conjuncts : AreSmall → length (movable_conjuncts b.query) ≤ most_conjuncts
   text_conjuncts small = admitted_conjuncts cat role parts.0 b (small is.0 parts.0 parsed) parts.2
+
+  -- it has no left joins
+  pub text_inner : left_ons b.query ≡ []
+  text_inner = no_left_ons b.query (admitted_has_none cat role parts.0 b parts.2)

@@ -275,7 +275,7 @@ module _ (w d : ℕ) where
 
     query_has : Has query query_call_offsets
     unfolding query
-    query_has = of_made w d (of_after w d (of_both w d select_has (of_after w d (of_both w d (of_none w d) clauses_has)))) (λ p. refl)
+    query_has = of_made w d (of_after w d (of_both w d select_has (of_after w d (of_both w d (of_none w d) (of_both w d (of_none w d) clauses_has))))) (λ p. refl)
 
 -- ---- level by level
 

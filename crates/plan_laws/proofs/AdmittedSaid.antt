@@ -1,15 +1,16 @@
 -- The movable conjuncts of an admitted query have texts that are read back, and its entries have names.
-use Rattle.std.proofs.Common.{◌≡◌, ℕ, zero, suc, Bool, true, false, cond, List, [], ◌∷◌, find, Some, Result, Ok, Err, sym, ap, subst}
+use Rattle.std.proofs.Common.{◌≡◌, ◌-◌, ℕ, zero, suc, Bool, true, false, cond, List, [], ◌∷◌, length, find, Option, Some, Result, Ok, Err, sym, ap, subst}
 use Rattle.std.specs.List.{All, flat_map, slice_get}
 use Rattle.std.specs.Str.{IsUtf8, bytes_eq}
-use Rattle.std.proofs.lemmas.List.Elements.{All-append, All-cons, All-head, All-nil, All-tail}
+use Rattle.std.proofs.lemmas.List.Elements.{All-append, All-cons, All-head, All-nil, All-tail, All-take}
 use Rattle.memory.proofs.Cases.{none_is_not, some_is}
 use Rattle.value.specs.Columns.{Column}
 use Rattle.value.specs.Names.{Name}
 use Rattle.row_ast.specs.Ast as ast
 use Rattle.row_objects.specs.Objects.{Table}
 use Rattle.expr.specs.declared.bound.ColumnId.{ColumnId}
-use Rattle.expr.specs.Conjuncts.{conjuncts, conjuncts_in, movable_conjuncts}
+use Rattle.expr.specs.Bound.{BoundExpr}
+use Rattle.expr.specs.Conjuncts.{conjuncts, conjuncts_in, inner_ons, movable_conjuncts}
 use Rattle.syntax.specs.Parsing.{parsed_query}
 use Rattle.syntax.proofs.TextAnswer.{query_determined}
 use Rattle.scope.specs.declared.error.BindError.{BindError}
@@ -123,5 +124,6 @@ admitted_said cat role text b fit names u is =
     let here = query_entries cat q b g it.2 in
     let found = column_named es (aliases_of es here) (entries_named cat es names (binds_tables cat q b it.2)) in
     let ons = ons_said es found 0 es b.query.ons (each_weaker IsGrownEntry HasOn (λ e k. k.on) es here) parts.ons in
+    let inner = All-take (λ (o : Option BoundExpr). All (IsSaidIfMovable es) (conjuncts_in o)) (length b.query.ons - b.query.left_count) b.query.ons ons in
     let where_ = condition_said es found (everywhere es) q.filter b.query.filter g.filter parts.filter in
-    movable_said es (conjuncts b.query) (All-append (IsSaidIfMovable es) (flat_map conjuncts_in b.query.ons) (conjuncts_in b.query.filter) (each_of es conjuncts_in b.query.ons ons) where_)
+    movable_said es (conjuncts b.query) (All-append (IsSaidIfMovable es) (flat_map conjuncts_in (inner_ons b.query)) (conjuncts_in b.query.filter) (each_of es conjuncts_in (inner_ons b.query) inner) where_)

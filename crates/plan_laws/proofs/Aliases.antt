@@ -12,10 +12,9 @@ use Rattle.scope.specs.Entry.{Entry, fault}
 use Rattle.memory.specs.Results.{first_then}
 use Rattle.memory.proofs.Cases.{ok_is}
 use Rattle.scope.proofs.Found.{first_given}
-use Rattle.resolve.specs.Entries.{JoinedTable, alias_of, entries, entries_in, entry_in, found_entry, is_used, joined}
+use Rattle.resolve.specs.Entries.{JoinedTable, alias_of, entries, entries_in, entry_in, found_entry, is_used, tables_of}
 use Rattle.resolve.specs.Resolved.{Bound, bound, bound_with}
-use Rattle.resolve.proofs.EntryTables.{given}
-use Rattle.plan_laws.proofs.GrownEntries.{bound_entries}
+use Rattle.resolve.proofs.EntryTables.{given, same_entries}
 
 abbrev pub aliases : List Entry → List Name
 aliases es = map (λ (e : Entry). e.alias) es
@@ -69,5 +68,5 @@ module _ (cat : Catalog) where
 
 pub aliases_differ : (cat : Catalog) (q : ast.Query) (b : Bound) → bound cat q ≡ Ok b → IsDistinct bytes_eq (map (λ (e : Entry). e.alias) b.entries)
 aliases_differ cat q b e =
-    let found = given (bound_with q) b (entries cat q.from) e in
-    subst (λ es. IsDistinct bytes_eq (aliases es)) (bound_entries found.0 q b found.2) (all_new cat [] (joined 0 q.from) found.0 found.1).1
+    let found = given (bound_with q) b (entries cat q) e in
+    subst (λ es. IsDistinct bytes_eq (aliases es)) (same_entries found.0 q b found.2) (all_new cat [] (tables_of q) found.0 found.1).1

@@ -1,11 +1,11 @@
 -- What holds of each column that a query names holds of those of its movable conjuncts.
-use Rattle.std.proofs.Common.{Bool, true, false, List, [], ◌∷◌, ◌++◌, filter, Option, Some, None, cond}
+use Rattle.std.proofs.Common.{ℕ, zero, suc, ◌-◌, Bool, true, false, List, [], ◌∷◌, ◌++◌, length, take, filter, Option, Some, None, cond}
 use Rattle.std.specs.List.{AllByRecursion, flat_map}
 use Rattle.expr.specs.declared.bound.ColumnId.{ColumnId}
 use Rattle.expr.specs.Bound.{BoundExpr, BoundExprs, And, no_expr, one_expr}
 use Rattle.expr.specs.BoundQuery.{BoundQuery}
 use Rattle.expr.specs.Columns.{all_columns, columns}
-use Rattle.expr.specs.Conjuncts.{conjuncts, conjuncts_in, conjuncts_of, members, movable_conjuncts}
+use Rattle.expr.specs.Conjuncts.{conjuncts, conjuncts_in, conjuncts_of, inner_ons, members, movable_conjuncts}
 use Rattle.expr.specs.Movable.{movable}
 use Rattle.expr.specs.NamedColumns.{condition_columns, item_columns, named_columns}
 
@@ -51,10 +51,13 @@ module _ (Q : ColumnId → Type 0) where
   of_optional None h = tt
   of_optional (Some e) h = of_condition e h
 
-  of_ons : (ons : List (Option BoundExpr)) → AllByRecursion Q (flat_map condition_columns ons) → AllByRecursion OfColumns (flat_map conjuncts_in ons)
-  of_ons [] h = tt
-  of_ons (o ∷ ons) h =
-      of_both OfColumns (conjuncts_in o) (flat_map conjuncts_in ons) (of_optional o (left_of Q (condition_columns o) (flat_map condition_columns ons) h)) (of_ons ons (right_of Q (condition_columns o) (flat_map condition_columns ons) h))
+  -- of the first ONs
+  of_ons : (n : ℕ) (ons : List (Option BoundExpr)) → AllByRecursion Q (flat_map condition_columns ons) → AllByRecursion OfColumns (flat_map conjuncts_in (take n ons))
+  of_ons zero ons h = tt
+  of_ons (suc n) [] h = tt
+  of_ons (suc n) (o ∷ ons) h =
+      of_both OfColumns (conjuncts_in o) (flat_map conjuncts_in (take n ons)) (of_optional o (left_of Q (condition_columns o) (flat_map condition_columns ons) h))
+      (of_ons n ons (right_of Q (condition_columns o) (flat_map condition_columns ons) h))
 
   pub of_conjuncts : (q : BoundQuery) → AllByRecursion Q (named_columns q) → AllByRecursion OfColumns (movable_conjuncts q)
   of_conjuncts q h =
@@ -63,5 +66,5 @@ module _ (Q : ColumnId → Type 0) where
       let after = right_of Q (flat_map item_columns q.items) (conditions ++ rest) h in
       let mine = left_of Q conditions rest after in
       left_by OfColumns movable (conjuncts q)
-      (of_both OfColumns (flat_map conjuncts_in q.ons) (conjuncts_in q.filter) (of_ons q.ons (left_of Q (flat_map condition_columns q.ons) (condition_columns q.filter) mine))
+      (of_both OfColumns (flat_map conjuncts_in (inner_ons q)) (conjuncts_in q.filter) (of_ons (length q.ons - q.left_count) q.ons (left_of Q (flat_map condition_columns q.ons) (condition_columns q.filter) mine))
       (of_optional q.filter (right_of Q (flat_map condition_columns q.ons) (condition_columns q.filter) mine)))

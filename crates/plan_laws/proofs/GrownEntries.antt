@@ -1,25 +1,20 @@
 -- The entries of a query, which the grammar made: their aliases and the conditions of their ON.
 use Rattle.std.proofs.Common.{◌≡◌, ℕ, ◌+◌, Bool, true, false, cond, List, [], ◌∷◌, ◌++◌, length, map, Option, Some, None, Result, Ok, Err, ap, subst, ◌∙◌}
-use Rattle.memory.specs.Results.{first_then, on_each}
+use Rattle.memory.specs.Results.{first_then}
 use Rattle.memory.proofs.Cases.{ok_is}
 use Rattle.value.specs.declared.refusal.Refusal.TheVariants as r
 use Rattle.value.specs.Names.{Name}
 use Rattle.row_ast.specs.Ast as ast
 use Rattle.row_objects.specs.Objects.{Table}
 use Rattle.catalog.specs.Catalog.{Catalog, table_named}
-use Rattle.expr.specs.declared.query.OutputKey.{OutputKey}
-use Rattle.expr.specs.BoundQuery.{BoundQuery}
 use Rattle.scope.specs.declared.error.BindError.{BindError}
 use Rattle.scope.specs.Entry.{Entry, fault}
 use Rattle.scope.proofs.Found.{first_given}
-use Rattle.typing.specs.Clauses.{clause_error}
-use Rattle.resolve.specs.Entries.{JoinedTable, alias_of, alias_or, entries, entries_in, entry_in, found_entry, is_used, item_tables, joined, joined_by}
-use Rattle.resolve.specs.BoundQueries.{bound_query}
-use Rattle.resolve.specs.OrderBy.{output_key}
-use Rattle.resolve.specs.Resolved.{Bound, bound, bound_with, checked, ordered, unless_fault, with_order}
-use Rattle.resolve.proofs.EntryTables.{given}
+use Rattle.resolve.specs.Entries.{JoinedTable, alias_of, alias_or, entries, entries_in, entry_in, found_entry, is_used, item_tables, joined, joined_by, last_first, left_table, tables_of}
+use Rattle.resolve.specs.Resolved.{Bound, bound, bound_with}
+use Rattle.resolve.proofs.EntryTables.{given, same_entries}
 use Rattle.expr_texts.specs.Filters.{IsName}
-use Rattle.plan_laws.proofs.GrownQueries.{IsGrownCondition, IsGrownItem, IsGrownJoin, IsGrownQuery, IsGrownTable}
+use Rattle.plan_laws.proofs.GrownQueries.{IsGrownCondition, IsGrownItem, IsGrownJoin, IsGrownLeft, IsGrownQuery, IsGrownTable}
 use Rattle.plan_laws.proofs.Rules.{Each, If}
 
 -- a table of FROM as the grammar makes it
@@ -49,6 +44,14 @@ parts_grown first (f ∷ items) h =
     each_append (item_tables first f) (joined (first + length (item_tables first f)) items) (record { table = h.0.first; on = tt }, joins_grown first f.joins h.0.joins)
     (parts_grown (first + length (item_tables first f)) items h.1)
 
+lefts_grown : (first : ℕ) (ls : List ast.LeftJoin) → Each IsGrownLeft ls → Each IsGrownPart (map (left_table first) ls)
+lefts_grown first [] h = tt
+lefts_grown first (l ∷ ls) h = (record { table = h.0.table; on = h.0.on }, lefts_grown first ls h.1)
+
+tables_grown : (q : ast.Query) → IsGrownQuery q → Each IsGrownPart (tables_of q)
+tables_grown q g =
+    each_append (joined 0 q.from) (map (left_table (last_first 0 q.from)) q.lefts) (parts_grown 0 q.from g.from) (lefts_grown (last_first 0 q.from) q.lefts g.lefts)
+
 -- ---- the tables in the catalogue
 
 alias_grown : (alias : Option Name) (table : Name) → If IsName alias → IsName table → IsName (alias_or alias table)
@@ -77,17 +80,7 @@ module _ (cat : Catalog) where
 
 -- ---- the query
 
-kept : (es : List Entry) (q : BoundQuery) (b : Bound) (keys : List OutputKey) → ◌≡◌ {A = Result Bound BindError} (Ok record { entries = es; query = with_order q keys }) (Ok b) → es ≡ b.entries
-kept es q b keys e = cc
-
-pub bound_entries : (es : List Entry) (q : ast.Query) (b : Bound) → bound_with q es ≡ Ok b → es ≡ b.entries
-bound_entries es q b e =
-    let columns = given (checked es q) b (bound_query es q) e in
-    let types = given (ordered es q) b (unless_fault (clause_error es columns.0.group_by q) columns.0) columns.2 in
-    let keys = given (λ keys. Ok record { entries = es; query = with_order types.0 keys }) b (on_each (output_key types.0.items) q.order_by) types.2 in
-    kept es types.0 b keys.0 keys.2
-
 pub query_entries : (cat : Catalog) (q : ast.Query) (b : Bound) → IsGrownQuery q → bound cat q ≡ Ok b → Each IsGrownEntry b.entries
 query_entries cat q b g is =
-    let found = given (bound_with q) b (entries cat q.from) is in
-    subst (Each IsGrownEntry) (bound_entries found.0 q b found.2) (entries_grown cat [] (joined 0 q.from) found.0 (parts_grown 0 q.from g.from) found.1)
+    let found = given (bound_with q) b (entries cat q) is in
+    subst (Each IsGrownEntry) (same_entries found.0 q b found.2) (entries_grown cat [] (tables_of q) found.0 (tables_grown q g) found.1)

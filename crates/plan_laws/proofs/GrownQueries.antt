@@ -9,11 +9,11 @@ use Rattle.row_tokens.proofs.NoNulls.{IsNoNull, no_nulls}
 use Rattle.row_tokens.proofs.Offsets.{are_slices}
 use Rattle.row_tokens.proofs.Shapes.{are_in_quotes}
 use Rattle.row_ast.specs.Ast as ast
-use Rattle.row_ast.specs.Ast.{Condition, FromItem, Join, Query, TableRef}
+use Rattle.row_ast.specs.Ast.{Condition, FromItem, Join, LeftJoin, Query, TableRef}
 use Rattle.row_reader.specs.Language.{Rule, name_of, of}
 use Rattle.row_reader.specs.Expressions.{depth_limit, grammar, run_limit}
 use Rattle.row_grammar.specs.Limits.{Derives}
-use Rattle.row_queries.specs.From.{condition, from, from_item, join, join_list, on_condition, plain_join, table_alias, table_ref}
+use Rattle.row_queries.specs.From.{condition, from, from_item, join, join_list, joined_left, left_join, left_joins, on_condition, plain_join, table_alias, table_ref}
 use Rattle.row_queries.specs.Queries.{clauses, filter, query}
 use Rattle.expr_texts.specs.Filters.{IsName, filter_levels, levels}
 use Rattle.expr_texts.proofs.Origin.{queries_fit}
@@ -43,8 +43,13 @@ pub record IsGrownItem (f : FromItem) : Type 0 where
   pub first : IsGrownTable f.first
   pub joins : Each IsGrownJoin f.joins
 
+pub record IsGrownLeft (l : LeftJoin) : Type 0 where
+  pub table : IsGrownTable l.table
+  pub on : IsGrownCondition l.on_
+
 pub record IsGrownQuery (q : Query) : Type 0 where
   pub from : Each IsGrownItem q.from
+  pub lefts : Each IsGrownLeft q.lefts
   pub filter : If IsGrownCondition q.filter
 
 -- ---- the rules
@@ -98,6 +103,18 @@ from_yields : Yields from (SomeEach IsGrownItem)
 unfolding from
 from_yields = of_listed IsGoodToken run_limit depth_limit item_yields (of_after IsGoodToken run_limit depth_limit item_yields)
 
+joined_left_yields : Yields joined_left IsGrownLeft
+unfolding joined_left
+joined_left_yields =
+    of_made IsGoodToken run_limit depth_limit (of_after IsGoodToken run_limit depth_limit (of_both IsGoodToken run_limit depth_limit table_yields on_yields))
+    (λ p h. record { table = h.0; on = h.1 })
+
+lefts_yield : Yields left_joins (Each IsGrownLeft)
+unfolding left_join left_joins
+lefts_yield =
+    of_many IsGoodToken run_limit depth_limit
+    (of_after IsGoodToken run_limit depth_limit (of_either IsGoodToken run_limit depth_limit (of_after IsGoodToken run_limit depth_limit joined_left_yields) joined_left_yields))
+
 filter_yields : Yields filter (If IsGrownCondition)
 unfolding filter
 filter_yields = of_maybe IsGoodToken run_limit depth_limit (of_after IsGoodToken run_limit depth_limit condition_yields)
@@ -115,8 +132,9 @@ unfolding query
 query_yields =
     of_made IsGoodToken run_limit depth_limit
     (of_after IsGoodToken run_limit depth_limit
-    (of_second IsGoodToken run_limit depth_limit (of_after IsGoodToken run_limit depth_limit (of_both IsGoodToken run_limit depth_limit from_yields clauses_yields))))
-    (λ p h. record { from = each_of_some p.1.0 h.0; filter = h.1 })
+    (of_second IsGoodToken run_limit depth_limit
+    (of_after IsGoodToken run_limit depth_limit (of_both IsGoodToken run_limit depth_limit from_yields (of_both IsGoodToken run_limit depth_limit lefts_yield clauses_yields)))))
+    (λ p h. record { from = each_of_some p.1.0 h.0; lefts = h.1.0; filter = h.1.1 })
 
 -- ---- a text
 

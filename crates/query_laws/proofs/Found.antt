@@ -34,6 +34,17 @@ pub of_each : {X Y : Type 0} (P : Y → Type 0) (f : X → List Y) (xs : List X)
 of_each P f [] h = All-nil P
 of_each P f (x ∷ xs) h = All-append P (f x) (flat_map f xs) (All-head (λ x. All P (f x)) x xs h) (of_each P f xs (All-tail (λ x. All P (f x)) x xs h))
 
+pub one_more : {X : Type 0} (P : X → Type 0) (o : Option X) (xs : List X) → All P (option_to_list o) → All P xs → All P (cons_option o xs)
+one_more P None xs h k = k
+one_more P (Some x) xs h k = All-cons P x xs (All-head P x [] h) k
+
+-- what a name resolves to is one of its matches
+pub the_match : (P : ColumnId → Type 0) (offset : ℕ) (b : Bool) (ids : List ColumnId) (id : ColumnId) → All P ids → one_column offset b ids ≡ Ok id → P id
+the_match P offset b (x ∷ []) id h e = subst P (ok_is x id e) (All-head P x [] h)
+the_match P offset b (x ∷ y ∷ more) id h e = absurd (cc)
+the_match P offset false [] id h e = absurd (cc)
+the_match P offset true [] id h e = absurd (cc)
+
 -- each value of a function holds what it holds of one
 pub each_holds : {X Y E : Type 0} (f : X → Result Y E) (P : Y → Type 0) → ((x : X) (y : Y) → f x ≡ Ok y → P y) → (xs : List X) (ys : List Y) → on_each f xs ≡ Ok ys → All P ys
 each_holds {X} {Y} f P h [] ys e = subst (λ (ys : List Y). All P ys) (ok_is [] ys e) (All-nil P)
@@ -64,6 +75,84 @@ index_there cs name i h =
     let same : it.0 ≡ i = omega (arith, it.2) in
     (it.1, ap (slice_get cs) (sym same) ∙ it.3)
 
+-- ---- expressions, whose columns hold what each column holds that a name resolves to
+
+module _ (entries : List Entry) (P : ColumnId → Type 0) where
+  abbrev Names : Result BoundExpr BindError → Type 0
+  Names r = (x : BoundExpr) → r ≡ Ok x → All P (columns x)
+
+  named : (y : BoundExpr) → All P (columns y) → Names (Ok y)
+  named y h x e = subst (λ (x : BoundExpr). All P (columns x)) (ok_is y x e) h
+
+  after : {X : Type 0} (r : Result X BindError) (f : X → Result BoundExpr BindError) → ((y : X) → r ≡ Ok y → Names (f y)) → Names (and_then r f)
+  after r f h x e = let step = given f x r e in h step.0 step.1 x step.2
+
+  -- of each of several expressions, or of the conditions and results of arms
+  abbrev EachHolds : List BoundExpr → Type 0
+  EachHolds [] = Unit {0}
+  EachHolds (x ∷ xs) = All P (columns x) × EachHolds xs
+
+  all_hold : (xs : List BoundExpr) → EachHolds xs → All P (all_columns (bound_exprs_of xs))
+  all_hold [] h = All-nil P
+  all_hold (x ∷ xs) h = All-append P (columns x) (all_columns (bound_exprs_of xs)) h.0 (all_hold xs h.1)
+
+  abbrev ArmsHold : List (BoundExpr × BoundExpr) → Type 0
+  ArmsHold [] = Unit {0}
+  ArmsHold (a ∷ as_) = All P (columns a.0) × All P (columns a.1) × ArmsHold as_
+
+  arms_hold : (xs : List (BoundExpr × BoundExpr)) → ArmsHold xs → All P (arms_columns (bound_arms_of xs))
+  arms_hold [] h = All-nil P
+  arms_hold (a ∷ as_) h =
+      All-append P (columns a.0) (columns a.1 ++ arms_columns (bound_arms_of as_)) h.0
+      (All-append P (columns a.1) (arms_columns (bound_arms_of as_)) h.1 (arms_hold as_ h.2))
+
+  module _ (scope : Scope) (found : (c : ast.ColumnRef) (id : ColumnId) → find_column entries scope c ≡ Ok id → P id) where
+    mutual
+      pub expr_holds : (e : ast.Expr) → Names (bound_expr entries scope e)
+      expr_holds (ast.Column c) = after (find_column entries scope c) _ (λ id is. named (bound.Column id) (the_one P id (found c id is)))
+      expr_holds (ast.Literal d) = named (bound.Literal d) (All-nil P)
+      expr_holds ast.CurrentUser = named bound.CurrentUser (All-nil P)
+      expr_holds (ast.Negate n e) = after (bound_expr entries scope e) _ (λ x is. named (bound.Negate n x) (expr_holds e x is))
+      expr_holds (ast.Arithmetic op n e f) =
+          after (bound_expr entries scope e) _ (λ x is_x. after (bound_expr entries scope f) _ (λ y is_y. named (bound.Arithmetic op n x y) (All-append P (columns x) (columns y) (expr_holds e x is_x) (expr_holds f y is_y))))
+      expr_holds (ast.Comparison op n e f) =
+          after (bound_expr entries scope e) _ (λ x is_x. after (bound_expr entries scope f) _ (λ y is_y. named (bound.Comparison op n x y) (All-append P (columns x) (columns y) (expr_holds e x is_x) (expr_holds f y is_y))))
+      expr_holds (ast.Between negated n e low high) =
+          after (bound_expr entries scope e) _ (λ x is_x. after (bound_expr entries scope low) _ (λ y is_y. after (bound_expr entries scope high) _ (λ z is_z.
+          named (bound.Between negated n x y z) (All-append P (columns x) (columns y ++ columns z) (expr_holds e x is_x) (All-append P (columns y) (columns z) (expr_holds low y is_y) (expr_holds high z is_z))))))
+      expr_holds (ast.In negated n values e) = after (bound_expr entries scope e) _ (λ x is. named (bound.In negated n values x) (expr_holds e x is))
+      expr_holds (ast.IsNull negated n e) = after (bound_expr entries scope e) _ (λ x is. named (bound.IsNull negated n x) (expr_holds e x is))
+      expr_holds (ast.Not n e) = after (bound_expr entries scope e) _ (λ x is. named (bound.Not n x) (expr_holds e x is))
+      expr_holds (ast.And n ms) = after (bound_members entries scope ms) _ (λ xs is. named (bound.And n (bound_exprs_of xs)) (all_hold xs (members_hold ms xs is)))
+      expr_holds (ast.Or n ms) = after (bound_members entries scope ms) _ (λ xs is. named (bound.Or n (bound_exprs_of xs)) (all_hold xs (members_hold ms xs is)))
+      expr_holds (ast.Cast n to e) = after (bound_expr entries scope e) _ (λ x is. named (bound.Cast n to x) (expr_holds e x is))
+      expr_holds (ast.Case n as_ o) =
+          after (bound_arms entries scope as_) _ (λ xs is_xs. after (bound_otherwise entries scope o) _ (λ y is_y.
+          named (bound.Case n (bound_arms_of xs) y) (All-append P (arms_columns (bound_arms_of xs)) (otherwise_columns y) (arms_hold xs (each_arm as_ xs is_xs)) (otherwise_holds o y is_y))))
+      expr_holds (ast.CountStar n) = named (bound.CountStar n) (All-nil P)
+      expr_holds (ast.Call f n e) = after (bound_expr entries scope e) _ (λ x is. named (bound.Call f n x) (expr_holds e x is))
+
+      members_hold : (ms : ast.Exprs) (xs : List BoundExpr) → bound_members entries scope ms ≡ Ok xs → EachHolds xs
+      members_hold ast.no_expr xs e = subst EachHolds (ok_is [] xs e) tt
+      members_hold (ast.one_expr m ms) xs e =
+          let step = first_given (bound_expr entries scope m) (bound_members entries scope ms) xs e in
+          subst EachHolds step.4 (expr_holds m step.0 step.2, members_hold ms step.1 step.3)
+
+      each_arm : (as_ : ast.Arms) (xs : List (BoundExpr × BoundExpr)) → bound_arms entries scope as_ ≡ Ok xs → ArmsHold xs
+      each_arm ast.no_arm xs e = subst ArmsHold (ok_is [] xs e) tt
+      each_arm (ast.one_arm when result as_) xs e =
+          let step = first_given (pair (bound_expr entries scope when) (bound_expr entries scope result)) (bound_arms entries scope as_) xs e in
+          let arm = pair_given (bound_expr entries scope when) (bound_expr entries scope result) step.0 step.2 in
+          subst ArmsHold (ap (λ (p : BoundExpr × BoundExpr). p ∷ step.1) arm.4 ∙ step.4) (expr_holds when arm.0 arm.2, expr_holds result arm.1 arm.3, each_arm as_ step.1 step.3)
+
+      otherwise_holds : (o : ast.Otherwise) (y : BoundOtherwise) → bound_otherwise entries scope o ≡ Ok y → All P (otherwise_columns y)
+      otherwise_holds ast.Nothing y e = subst (λ (y : BoundOtherwise). All P (otherwise_columns y)) (ok_is bound.Nothing y e) (All-nil P)
+      otherwise_holds (ast.Value e) y h =
+          let step = given (λ x. Ok (bound.Value x)) y (bound_expr entries scope e) h in
+          subst (λ (y : BoundOtherwise). All P (otherwise_columns y)) (ok_is (bound.Value step.0) y step.2) (expr_holds e step.0 step.1)
+
+-- ---- columns that are there
+
 module _ (entries : List Entry) where
   module _ (n : ℕ) (e : Entry) (is : slice_get entries n ≡ Some e) where
     column_there : (o : Option ℕ) → ((i : ℕ) → o ≡ Some i → (c : Column) × (slice_get e.table.columns i ≡ Some c)) → All (IsThere entries) (option_to_list (option_map (λ column. record { entry = n; column = column }) o))
@@ -74,101 +163,20 @@ module _ (entries : List Entry) where
     match_there true name = column_there (column_index e.table.columns name) (λ i h. index_there e.table.columns name i h)
     match_there false name = All-nil (IsThere entries)
 
-  one_before : (o : Option ColumnId) (ids : List ColumnId) → All (IsThere entries) (option_to_list o) → All (IsThere entries) ids → All (IsThere entries) (cons_option o ids)
-  one_before None ids h k = k
-  one_before (Some id) ids h k = All-cons (IsThere entries) id ids (All-head (IsThere entries) id [] h) k
-
   matches_there : (scope : Scope) (c : ast.ColumnRef) (n : ℕ) (es : List Entry) → ((k : ℕ) → slice_get entries (n + k) ≡ slice_get es k) → All (IsThere entries) (matches scope c n es)
   matches_there scope c n [] h = All-nil (IsThere entries)
   matches_there scope c n (e ∷ more) h =
       let at : n + 0 ≡ n = omega arith in
-      one_before (match_in scope c n e) (matches scope c (n + 1) more) (match_there n e (ap (slice_get entries) (sym at) ∙ h 0) (is_meant scope c n e) c.name)
+      one_more (IsThere entries) (match_in scope c n e) (matches scope c (n + 1) more) (match_there n e (ap (slice_get entries) (sym at) ∙ h 0) (is_meant scope c n e) c.name)
       (matches_there scope c (n + 1) more (λ k. let next : n + 1 + k ≡ n + suc k = omega arith in ap (slice_get entries) next ∙ h (suc k)))
-
-  one_there : (offset : ℕ) (b : Bool) (ids : List ColumnId) (id : ColumnId) → All (IsThere entries) ids → one_column offset b ids ≡ Ok id → IsThere entries id
-  one_there offset b (x ∷ []) id h e = subst (IsThere entries) (ok_is x id e) (All-head (IsThere entries) x [] h)
-  one_there offset b (x ∷ y ∷ more) id h e = absurd (cc)
-  one_there offset false [] id h e = absurd (cc)
-  one_there offset true [] id h e = absurd (cc)
 
   pub found_there : (scope : Scope) (c : ast.ColumnRef) (id : ColumnId) → find_column entries scope c ≡ Ok id → IsThere entries id
   found_there scope c id e =
-      one_there c.offset (means_some scope c 0 entries) (matches scope c 0 entries) id (matches_there scope c 0 entries (λ k. let at : 0 + k ≡ k = omega arith in ap (slice_get entries) at)) e
-
-  -- ---- expressions
-
-  abbrev Names : Result BoundExpr BindError → Type 0
-  Names r = (x : BoundExpr) → r ≡ Ok x → All (IsThere entries) (columns x)
-
-  named : (y : BoundExpr) → All (IsThere entries) (columns y) → Names (Ok y)
-  named y h x e = subst (λ (x : BoundExpr). All (IsThere entries) (columns x)) (ok_is y x e) h
-
-  after : {X : Type 0} (r : Result X BindError) (f : X → Result BoundExpr BindError) → ((y : X) → r ≡ Ok y → Names (f y)) → Names (and_then r f)
-  after r f h x e = let step = given f x r e in h step.0 step.1 x step.2
-
-  -- of each of several expressions, or of the conditions and results of arms
-  abbrev EachThere : List BoundExpr → Type 0
-  EachThere [] = Unit {0}
-  EachThere (x ∷ xs) = All (IsThere entries) (columns x) × EachThere xs
-
-  all_there : (xs : List BoundExpr) → EachThere xs → All (IsThere entries) (all_columns (bound_exprs_of xs))
-  all_there [] h = All-nil (IsThere entries)
-  all_there (x ∷ xs) h = All-append (IsThere entries) (columns x) (all_columns (bound_exprs_of xs)) h.0 (all_there xs h.1)
-
-  abbrev ArmsThere : List (BoundExpr × BoundExpr) → Type 0
-  ArmsThere [] = Unit {0}
-  ArmsThere (a ∷ as_) = All (IsThere entries) (columns a.0) × All (IsThere entries) (columns a.1) × ArmsThere as_
-
-  arms_there : (xs : List (BoundExpr × BoundExpr)) → ArmsThere xs → All (IsThere entries) (arms_columns (bound_arms_of xs))
-  arms_there [] h = All-nil (IsThere entries)
-  arms_there (a ∷ as_) h =
-      All-append (IsThere entries) (columns a.0) (columns a.1 ++ arms_columns (bound_arms_of as_)) h.0
-      (All-append (IsThere entries) (columns a.1) (arms_columns (bound_arms_of as_)) h.1 (arms_there as_ h.2))
+      the_match (IsThere entries) c.offset (means_some scope c 0 entries) (matches scope c 0 entries) id (matches_there scope c 0 entries (λ k. let at : 0 + k ≡ k = omega arith in ap (slice_get entries) at)) e
 
   module _ (scope : Scope) where
-    mutual
-      pub expr_there : (e : ast.Expr) → Names (bound_expr entries scope e)
-      expr_there (ast.Column c) = after (find_column entries scope c) _ (λ id is. named (bound.Column id) (the_one (IsThere entries) id (found_there scope c id is)))
-      expr_there (ast.Literal d) = named (bound.Literal d) (All-nil (IsThere entries))
-      expr_there ast.CurrentUser = named bound.CurrentUser (All-nil (IsThere entries))
-      expr_there (ast.Negate n e) = after (bound_expr entries scope e) _ (λ x is. named (bound.Negate n x) (expr_there e x is))
-      expr_there (ast.Arithmetic op n e f) =
-          after (bound_expr entries scope e) _ (λ x is_x. after (bound_expr entries scope f) _ (λ y is_y. named (bound.Arithmetic op n x y) (All-append (IsThere entries) (columns x) (columns y) (expr_there e x is_x) (expr_there f y is_y))))
-      expr_there (ast.Comparison op n e f) =
-          after (bound_expr entries scope e) _ (λ x is_x. after (bound_expr entries scope f) _ (λ y is_y. named (bound.Comparison op n x y) (All-append (IsThere entries) (columns x) (columns y) (expr_there e x is_x) (expr_there f y is_y))))
-      expr_there (ast.Between negated n e low high) =
-          after (bound_expr entries scope e) _ (λ x is_x. after (bound_expr entries scope low) _ (λ y is_y. after (bound_expr entries scope high) _ (λ z is_z.
-          named (bound.Between negated n x y z) (All-append (IsThere entries) (columns x) (columns y ++ columns z) (expr_there e x is_x) (All-append (IsThere entries) (columns y) (columns z) (expr_there low y is_y) (expr_there high z is_z))))))
-      expr_there (ast.In negated n values e) = after (bound_expr entries scope e) _ (λ x is. named (bound.In negated n values x) (expr_there e x is))
-      expr_there (ast.IsNull negated n e) = after (bound_expr entries scope e) _ (λ x is. named (bound.IsNull negated n x) (expr_there e x is))
-      expr_there (ast.Not n e) = after (bound_expr entries scope e) _ (λ x is. named (bound.Not n x) (expr_there e x is))
-      expr_there (ast.And n ms) = after (bound_members entries scope ms) _ (λ xs is. named (bound.And n (bound_exprs_of xs)) (all_there xs (members_there ms xs is)))
-      expr_there (ast.Or n ms) = after (bound_members entries scope ms) _ (λ xs is. named (bound.Or n (bound_exprs_of xs)) (all_there xs (members_there ms xs is)))
-      expr_there (ast.Cast n to e) = after (bound_expr entries scope e) _ (λ x is. named (bound.Cast n to x) (expr_there e x is))
-      expr_there (ast.Case n as_ o) =
-          after (bound_arms entries scope as_) _ (λ xs is_xs. after (bound_otherwise entries scope o) _ (λ y is_y.
-          named (bound.Case n (bound_arms_of xs) y) (All-append (IsThere entries) (arms_columns (bound_arms_of xs)) (otherwise_columns y) (arms_there xs (each_arm as_ xs is_xs)) (otherwise_there o y is_y))))
-      expr_there (ast.CountStar n) = named (bound.CountStar n) (All-nil (IsThere entries))
-      expr_there (ast.Call f n e) = after (bound_expr entries scope e) _ (λ x is. named (bound.Call f n x) (expr_there e x is))
-
-      members_there : (ms : ast.Exprs) (xs : List BoundExpr) → bound_members entries scope ms ≡ Ok xs → EachThere xs
-      members_there ast.no_expr xs e = subst EachThere (ok_is [] xs e) tt
-      members_there (ast.one_expr m ms) xs e =
-          let step = first_given (bound_expr entries scope m) (bound_members entries scope ms) xs e in
-          subst EachThere step.4 (expr_there m step.0 step.2, members_there ms step.1 step.3)
-
-      each_arm : (as_ : ast.Arms) (xs : List (BoundExpr × BoundExpr)) → bound_arms entries scope as_ ≡ Ok xs → ArmsThere xs
-      each_arm ast.no_arm xs e = subst ArmsThere (ok_is [] xs e) tt
-      each_arm (ast.one_arm when result as_) xs e =
-          let step = first_given (pair (bound_expr entries scope when) (bound_expr entries scope result)) (bound_arms entries scope as_) xs e in
-          let arm = pair_given (bound_expr entries scope when) (bound_expr entries scope result) step.0 step.2 in
-          subst ArmsThere (ap (λ (p : BoundExpr × BoundExpr). p ∷ step.1) arm.4 ∙ step.4) (expr_there when arm.0 arm.2, expr_there result arm.1 arm.3, each_arm as_ step.1 step.3)
-
-      otherwise_there : (o : ast.Otherwise) (y : BoundOtherwise) → bound_otherwise entries scope o ≡ Ok y → All (IsThere entries) (otherwise_columns y)
-      otherwise_there ast.Nothing y e = subst (λ (y : BoundOtherwise). All (IsThere entries) (otherwise_columns y)) (ok_is bound.Nothing y e) (All-nil (IsThere entries))
-      otherwise_there (ast.Value e) y h =
-          let step = given (λ x. Ok (bound.Value x)) y (bound_expr entries scope e) h in
-          subst (λ (y : BoundOtherwise). All (IsThere entries) (otherwise_columns y)) (ok_is (bound.Value step.0) y step.2) (expr_there e step.0 step.1)
+    expr_there : (e : ast.Expr) (x : BoundExpr) → bound_expr entries scope e ≡ Ok x → All (IsThere entries) (columns x)
+    expr_there = expr_holds entries (IsThere entries) scope (found_there scope)
 
     pub condition_there : (o : Option ast.Condition) (x : Option BoundExpr) → bound_condition entries scope o ≡ Ok x → All (IsThere entries) (condition_columns x)
     condition_there None x e = subst (λ (x : Option BoundExpr). All (IsThere entries) (condition_columns x)) (ok_is None x e) (All-nil (IsThere entries))

@@ -2,6 +2,8 @@ pub mod FittingValues
 pub mod Found
 pub mod Granted
 pub mod InOrder
+pub mod LeftJoins
+pub mod LeftRows
 pub mod Parts
 pub mod Placed
 pub mod Typed

@@ -1,5 +1,5 @@
 -- The entries of FROM are of tables of the catalogue.
-use Rattle.std.proofs.Common.{◌≡◌, ◌<◌, ◌+◌, arith, length, length-append, Bool, true, false, cond, List, [], ◌∷◌, ◌++◌, find, Option, Some, None, Result, Ok, Err, refl, sym, subst, ap, ◌∙◌}
+use Rattle.std.proofs.Common.{◌≡◌, ◌<◌, ◌+◌, arith, length, length-append, Bool, true, false, cond, List, [], ◌∷◌, ◌++◌, map, find, Option, Some, None, Result, Ok, Err, refl, sym, subst, ap, ◌∙◌}
 use Rattle.std.proofs.lemmas.Slice.Eq.{bytes_eq-Decides}
 use Rattle.std.specs.Str.{bytes_eq}
 use Rattle.value.specs.declared.refusal.Refusal.TheVariants as r
@@ -14,11 +14,11 @@ use Rattle.memory.specs.Results.{and_then, first_then, on_each}
 use Rattle.memory.proofs.Cases.{ok_is}
 use Rattle.scope.proofs.Found.{first_given}
 use Rattle.expr.specs.BoundQuery.{BoundQuery}
-use Rattle.resolve.specs.Entries.{JoinedTable, alias_of, entries, entries_in, entry_in, found_entry, is_used, item_tables, joined}
+use Rattle.resolve.specs.Entries.{JoinedTable, alias_of, entries, entries_in, entry_in, found_entry, is_used, item_tables, joined, last_first, left_table, tables_of}
 use Rattle.typing.specs.Clauses.{clause_error}
 use Rattle.resolve.specs.BoundQueries.{bound_query}
 use Rattle.resolve.specs.OrderBy.{output_key}
-use Rattle.resolve.specs.Resolved.{Bound, bound, bound_with, checked, ordered, unless_fault, with_order}
+use Rattle.resolve.specs.Resolved.{Bound, bound, bound_checked, bound_with, checked, left_fault, lefts_checked, ordered, unless_fault, with_order}
 use Rattle.resolve.specs.EntryTables.{AreTables, BindsTables}
 
 -- what is given at the end was given on the way
@@ -69,7 +69,7 @@ module _ (cat : Catalog) where
       let m = ap length rest.4 in
       omega arith
 
-some_joined : (from : List ast.FromItem) → 0 < length from → 0 < length (joined 0 from)
+pub some_joined : (from : List ast.FromItem) → 0 < length from → 0 < length (joined 0 from)
 some_joined [] h = absurd (omega arith)
 some_joined (f ∷ more) h = let n = length-append (item_tables 0 f) (joined (0 + length (item_tables 0 f)) more) in omega arith
 
@@ -77,23 +77,35 @@ some_joined (f ∷ more) h = let n = length-append (item_tables 0 f) (joined (0 
 of_keys : (es : List Entry) (q : BoundQuery) (b : Bound) (keys : List OutputKey) → ◌≡◌ {A = Result Bound BindError} (Ok record { entries = es; query = with_order q keys }) (Ok b) → es ≡ b.entries
 of_keys es q b keys e = cc
 
-same_entries : (es : List Entry) (q : ast.Query) (b : Bound) → bound_with q es ≡ Ok b → es ≡ b.entries
+-- what passes a check is kept
+unless_given : {X : Type 0} (fault : Option BindError) (x y : X) → ◌≡◌ {A = Result X BindError} (unless_fault fault x) (Ok y) → (fault ≡ None) × (x ≡ y)
+unless_given None x y e = (refl, ok_is x y e)
+unless_given (Some f) x y e = absurd (cc)
+
+-- the left joins of a query that is bound have no error
+pub lefts_pass : (q : ast.Query) (es : List Entry) (b : Bound) → bound_with q es ≡ Ok b → (bound_checked q es ≡ Ok b) × (left_fault b.query ≡ None)
+lefts_pass q es b e =
+    let found = given lefts_checked b (bound_checked q es) e in
+    let passes = unless_given (left_fault found.0.query) found.0 b found.2 in
+    (found.1 ∙ ap Ok passes.1, ap (λ x. left_fault x.query) (sym passes.1) ∙ passes.0)
+
+pub same_entries : (es : List Entry) (q : ast.Query) (b : Bound) → bound_with q es ≡ Ok b → es ≡ b.entries
 same_entries es q b e =
-    let columns = given (checked es q) b (bound_query es q) e in
+    let columns = given (checked es q) b (bound_query es q) (lefts_pass q es b e).0 in
     let types = given (ordered es q) b (unless_fault (clause_error es columns.0.group_by q) columns.0) columns.2 in
     let keys = given (λ keys. Ok record { entries = es; query = with_order types.0 keys }) b (on_each (output_key types.0.items) q.order_by) types.2 in
     of_keys es types.0 b keys.0 keys.2
 
 pub binds_tables : BindsTables
 binds_tables cat q b e =
-    let found = given (bound_with q) b (entries cat q.from) e in
-    subst (AreTables cat) (same_entries found.0 q b found.2) (all_found cat [] (joined 0 q.from) found.0 found.1)
+    let found = given (bound_with q) b (entries cat q) e in
+    subst (AreTables cat) (same_entries found.0 q b found.2) (all_found cat [] (tables_of q) found.0 found.1)
 
 -- an entry for each table of FROM
-pub as_many_entries : (cat : Catalog) (q : ast.Query) (b : Bound) → bound cat q ≡ Ok b → length b.entries ≡ length (joined 0 q.from)
+pub as_many_entries : (cat : Catalog) (q : ast.Query) (b : Bound) → bound cat q ≡ Ok b → length b.entries ≡ length (tables_of q)
 as_many_entries cat q b e =
-    let found = given (bound_with q) b (entries cat q.from) e in
-    let n = entry_count cat [] (joined 0 q.from) found.0 found.1 in
+    let found = given (bound_with q) b (entries cat q) e in
+    let n = entry_count cat [] (tables_of q) found.0 found.1 in
     let same = ap length (same_entries found.0 q b found.2) in
     omega arith
 
@@ -102,4 +114,5 @@ pub some_entries : (cat : Catalog) (q : ast.Query) (b : Bound) → 0 < length q.
 some_entries cat q b some e =
     let n = as_many_entries cat q b e in
     let m = some_joined q.from some in
+    let l = length-append (joined 0 q.from) (map (left_table (last_first 0 q.from)) q.lefts) in
     omega arith

@@ -1,5 +1,5 @@
 -- A query with each column found and all else kept.
-use Rattle.std.specs.Prelude.{ℕ, ◌+◌, Bool, List, [], ◌∷◌, ◌++◌, Option, Some, None, Result, Ok, codes}
+use Rattle.std.specs.Prelude.{ℕ, ◌+◌, Bool, List, [], ◌∷◌, ◌++◌, length, Option, Some, None, Result, Ok, codes}
 use Rattle.value.specs.Columns.{Column}
 use Rattle.value.specs.declared.operators.Aggregate.{Aggregate}
 use Rattle.value.specs.declared.operators.Aggregate.TheVariants as aggregate
@@ -72,14 +72,14 @@ bound_ons entries number (e ∷ more) = first_then (bound_condition entries (on_
 -- ---- the query
 
 -- the query of its parts, or the error of the first that has one
-abbrev pub bound_parts : Bool → Option ℕ → Result (List BoundItem) BindError → Result (List (Option BoundExpr)) BindError → Result (Option BoundExpr) BindError → Result (List ColumnId) BindError → Result (Option BoundExpr) BindError → Result BoundQuery BindError
-bound_parts is_grouped limit items ons filter group_by having =
+abbrev pub bound_parts : Bool → ℕ → Option ℕ → Result (List BoundItem) BindError → Result (List (Option BoundExpr)) BindError → Result (Option BoundExpr) BindError → Result (List ColumnId) BindError → Result (Option BoundExpr) BindError → Result BoundQuery BindError
+bound_parts is_grouped left_count limit items ons filter group_by having =
     and_then items (λ items. and_then ons (λ ons. and_then filter (λ filter. and_then group_by (λ group_by. and_then having (λ having.
-    Ok record { items = items; ons = ons; filter = filter; group_by = group_by; having = having; is_grouped = is_grouped; order_by = []; limit = limit })))))
+    Ok record { items = items; ons = ons; left_count = left_count; filter = filter; group_by = group_by; having = having; is_grouped = is_grouped; order_by = []; limit = limit })))))
 
 abbrev pub bound_within : Scope → List Entry → ast.Query → Result BoundQuery BindError
 bound_within scope entries q =
-    bound_parts (is_grouped entries q) q.limit (bound_select entries scope q.select) (bound_ons entries 0 entries) (bound_condition entries scope q.filter) (on_each (find_column entries scope) q.group_by) (bound_condition entries scope q.having)
+    bound_parts (is_grouped entries q) (length q.lefts) q.limit (bound_select entries scope q.select) (bound_ons entries 0 entries) (bound_condition entries scope q.filter) (on_each (find_column entries scope) q.group_by) (bound_condition entries scope q.having)
 
 -- the query with its columns found among the entries, or the first name that does not resolve; its ORDER BY, which
 -- names output columns, is bound after its checks

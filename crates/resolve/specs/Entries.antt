@@ -34,6 +34,26 @@ abbrev pub joined : ℕ → List ast.FromItem → List JoinedTable
 joined first [] = []
 joined first (f ∷ more) = item_tables first f ++ joined (first + length (item_tables first f)) more
 
+-- the index of the first table of the last comma item, from an index on
+abbrev pub last_first : ℕ → List ast.FromItem → ℕ
+last_first first [] = first
+last_first first (f ∷ []) = first
+last_first first (f ∷ g ∷ more) = last_first (first + length (item_tables first f)) (g ∷ more)
+
+-- the same, of their tables
+abbrev pub first_of_last : List JoinedTable → ℕ
+first_of_last [] = 0
+first_of_last (j ∷ []) = j.first
+first_of_last (j ∷ k ∷ more) = first_of_last (k ∷ more)
+
+-- the table of a left join, which goes on the last comma item
+abbrev pub left_table : ℕ → ast.LeftJoin → JoinedTable
+left_table first l = record { table = l.table; first = first; on = Some l.on_ }
+
+-- those of comma items, and then those of left joins
+abbrev pub tables_of : ast.Query → List JoinedTable
+tables_of q = joined 0 q.from ++ map (left_table (last_first 0 q.from)) q.lefts
+
 -- ---- the tables in the catalogue
 
 -- the alias, or the table's name where none is written
@@ -64,5 +84,5 @@ abbrev pub entries_in : Catalog → List Entry → List JoinedTable → Result (
 entries_in cat before [] = Ok []
 entries_in cat before (j ∷ more) = and_then (entry_in cat before j) (λ e. first_then (Ok e) (entries_in cat (before ++ e ∷ []) more))
 
-abbrev pub entries : Catalog → List ast.FromItem → Result (List Entry) BindError
-entries cat from = entries_in cat [] (joined 0 from)
+abbrev pub entries : Catalog → ast.Query → Result (List Entry) BindError
+entries cat q = entries_in cat [] (tables_of q)

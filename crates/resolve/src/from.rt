@@ -2,7 +2,7 @@
 
 ghost use Rattle.std.specs.Prelude.{◌≡◌, ◌++◌, OnOk, IfOk, [], Some, length, map};
 ghost use Rattle.memory.specs.Gives.{Gives};
-ghost use Rattle.row_ast.specs.View.{from_item_of, join_of, table_ref_of};
+ghost use Rattle.row_ast.specs.View.{from_item_of, join_of, left_join_of, query_of, table_ref_of};
 ghost use Rattle.row_objects.specs.View.{table_of};
 ghost use Rattle.resolve.specs.Entries as spec;
 ghost use Rattle.scope.specs.View.{entry_of, entries_of};
@@ -10,7 +10,7 @@ ghost use Rattle.resolve.specs.View.{joined_table_of};
 
 use catalog::Catalog;
 use memory::{Failure, Heap, Items};
-use row_ast::{Condition, FromItem, Join, TableRef};
+use row_ast::{Condition, FromItem, Join, LeftJoin, Query, TableRef};
 use row_objects::Table;
 use scope::{BindError, Entry};
 use std::alloc::AllocError;
@@ -71,7 +71,7 @@ fn push_item<'s, A: Heap>(
     Ok(())
 }
 
-// The tables of FROM, in written order.
+// The tables of comma items, in written order.
 fn joined<'s, A: Heap>(
     alloc: A,
     from: &'s [FromItem<A>],
@@ -82,6 +82,52 @@ fn joined<'s, A: Heap>(
     for item in from {
         push_item(&mut tables, item)?;
     }
+    Ok(tables)
+}
+
+// The index of the first table of the last comma item, of which these are the tables.
+fn last_first<A: Heap>(tables: &[JoinedTable<'_, A>]) -> usize
+    ensures { result ≡ spec.first_of_last (map (λ j. joined_table_of j) tables.now) }
+{
+    match tables.last() {
+        Some(last) => last.first,
+        None => 0,
+    }
+}
+
+fn left_table<'s, A: Heap>(first: usize, left_join: &'s LeftJoin<A>) -> JoinedTable<'s, A>
+    ensures { joined_table_of result ≡ spec.left_table first (left_join_of left_join.now) }
+{
+    JoinedTable {
+        table: &left_join.table,
+        first,
+        on: Some(&left_join.on),
+    }
+}
+
+fn push_lefts<'s, A: Heap>(
+    tables: &mut Items<JoinedTable<'s, A>, A>,
+    first: usize,
+    lefts: &'s [LeftJoin<A>],
+) -> Result<(), AllocError>
+    ensures { OnOk result (map (λ j. joined_table_of j) tables.new ≡ map (λ j. joined_table_of j) tables.old ++ map (spec.left_table first) (map (λ l. left_join_of l) lefts.now)) }
+{
+    for left_join in lefts {
+        tables.push(left_table(first, left_join))?;
+    }
+    Ok(())
+}
+
+// The tables of comma items, and then those of left joins.
+fn tables_of<'s, A: Heap>(
+    alloc: A,
+    query: &'s Query<A>,
+) -> Result<Items<JoinedTable<'s, A>, A>, AllocError>
+    ensures { IfOk result (λ tables. map (λ j. joined_table_of j) tables ≡ spec.tables_of (query_of query.now)) }
+{
+    let mut tables = joined(alloc, query.from.as_slice())?;
+    let first = last_first(tables.as_slice());
+    push_lefts(&mut tables, first, query.lefts.as_slice())?;
     Ok(tables)
 }
 
@@ -164,10 +210,10 @@ fn entries_in<'s, A: Heap>(
 pub fn entries<'s, A: Heap>(
     alloc: A,
     catalog: &'s Catalog<A>,
-    from: &'s [FromItem<A>],
+    query: &'s Query<A>,
 ) -> Result<Items<Entry<'s, A>, A>, Failure<BindError>>
-    ensures { Gives (λ entries. entries_of entries) result (spec.entries catalog.now (map (λ f. from_item_of f) from.now)) }
+    ensures { Gives (λ entries. entries_of entries) result (spec.entries catalog.now (query_of query.now)) }
 {
-    let tables = joined(alloc, from)?;
+    let tables = tables_of(alloc, query)?;
     entries_in(alloc, catalog, tables.as_slice())
 }

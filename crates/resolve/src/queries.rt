@@ -238,6 +238,7 @@ pub fn bind_query<A: Heap>(
     let bound = BoundQuery {
         items,
         ons,
+        left_count: query.lefts.len(),
         filter,
         group_by,
         having,

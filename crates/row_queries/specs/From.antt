@@ -5,7 +5,7 @@ use Rattle.row_tokens.specs.declared.token.TokenKind.TheVariants as k
 use Rattle.row_tokens.specs.Tokens.{Token}
 use Rattle.row_ast.specs.Ast as ast
 use Rattle.value.specs.Names.{Name}
-use Rattle.row_ast.specs.Ast.{Condition, TableRef, Join, FromItem}
+use Rattle.row_ast.specs.Ast.{Condition, TableRef, Join, FromItem, LeftJoin}
 use Rattle.row_reader.specs.Language.{Rule, is, of, maybe, after, comma_list, name_of}
 use Rattle.row_reader.specs.Expressions.{name, expression}
 use Rattle.row_reader.specs.declared.reader.Class.TheVariants as c
@@ -46,3 +46,16 @@ from_item = made (λ p. record { first = p.0; joins = p.1 }) (both table_ref joi
 -- from := from_item {, from_item}
 unfoldable pub from : Rule (List FromItem)
 from = comma_list from_item
+
+-- ---- left joins
+
+-- JOIN table_ref ON expr
+unfoldable pub joined_left : Rule LeftJoin
+joined_left = made (λ p. record { table = p.0; on_ = p.1 }) (after (is k.Join) (both table_ref on_condition))
+
+-- LEFT [OUTER] JOIN table_ref ON expr
+unfoldable pub left_join : Rule LeftJoin
+left_join = after (is k.Left) (either (after (is k.Outer) joined_left) joined_left)
+
+unfoldable pub left_joins : Rule (List LeftJoin)
+left_joins = many false left_join

@@ -4,11 +4,11 @@ use Rattle.row_grammar.specs.Grammar.{word, nothing, both, either, made}
 use Rattle.row_tokens.specs.declared.token.TokenKind.TheVariants as k
 use Rattle.row_ast.specs.Ast as ast
 use Rattle.value.specs.Names.{Name}
-use Rattle.row_ast.specs.Ast.{ColumnRef, Condition, SelectItem, SelectList, FromItem, SortTarget, SortKey, Query}
+use Rattle.row_ast.specs.Ast.{ColumnRef, Condition, SelectItem, SelectList, FromItem, LeftJoin, SortTarget, SortKey, Query}
 use Rattle.row_reader.specs.Language.{Rule, is, of, maybe, after, comma_list, name_of}
 use Rattle.row_reader.specs.Expressions.{name, columns, expression}
 use Rattle.row_reader.specs.declared.reader.Class.TheVariants as c
-use Rattle.row_queries.specs.From.{condition, from}
+use Rattle.row_queries.specs.From.{condition, from, left_joins}
 
 -- ---- trees
 
@@ -20,8 +20,8 @@ pub record Clauses : Type 0 where
   pub order_by : List SortKey
   pub limit : Option ℕ
 
-abbrev pub query_with : SelectList → List FromItem → Clauses → Query
-query_with s items rest = record { select = s; from = items; filter = rest.filter; group_by = rest.group_by; having = rest.having; order_by = rest.order_by; limit = rest.limit }
+abbrev pub query_with : SelectList → List FromItem → List LeftJoin → Clauses → Query
+query_with s items lefts rest = record { select = s; from = items; lefts = lefts; filter = rest.filter; group_by = rest.group_by; having = rest.having; order_by = rest.order_by; limit = rest.limit }
 
 -- ---- items
 
@@ -80,6 +80,6 @@ unfoldable pub clauses : Rule Clauses
 clauses = made (λ p. record { filter = p.0; group_by = p.1.0; having = p.1.1.0; order_by = p.1.1.1.0; limit = p.1.1.1.1 })
     (both filter (both group_by (both having (both order_by limit))))
 
--- query := SELECT items FROM from clauses
+-- query := SELECT items FROM from {LEFT [OUTER] JOIN table_ref ON expr} clauses
 unfoldable pub query : Rule Query
-query = made (λ p. query_with p.0 p.1.0 p.1.1) (after (is k.Select) (both select_list (after (is k.From) (both from clauses))))
+query = made (λ p. query_with p.0 p.1.0 p.1.1.0 p.1.1.1) (after (is k.Select) (both select_list (after (is k.From) (both from (both left_joins clauses)))))

@@ -9,12 +9,14 @@ ghost use Rattle.row_queries.specs.Queries as rules;
 ghost use Rattle.row_queries.specs.From as tables;
 ghost use Rattle.row_reader.specs.Reading.{Parses};
 ghost use Rattle.row_ast.specs.Ast as ast;
-ghost use Rattle.row_ast.specs.View.{column_ref_of, condition_of, select_item_of, select_list_of, from_item_of, sort_target_of, sort_key_of, query_of};
+ghost use Rattle.row_ast.specs.View.{column_ref_of, condition_of, select_item_of, select_list_of, from_item_of, left_join_of, sort_target_of, sort_key_of, query_of};
 ghost use Rattle.row_queries.specs.View.{clauses_of};
 
-use crate::tables::{condition, from};
+use crate::tables::{condition, from, left_joins};
 use memory::{Heap, Items, Text};
-use row_ast::{ColumnRef, Condition, FromItem, Query, SelectItem, SelectList, SortKey, SortTarget};
+use row_ast::{
+    ColumnRef, Condition, FromItem, LeftJoin, Query, SelectItem, SelectList, SortKey, SortTarget,
+};
 use row_expressions::expression;
 use row_reader::comma_list::comma_list;
 use row_reader::names::{columns, name_after};
@@ -302,18 +304,30 @@ fn clauses<'t, A: Heap>(reader: Reader<A>, tokens: &'t [Token<'t>]) -> Parsed<'t
     Ok((following, rest))
 }
 
-// The items of FROM and the clauses after them.
+// The left joins of FROM and the clauses after them.
+fn left_clauses<'t, A: Heap>(
+    reader: Reader<A>,
+    tokens: &'t [Token<'t>],
+) -> Parsed<'t, (Items<LeftJoin<A>, A>, Following<A>)>
+    ensures { Parses (λ t. (map (λ l. left_join_of l) t.0, clauses_of t.1)) (both tables.left_joins rules.clauses) reader tokens.now result }
+{
+    let (lefts, rest) = left_joins(reader, tokens)?;
+    before(lefts, clauses(reader, rest))
+}
+
+// The items of FROM, its left joins and the clauses after them.
 fn from_clauses<'t, A: Heap>(
     reader: Reader<A>,
     tokens: &'t [Token<'t>],
-) -> Parsed<'t, (Items<FromItem<A>, A>, Following<A>)>
-    ensures { Parses (λ t. (map (λ c. from_item_of c) t.0, clauses_of t.1)) (both tables.from rules.clauses) reader tokens.now result }
+) -> Parsed<'t, (Items<FromItem<A>, A>, (Items<LeftJoin<A>, A>, Following<A>))>
+    ensures { Parses (λ t. (map (λ c. from_item_of c) t.0, (map (λ l. left_join_of l) t.1.0, clauses_of t.1.1))) (both tables.from (both tables.left_joins rules.clauses)) reader tokens.now result }
 {
     let (items, rest) = from(reader, tokens)?;
-    before(items, clauses(reader, rest))
+    let ((lefts, following), rest) = left_clauses(reader, rest)?;
+    Ok(((items, (lefts, following)), rest))
 }
 
-/// `SELECT list FROM items` and the clauses after it.
+/// `SELECT list FROM items`, its left joins and the clauses after them.
 #[tactic(auto, unfolding(crate::specs::Queries::query))]
 pub fn query<'t, A: Heap>(reader: Reader<A>, tokens: &'t [Token<'t>]) -> Parsed<'t, Query<A>>
     ensures { Parses (λ t. query_of t) rules.query reader tokens.now result }
@@ -321,10 +335,11 @@ pub fn query<'t, A: Heap>(reader: Reader<A>, tokens: &'t [Token<'t>]) -> Parsed<
     let (_, rest) = expect(TokenKind::Select, tokens)?;
     let (select, rest) = select_list(reader, rest)?;
     let (_, rest) = expect(TokenKind::From, rest)?;
-    let ((from, following), rest) = from_clauses(reader, rest)?;
+    let ((from, (lefts, following)), rest) = from_clauses(reader, rest)?;
     let query = Query {
         select,
         from,
+        lefts,
         filter: following.filter,
         group_by: following.group_by,
         having: following.having,

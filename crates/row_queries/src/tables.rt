@@ -1,4 +1,4 @@
-//! FROM: tables and their joins.
+//! FROM: tables, their joins, and the left joins at its end.
 
 ghost use Rattle.std.specs.Prelude.{◌≡◌, map};
 ghost use Rattle.row_grammar.specs.Decoder.{head_in, first};
@@ -9,10 +9,10 @@ ghost use Rattle.row_reader.specs.Language.{language, kind_of};
 ghost use Rattle.row_queries.specs.From as rules;
 ghost use Rattle.row_reader.specs.Reading.{Parses};
 ghost use Rattle.row_ast.specs.Ast as ast;
-ghost use Rattle.row_ast.specs.View.{condition_of, table_ref_of, join_of, from_item_of};
+ghost use Rattle.row_ast.specs.View.{condition_of, table_ref_of, join_of, from_item_of, left_join_of};
 
 use memory::{Heap, Items, Text};
-use row_ast::{Condition, FromItem, Join, TableRef};
+use row_ast::{Condition, FromItem, Join, LeftJoin, TableRef};
 use row_expressions::expression;
 use row_reader::comma_list::comma_list;
 use row_reader::names::{name, name_after};
@@ -169,4 +169,50 @@ pub fn from<'t, A: Heap>(
     ensures { Parses (λ t. map (λ c. from_item_of c) t) rules.from reader tokens.now result }
 {
     comma_list::<A, FromItemParser>(reader, tokens)
+}
+
+// `JOIN table_ref ON expression` after `LEFT [OUTER]`.
+#[tactic(auto, unfolding(crate::specs::From::joined_left))]
+fn joined_left<'t, A: Heap>(reader: Reader<A>, tokens: &'t [Token<'t>]) -> Parsed<'t, LeftJoin<A>>
+    ensures { Parses (λ t. left_join_of t) rules.joined_left reader tokens.now result }
+{
+    let (_, rest) = expect(TokenKind::Join, tokens)?;
+    let (table, rest) = table_ref(reader, rest)?;
+    let ((table, on), rest) = before(table, on_condition(reader, rest))?;
+    Ok((LeftJoin { table, on }, rest))
+}
+
+// `LEFT [OUTER] JOIN table_ref ON expression`.
+#[tactic(auto, unfolding(crate::specs::From::left_join))]
+fn left_join<'t, A: Heap>(reader: Reader<A>, tokens: &'t [Token<'t>]) -> Parsed<'t, LeftJoin<A>>
+    ensures { Parses (λ t. left_join_of t) rules.left_join reader tokens.now result }
+{
+    let (_, rest) = expect(TokenKind::Left, tokens)?;
+    if sees(TokenKind::Outer, rest) {
+        let (_, rest) = expect(TokenKind::Outer, rest)?;
+        joined_left(reader, rest)
+    } else {
+        joined_left(reader, rest)
+    }
+}
+
+/// `{left_join}`.
+pub fn left_joins<'t, A: Heap>(
+    reader: Reader<A>,
+    tokens: &'t [Token<'t>],
+) -> Parsed<'t, Items<LeftJoin<A>, A>>
+    ensures { Parses (λ t. map (λ l. left_join_of l) t) rules.left_joins reader tokens.now result }
+{
+    let mut all = Items::new(reader.alloc);
+    let (_, mut rest) = tokens.split_at(0);
+    let most = rest.len();
+    for _ in 0..most {
+        if !sees(TokenKind::Left, rest) {
+            return Ok((all, rest));
+        }
+        let (next, after) = left_join(reader, rest)?;
+        all.push(next)?;
+        rest = after;
+    }
+    Ok((all, rest))
 }

@@ -9,5 +9,5 @@ use Rattle.resolve.proofs.resolved.bind.Goals as goal
 
 pub returns-in-Ok : goal.returns-in-Ok
 returns-in-Ok g c =
-    given (λ b. bound_of b) c.bind_with.result (entries c.args.catalog.now (query_of c.args.query.now).from) (map (λ e. entry_of e) c.in-Ok.entries) (bound_with (query_of c.args.query.now))
-    (rw c.as_slice.ensures at c.in-Ok.ensures) c.bind_with.ensures
+    given (λ b. bound_of b) c.bind_with.result (entries c.args.catalog.now (query_of c.args.query.now)) (map (λ e. entry_of e) c.in-Ok.entries) (bound_with (query_of c.args.query.now))
+    c.in-Ok.ensures c.bind_with.ensures

@@ -4,5 +4,4 @@ use Rattle.syntax.proofs.limits.within_joined.Goals as goal
 
 pub returns-else-within_entries : goal.returns-else-within_entries
 returns-else-within_entries g c =
-    let e = rw c.as_slice.ensures at c.within_entries.ensures in
-    c.if-within_entries.false ∙ sym (and_left _ _ (sym e ∙ c.if-within_entries.false))
+    c.if-within_entries.false ∙ sym (and_left _ _ (sym c.within_entries.ensures ∙ c.if-within_entries.false))
