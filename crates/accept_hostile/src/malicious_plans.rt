@@ -44,11 +44,11 @@ ONE | 65536 | cost 5~filter 1 (deal.id = 3)~first deal full~hash {1} deal full~t
 
 /// Two filters that are swapped as often as there may be steps, and once more.
 pub const STEPS: &str = "\
-BOTH | 4094 | cost 5~filter 1 (deal.id = 3)~filter 2 (deal.owner = 'bob')~first deal full~trail~{3 .~}9 00~ | accepted
-BOTH | 4095 | cost 5~filter 1 (deal.id = 3)~filter 2 (deal.owner = 'bob')~first deal full~trail~{3 .~}9 00~ | refused line 4097 reason 6
-BOTH | 4096 | cost 5~filter 1 (deal.id = 3)~filter 2 (deal.owner = 'bob')~first deal full~trail~{3 .~} | refused line 4097 reason 6
-BOTH | 4097 | cost 5~filter 1 (deal.id = 3)~filter 2 (deal.owner = 'bob')~first deal full~trail~{3 .~} | refused line 4097 reason 1
-BOTH | 65536 | cost 5~filter 1 (deal.id = 3)~filter 2 (deal.owner = 'bob')~first deal full~trail~{3 .~} | refused line 4097 reason 1
+BOTH | 16382 | cost 5~filter 1 (deal.id = 3)~filter 2 (deal.owner = 'bob')~first deal full~trail~{3 .~}9 00~ | accepted
+BOTH | 16383 | cost 5~filter 1 (deal.id = 3)~filter 2 (deal.owner = 'bob')~first deal full~trail~{3 .~}9 00~ | refused line 16385 reason 6
+BOTH | 16384 | cost 5~filter 1 (deal.id = 3)~filter 2 (deal.owner = 'bob')~first deal full~trail~{3 .~} | refused line 16385 reason 6
+BOTH | 16385 | cost 5~filter 1 (deal.id = 3)~filter 2 (deal.owner = 'bob')~first deal full~trail~{3 .~} | refused line 16385 reason 1
+BOTH | 65536 | cost 5~filter 1 (deal.id = 3)~filter 2 (deal.owner = 'bob')~first deal full~trail~{3 .~} | refused line 16385 reason 1
 ";
 
 /// Copies of a filter up to a term of 4,096 nodes, and one more; and a filter that is doubled up to a list of 64 members, and once more.

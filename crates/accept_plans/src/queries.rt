@@ -18,6 +18,9 @@ const VALUE: &str =
 
 const NEVER: &str = "SELECT deal.id FROM deal, region WHERE 1 = 2";
 
+const LEFT: &str =
+    "SELECT deal.id FROM deal LEFT JOIN region ON deal.region = region.id WHERE region.name = 'north'";
+
 /// The query of that name, or the text itself.
 pub fn query_text(text: &str) -> &str {
     match text {
@@ -29,6 +32,7 @@ pub fn query_text(text: &str) -> &str {
         "CHAIN" => CHAIN,
         "VALUE" => VALUE,
         "NEVER" => NEVER,
+        "LEFT" => LEFT,
         _ => text,
     }
 }

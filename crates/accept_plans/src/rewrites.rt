@@ -149,9 +149,50 @@ root | SELECT id FROM deal WHERE id = id | 18 . | [(0.0 IS NOT NULL)] G0 R0
 root | SELECT id FROM deal WHERE id = amount | 18 . | 1: 4
 root | SELECT id FROM deal WHERE id = id | 18 0 | 1: 3
 root | CHAIN | 11 . 0 0, 18 . | [(2.0 IS NOT NULL)] [(1.0 = 2.0)] [(0.2 = 1.0)] ((G0 R0 * G1 R1) * G2 R2)
+root | LEFT |  | [(1.1 = 'north')] (G0 R0 + [(0.2 = 1.0)] G1 R1)
+root | LEFT | 19 . | [(1.1 = 'north')] [(0.2 = 1.0)] (G0 R0 * G1 R1)
+root | LEFT | 19 ., 19 . | 2: 3
+root | LEFT | 19- . | 1: 3
+root | LEFT | 19 0 | 1: 3
+root | LEFT | 19 . 1 | 1: 3
+root | LEFT | 20 . | 1: 4
+root | LEFT | 20 0 | 1: 3
+root | LEFT | 4 . | 1: 3
+root | LEFT | 5 . | 1: 3
+root | LEFT | 6 0 | 1: 3
+root | LEFT | 16 . | 1: 3
+root | LEFT | 9 00 | [(1.1 = 'north')] (R0 + [(0.2 = 1.0)] G1 R1)
+root | LEFT | 9 01 | [(1.1 = 'north')] (G0 R0 + [(0.2 = 1.0)] R1)
+root | LEFT | 9 01, 9- 01 2 | [(1.1 = 'north')] (G0 R0 + [(0.2 = 1.0)] G1 R1)
+root | LEFT | 9 010 | 1: 3
+root | LEFT | 9 0101 | 1: 2
+root | SELECT deal.id FROM deal LEFT JOIN region ON deal.region = region.id WHERE deal.id = 1 | 19 . | 1: 4
+root | SELECT deal.id FROM deal LEFT JOIN region ON deal.region = region.id WHERE deal.id = 1 | 20 . | ([(0.0 = 1)] G0 R0 + [(0.2 = 1.0)] G1 R1)
+root | SELECT deal.id FROM deal LEFT JOIN region ON deal.region = region.id WHERE deal.id = 1 | 20 ., 20- . | [(0.0 = 1)] (G0 R0 + [(0.2 = 1.0)] G1 R1)
+root | SELECT deal.id FROM deal LEFT JOIN region ON deal.region = region.id WHERE deal.id = 1 | 20- . | 1: 3
+root | SELECT deal.id FROM deal LEFT JOIN region ON deal.region = region.id WHERE deal.id = 1 | 20- 0 | 1: 3
+root | SELECT deal.id FROM deal LEFT JOIN region ON deal.region = region.id WHERE 1 = region.id | 19 . | [(1 = 1.0)] [(0.2 = 1.0)] (G0 R0 * G1 R1)
+root | SELECT deal.id FROM deal LEFT JOIN region ON deal.region = region.id WHERE region.id < deal.id | 19 . | [(1.0 < 0.0)] [(0.2 = 1.0)] (G0 R0 * G1 R1)
+root | SELECT deal.id FROM deal LEFT JOIN region ON deal.region = region.id WHERE region.name IS NULL | 19 . | 1: 4
+root | SELECT deal.id FROM deal LEFT JOIN region ON deal.region = region.id WHERE region.name IS NOT NULL | 19 . | [(1.1 IS NOT NULL)] [(0.2 = 1.0)] (G0 R0 * G1 R1)
+root | SELECT deal.id FROM deal LEFT JOIN region ON deal.region = region.id WHERE deal.owner IS NOT NULL | 19 . | 1: 4
+root | SELECT deal.id FROM deal LEFT JOIN region ON deal.region = region.id WHERE region.id NOT IN (1, 2) | 19 . | 1: 4
+root | SELECT deal.id FROM deal LEFT JOIN region ON deal.region = region.id WHERE region.id BETWEEN 1 AND 2 | 19 . | 1: 4
+root | SELECT deal.id FROM deal LEFT JOIN region ON deal.region = region.id WHERE region.id = 1 OR region.id = 2 | 19 . | 1: 4
+root | SELECT deal.id FROM deal LEFT JOIN region ON deal.region = region.id WHERE NOT region.id <> 1 | 19 . | 1: 4
+root | SELECT deal.id FROM deal LEFT JOIN region ON deal.region = region.id WHERE NOT region.id <> 1 | 13 ., 19 . | [(1.0 = 1)] [(0.2 = 1.0)] (G0 R0 * G1 R1)
+root | SELECT a.id FROM deal a LEFT JOIN region r ON a.region = r.id LEFT JOIN region s ON r.id = s.id WHERE r.id = 1 |  | [(1.0 = 1)] ((G0 R0 + [(0.2 = 1.0)] G1 R1) + [(1.0 = 2.0)] G2 R2)
+root | SELECT a.id FROM deal a LEFT JOIN region r ON a.region = r.id LEFT JOIN region s ON r.id = s.id WHERE r.id = 1 | 19 . | 1: 4
+root | SELECT a.id FROM deal a LEFT JOIN region r ON a.region = r.id LEFT JOIN region s ON r.id = s.id WHERE r.id = 1 | 20 ., 19 0 | ([(1.0 = 1)] [(0.2 = 1.0)] (G0 R0 * G1 R1) + [(1.0 = 2.0)] G2 R2)
+root | SELECT a.id FROM deal a LEFT JOIN region r ON a.region = r.id LEFT JOIN region s ON r.id = s.id WHERE s.id = 1 | 19 . | [(2.0 = 1)] [(1.0 = 2.0)] ((G0 R0 + [(0.2 = 1.0)] G1 R1) * G2 R2)
+root | SELECT a.id FROM deal a LEFT JOIN region r ON a.region = r.id LEFT JOIN region s ON r.id = s.id WHERE s.id = r.id | 20 . | 1: 4
+root | SELECT a.id FROM deal a, region r LEFT JOIN region s ON a.region = s.id |  | ((G0 R0 * G1 R1) + [(0.2 = 2.0)] G2 R2)
+root | SELECT a.id FROM deal a, region r LEFT JOIN region s ON a.region = s.id | 6 0 | ((G1 R1 * G0 R0) + [(0.2 = 2.0)] G2 R2)
 root | ONE | 0 . | 1: 3
 root | ONE | 19 . | 1: 3
-root | ONE | 19 000 | 1: 2
+root | ONE | 20 . | 1: 3
+root | ONE | 21 . | 1: 3
+root | ONE | 21 000 | 1: 2
 root | ONE | 9 0 1 | 1: 3
 root | ONE | 9- 0 | 1: 3
 root | ONE | 10- . | 1: 3

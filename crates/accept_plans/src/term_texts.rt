@@ -1,5 +1,5 @@
 //! Terms written as texts: R and G with the index of their entry, a filter's condition in brackets before what it is on, a
-//! join in parentheses, E with the indices of its entries.
+//! join in parentheses, a left join with its ON in brackets after +, E with the indices of its entries.
 
 use expr::MovableExpr;
 use fixtures::{Printer, show_bound};
@@ -31,6 +31,15 @@ pub fn show_term(term: &Term<Global>, out: &mut Printer) -> Result<(), AllocErro
             out.word("(")?;
             show_term(left, out)?;
             out.word(" * ")?;
+            show_term(right, out)?;
+            out.word(")")
+        }
+        Term::LeftJoined { on, left, right } => {
+            out.word("(")?;
+            show_term(left, out)?;
+            out.word(" + [")?;
+            show_bound(on.expression(), out)?;
+            out.word("] ")?;
             show_term(right, out)?;
             out.word(")")
         }

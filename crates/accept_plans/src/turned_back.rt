@@ -1,5 +1,5 @@
 //! Pushes that are turned back, over terms made by hand: a trail that begins at a written term has no filter on a side of a
-//! join that lacks an entry of its condition.
+//! join or a left join that lacks an entry of its condition.
 
 use crate::queries::query_text;
 use crate::rewrites::rewritten_text;
@@ -18,27 +18,39 @@ use std::test::Fail;
 use syntax::parse_query;
 
 // Each line has the entry under a filter by `deal.id = 1`, of which deal is the entry 0, the side of the join that the filter
-// is on, a step, and the term after it, or the reason why there is none.
+// is on, or that it is on the left of a left join by the same condition, a step, and the term after it, or the reason why there
+// is none.
 const ROWS: &str = "0 | left | 4- . | [(0.0 = 1)] (R0 * R1)
 1 | left | 4- . | 1: 4
 0 | right | 5- . | [(0.0 = 1)] (R1 * R0)
 1 | right | 5- . | 1: 4
+0 | left joined | 20- . | [(0.0 = 1)] (R0 + [(0.0 = 1)] R1)
+1 | left joined | 20- . | 1: 4
+0 | left | 20- . | 1: 3
+0 | left joined | 4- . | 1: 3
 0 | left | 5- . | 1: 3
 0 | right | 4- . | 1: 3
 ";
 
-// The rows of an entry under a filter, joined with those of the other.
+// The rows of an entry under a filter, joined or left joined with those of the other.
 fn half_filtered(
     alloc: Global,
     condition: MovableExpr<Global>,
     entry: usize,
     side: &str,
 ) -> Result<Term<Global>, AllocError> {
+    let on = condition.copy(alloc)?;
     let input = boxed(alloc, Term::Raw { entry })?;
     let filtered = boxed(alloc, Term::Filtered { condition, input })?;
     let other = if entry == 0 { 1 } else { 0 };
     let other = boxed(alloc, Term::Raw { entry: other })?;
-    Ok(if side == "left" {
+    Ok(if side == "left joined" {
+        Term::LeftJoined {
+            on,
+            left: filtered,
+            right: other,
+        }
+    } else if side == "left" {
         Term::Joined {
             left: filtered,
             right: other,

@@ -84,8 +84,8 @@ audit | ONE | 1 f n | 10- . 0, 2 ., 10- . 0, 2 ., 10- . 0, 2 ., 10- . 0, 2 ., 10
 ";
 
 // The same, with the number of times that the step is taken in the last place.
-const REPEATED: &str = "audit | BOTH | 1 f n | 3 . | 4097: 6 | 4096
-audit | BOTH | 1 f n | 3 . | 4097: 1 | 4097
+const REPEATED: &str = "audit | BOTH | 1 f n | 3 . | 16385: 6 | 16384
+audit | BOTH | 1 f n | 3 . | 16385: 1 | 16385
 audit | ONE | 1 f n | 10- . 0 | 4094: 6 | 4093
 audit | ONE | 1 f n | 10- . 0 | 4094: 1 | 4094
 ";

@@ -46,7 +46,7 @@ use Rattle.engine.specs.Audits.{Judged, admitted_audit, audit_of, judged}
 use Rattle.engine.specs.Explained.{best_text, explained_query, plan_with, problem, text_if_found, trail}
 use Rattle.engine.specs.Settings.{setting}
 use Rattle.engine.proofs.OfText as of_text
-use Rattle.engine.proofs.OfText.{text_conjuncts, text_entries, text_few, text_tables}
+use Rattle.engine.proofs.OfText.{text_conjuncts, text_entries, text_few, text_inner, text_tables}
 use Rattle.plan_laws.specs.Names.{AreNames}
 use Rattle.audit_laws.specs.ExplainedPlans.{ExplainedAreAccepted, ExplainedArePlans, HasCounts}
 use Rattle.audit_laws.proofs.EntryNames.{admitted_aliases_differ, column_named, columns_few, entry_named, index_named, small_number, unmistakable}
@@ -108,6 +108,7 @@ module _ (laws : Laws) where
 
     facts : Facts b.entries b.query at
     facts = record {
+      inner = text_inner cat role b (text, is);
       listed = refl;
       each = length-map b.entries (λ e. guard cat role e.table);
       some = text_entries cat role b (text, is) laws.tables;

@@ -5,7 +5,6 @@ use Rattle.value.specs.Names.{Name}
 use Rattle.row_ast.specs.Ast.{Query}
 use Rattle.expr.specs.Conjuncts.{left_ons, movable_conjuncts}
 use Rattle.expr.proofs.Conjoined.{no_left_ons}
-
 use Rattle.catalog.specs.Catalog.{Catalog}
 use Rattle.syntax.specs.Limits.{within_limits}
 use Rattle.syntax.specs.Parsing.{parsed_query}

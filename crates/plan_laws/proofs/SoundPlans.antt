@@ -10,7 +10,7 @@ use Rattle.expr.specs.Bound.{BoundExpr}
 use Rattle.expr.specs.BoundQuery.{BoundQuery}
 use Rattle.expr.specs.Codes.{Code}
 use Rattle.expr.specs.Columns.{columns}
-use Rattle.expr.specs.Conjuncts.{movable_conjuncts}
+use Rattle.expr.specs.Conjuncts.{left_ons, movable_conjuncts}
 use Rattle.expr.specs.NamedColumns.{named_columns}
 use Rattle.expr.specs.declared.bound.ColumnId.{ColumnId}
 use Rattle.plan_laws.proofs.EachColumn.{of_conjuncts}
@@ -65,6 +65,7 @@ steps_sound (s ∷ ss) h = (step_sound s h.0, steps_sound ss h.1)
 -- ---- what the plans of a query are made from
 
 pub record Facts (entries : List Entry) (q : BoundQuery) (at : Setting) : Type 0 where
+  pub inner : left_ons q ≡ []
   pub listed : at.conditions ≡ planning_list q
   pub each : length at.frame ≡ length entries
   pub some : 0 < length entries
@@ -104,7 +105,7 @@ module _ (entries : List Entry) (q : BoundQuery) (at : Setting) (facts : Facts e
 
   pub trail_accepted : PlansAreAccepted → (code : Code) → is_admissible at code ≡ true → verdict at (written (length entries) q) (simplifying q ++ placing at code) code ≡ Accepted
   trail_accepted accept code admissible =
-      ap (λ n. verdict at (written n q) (simplifying q ++ placing at code) code) (sym facts.each) ∙ accept at q code facts.listed few_entries facts.few_conjuncts admissible
+      ap (λ n. verdict at (written n q) (simplifying q ++ placing at code) code) (sym facts.each) ∙ accept at q code facts.inner facts.listed few_entries facts.few_conjuncts admissible
 
   -- ---- the plan
 

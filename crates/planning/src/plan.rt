@@ -1,7 +1,7 @@
 //! The plan of a query.
 
-ghost use Rattle.std.specs.Prelude.{◌≡◌, ◌≤◌, IfOk, length, map};
-ghost use Rattle.expr.specs.Conjuncts.{movable_conjuncts};
+ghost use Rattle.std.specs.Prelude.{◌≡◌, ◌≤◌, [], IfOk, length, map};
+ghost use Rattle.expr.specs.Conjuncts.{left_ons, movable_conjuncts};
 ghost use Rattle.expr.specs.View.{bound_query_of, code_of};
 ghost use Rattle.stats.specs.View.{stats_of};
 ghost use Rattle.algebra.specs.PlanningList.{planning_list};
@@ -68,13 +68,15 @@ impl<'p, A: Heap> Model for Plan<'p, A> {
 }
 
 impl<'p, A: Heap> Plan<'p, A> {
-    /// The plan of a query under a setting with its planning list, by the statistics of each entry. It fails where memory runs out.
+    /// The plan of a query without left joins under a setting with its planning list, by the statistics of each entry. It fails
+    /// where memory runs out.
     pub fn new(
         alloc: A,
         query: &'p BoundQuery<A>,
         setting: &'p Setting<A>,
         statistics: &'p [&'p Stats<A>],
     ) -> Result<Plan<'p, A>, AllocError>
+        requires joins { left_ons (bound_query_of query.now) ≡ [] }
         requires conditions { (setting_of setting.now).conditions ≡ planning_list (bound_query_of query.now) }
         requires each { length statistics.now ≡ length setting.now.frame }
         requires entries { length setting.now.frame ≤ most_entries }

@@ -8,7 +8,7 @@ use Rattle.expr.specs.Codes.{Code}
 use Rattle.expr.specs.Conjuncts.{movable_conjuncts}
 use Rattle.predicates.specs.Offsets.{without_offsets}
 use Rattle.row_terms.specs.Terms.{Term, Filtered}
-use Rattle.row_terms.specs.Written.{joins, filters, written}
+use Rattle.row_terms.specs.Written.{joins, filters, left_conditions, all_joins, written}
 use Rattle.algebra.specs.PlanningList.{planning_list}
 use Rattle.algebra.specs.Steps.{Step}
 use Rattle.trailcheck.specs.declared.verdict.Reason.TheVariants as reason
@@ -29,7 +29,7 @@ use Rattle.rewrite.proofs.Lengths.{most_placing, placing_short}
 use Rattle.rewrite.proofs.Limited.{replays}
 use Rattle.rewrite.proofs.Places.{places_each}
 use Rattle.rewrite.proofs.SimplifiedLength.{simplifying_length, planning_length}
-use Rattle.rewrite.proofs.SimplifiedTerm.{simplifies_each}
+use Rattle.rewrite.proofs.SameCombinations.{joins_alone, simplified}
 
 -- ---- the nodes of a written term
 
@@ -66,15 +66,16 @@ pub plans_are_short : PlansAreShort
 plans_are_short = both_short
 
 pub plans_accepted : PlansAreAccepted
-plans_accepted at q code planned few_entries few_conjuncts admissible =
+plans_accepted at q code none planned few_entries few_conjuncts admissible =
     let p = short at q code planned few_entries few_conjuncts admissible in
     let s = simplifying_length q few_conjuncts in
     let a = length-append (simplifying q) (placing at code) in
-    let f = nodes-filters (map without_offsets (movable_conjuncts q)) (joins (length at.frame)) in
+    let f = nodes-filters (map without_offsets (movable_conjuncts q)) (all_joins (length at.frame) (left_conditions q)) in
+    let o = ap node_count (joins_alone (length at.frame) q none) in
     let m = length-map (movable_conjuncts q) without_offsets in
     let j = nodes-joins (length at.frame) in
     accepts at (written (length at.frame) q) (simplifying q ++ placing at code) code admissible
-    (led_then at.frame (simplifying q) (placing at code) (written (length at.frame) q) (filters (planning_list q) (joins (length at.frame))) (simplifies_each at.frame (length at.frame) q)
+    (led_then at.frame (simplifying q) (placing at code) (written (length at.frame) q) (filters (planning_list q) (joins (length at.frame))) (simplified at.frame (length at.frame) q none)
     ∙ ap (λ l. led at.frame (placing at code) (filters l (joins (length at.frame)))) (sym planned)
     ∙ places_each at code admissible)
-    (omega (arith, a, f, m, j, p, s)) (omega (arith, a, p, s))
+    (omega (arith, a, f, o, m, j, p, s)) (omega (arith, a, p, s))

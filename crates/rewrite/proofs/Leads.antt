@@ -5,7 +5,7 @@ use Rattle.expr.specs.Bound.{BoundExpr}
 use Rattle.tuples.specs.Guards.{Guard}
 use Rattle.row_terms.specs.declared.path.Branch.{Branch}
 use Rattle.row_terms.specs.declared.path.Branch.TheVariants.{First, Second}
-use Rattle.row_terms.specs.Terms.{Term, Guarded, Filtered, Joined}
+use Rattle.row_terms.specs.Terms.{Term, Guarded, Filtered, Joined, LeftJoined}
 use Rattle.row_terms.specs.Written.{filters}
 use Rattle.algebra.specs.Rewrites.{applied, inside}
 use Rattle.algebra.specs.Rules.{Outcome}
@@ -48,6 +48,9 @@ module _ (frame : List Guard) where
 
   pub led_right : (z : Term) (ss : List Step) (x y : Term) → led frame ss x ≡ Ok y → led frame (all_down Second ss) (Joined z x) ≡ Ok (Joined z y)
   led_right z = led_inside Second (Joined z) (λ s x. refl)
+
+  pub led_kept : (on : BoundExpr) (z : Term) (ss : List Step) (x y : Term) → led frame ss x ≡ Ok y → led frame (all_down First ss) (LeftJoined on x z) ≡ Ok (LeftJoined on y z)
+  led_kept on z = led_inside First (λ x. LeftJoined on x z) (λ s x. refl)
 
   pub led_filters : (es : List BoundExpr) (ss : List Step) (x y : Term) → led frame ss x ≡ Ok y → led frame (below_filters (length es) ss) (filters es x) ≡ Ok (filters es y)
   led_filters [] ss x y h = h

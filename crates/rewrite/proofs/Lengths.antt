@@ -11,7 +11,7 @@ use Rattle.expr.specs.Codes.{Code}
 use Rattle.predicates.specs.Equalities.{is_never_true}
 use Rattle.row_terms.specs.declared.path.Branch.{Branch}
 use Rattle.row_terms.specs.declared.path.Branch.TheVariants.{First, Second}
-use Rattle.row_terms.specs.Terms.{Term, Raw, Guarded, Filtered, Joined, Empty}
+use Rattle.row_terms.specs.Terms.{Term, Raw, Guarded, Filtered, Joined, LeftJoined, Empty}
 use Rattle.row_terms.specs.Written.{guarded_entry}
 use Rattle.algebra.specs.Rules.{is_open}
 use Rattle.algebra.specs.Runs.{reads_only}
@@ -103,6 +103,7 @@ height (Raw i) = 0
 height (Guarded i x) = suc (height x)
 height (Filtered e x) = suc (height x)
 height (Joined x y) = suc (max (height x) (height y))
+height (LeftJoined on x y) = suc (max (height x) (height y))
 height (Empty is) = 0
 
 -- so many conditions, each with one step more than the one before
@@ -136,6 +137,12 @@ module _ (count : ℕ) where
       go false true h k = let d = length-down Second (sinking count e y) in omega (arith, d)
       go false false h k = omega arith
 
+  sinking_short e (LeftJoined on x y) = go (reads_only x e) (sinking_short e x)
+    where
+      go : (b : Bool) → length (sinking count e x) ≤ height x → length (if b then at_root 20 ∷ all_down First (sinking count e x) else []) ≤ suc (max (height x) (height y))
+      go true h = let d = length-down First (sinking count e x) in omega (arith, d)
+      go false h = omega arith
+
   sunk_high : (e : BoundExpr) (x : Term) → height (sunk count e x) ≤ suc (height x)
   sunk_high e (Raw i) = omega arith
   sunk_high e (Empty is) = omega arith
@@ -152,6 +159,12 @@ module _ (count : ℕ) where
       go true c h k = omega arith
       go false true h k = omega arith
       go false false h k = omega arith
+
+  sunk_high e (LeftJoined on x y) = go (reads_only x e) (sunk_high e x)
+    where
+      go : (b : Bool) → height (sunk count e x) ≤ suc (height x) → height (if b then LeftJoined on (sunk count e x) y else Filtered e (LeftJoined on x y)) ≤ suc (suc (max (height x) (height y)))
+      go true h = omega arith
+      go false h = omega arith
 
   settling_short : (e : BoundExpr) (x : Term) → length (settling count e x) ≤ height x
   settling_short e x = go (is_over count e)

@@ -5,10 +5,11 @@ use Rattle.memory.specs.Results.{and_then}
 use Rattle.expr.specs.Bound.{BoundExpr}
 use Rattle.predicates.specs.Connectives.{parted, factored}
 use Rattle.predicates.specs.Equalities.{is_never_true, not_null_form}
+use Rattle.predicates.specs.NullRows.{rejects_null_rows}
 use Rattle.tuples.specs.Guards.{Guard}
 use Rattle.row_terms.specs.declared.path.Branch.{Branch}
 use Rattle.row_terms.specs.declared.path.Branch.TheVariants.{First, Second}
-use Rattle.row_terms.specs.Terms.{Term, Guarded, Filtered, Joined}
+use Rattle.row_terms.specs.Terms.{Term, Guarded, Filtered, Joined, LeftJoined, covers}
 use Rattle.algebra.specs.declared.step.Reason.TheVariants.{Misfit}
 use Rattle.algebra.specs.declared.step.Rewrite.{Rewrite}
 use Rattle.algebra.specs.declared.step.Rewrite.TheVariants as rewrites
@@ -72,6 +73,9 @@ module _ (frame : List Guard) where
   rewritten-grows rewrites.EmptyInput x = grows-emptied (has_empty_input x) (length frame) x
   rewritten-grows rewrites.FactorOut (Filtered e x) = grows-under (factored e) (Filtered e x) x (omega arith)
   rewritten-grows rewrites.NotNull (Filtered e x) = grows-under (not_null_form e) (Filtered e x) x (omega arith)
+  rewritten-grows rewrites.MakeInner (Filtered f (LeftJoined on x y)) = grows-where (rejects_null_rows (covers y) f) (Filtered f (LeftJoined on x y)) (Filtered f (Filtered on (Joined x y))) (omega arith)
+  rewritten-grows rewrites.PushUnderLeft (Filtered f (LeftJoined on x y)) = grows-where (reads_only x f) (Filtered f (LeftJoined on x y)) (LeftJoined on (Filtered f x) y) (omega arith)
+  rewritten-grows rewrites.PullOverLeft (LeftJoined on (Filtered f x) y) = grows-where (reads_only x f) (LeftJoined on (Filtered f x) y) (Filtered f (LeftJoined on x y)) (omega arith)
   rewritten-grows _ _ = tt
 
   rewritten_if-grows : (o : Option Rewrite) (x : Term) → Grows x (rewritten_if frame o x)
@@ -88,6 +92,8 @@ module _ (frame : List Guard) where
   at_node-grows f k (First ∷ path) (Filtered e x) = inside-grows (Filtered e) x (Filtered e x) (λ y h. omega arith) (at_node f path x) (at_node-grows f k path x)
   at_node-grows f k (First ∷ path) (Joined x y) = inside-grows (λ z. Joined z y) x (Joined x y) (λ z h. omega arith) (at_node f path x) (at_node-grows f k path x)
   at_node-grows f k (Second ∷ path) (Joined x y) = inside-grows (Joined x) y (Joined x y) (λ z h. omega arith) (at_node f path y) (at_node-grows f k path y)
+  at_node-grows f k (First ∷ path) (LeftJoined on x y) = inside-grows (λ z. LeftJoined on z y) x (LeftJoined on x y) (λ z h. omega arith) (at_node f path x) (at_node-grows f k path x)
+  at_node-grows f k (Second ∷ path) (LeftJoined on x y) = inside-grows (LeftJoined on x) y (LeftJoined on x y) (λ z h. omega arith) (at_node f path y) (at_node-grows f k path y)
   at_node-grows f k (b ∷ path) _ = tt
 
   pub step_grows : (s : Step) (x y : Term) → applied frame s x ≡ Ok y → node_count y ≤ suc (node_count x)

@@ -1,12 +1,12 @@
 -- The combinations of the shape of a plan are those of the written term.
-use Rattle.std.proofs.Common.{◌≡◌, ◌∙◌, refl, sym, ap, subst, ℕ, zero, suc, true, List, [], ◌∷◌, ◌++◌, map, length, Ok, Err}
+use Rattle.std.proofs.Common.{◌≡◌, ◌∙◌, refl, sym, ap, subst, ℕ, zero, suc, ◌-◌, true, List, [], ◌∷◌, ◌++◌, map, filter, length, Ok, Err}
 use Rattle.std.specs.List.Sorted.{IsPermutation}
 use Rattle.std.proofs.lemmas.List.Sorted.{IsPermutation-refl, IsPermutation-trans}
 use Rattle.memory.specs.Results.{and_then}
 use Rattle.expr.specs.Bound.{BoundExpr}
 use Rattle.expr.specs.BoundQuery.{BoundQuery}
 use Rattle.expr.specs.Codes.{Code}
-use Rattle.expr.specs.Conjuncts.{conjuncts, movable_conjuncts}
+use Rattle.expr.specs.Conjuncts.{conjuncts, left_ons, movable_conjuncts}
 use Rattle.expr.specs.Movable.{movable}
 use Rattle.bags.proofs.Members.{Each, each-passes}
 use Rattle.predicates.specs.Laws.{OffsetsKeepValue}
@@ -15,7 +15,7 @@ use Rattle.predicates.proofs.Keeping.{both}
 use Rattle.tuples.specs.Guards.{Guard}
 use Rattle.row_terms.specs.Terms.{Term, Filtered}
 use Rattle.row_terms.specs.Means.{mean}
-use Rattle.row_terms.specs.Written.{joins, filters, written}
+use Rattle.row_terms.specs.Written.{joins, filters, left_conditions, all_joins, written}
 use Rattle.algebra.specs.Keeping.{MeanSame, is_movable_term}
 use Rattle.algebra.specs.PlanningList.{planning_list}
 use Rattle.algebra.specs.Rewrites.{applied}
@@ -44,8 +44,12 @@ filters_movable : (kept : OffsetsKeepValue) (es : List BoundExpr) → Each (λ e
 filters_movable kept [] h x m = m
 filters_movable kept (e ∷ es) h x m = filters_movable kept es h.1 (Filtered (without_offsets e) x) (both (movable (without_offsets e)) (is_movable_term x) (kept.stays_movable e h.0) m)
 
-written_movable : OffsetsKeepValue → (n : ℕ) (q : BoundQuery) → is_movable_term (written n q) ≡ true
-written_movable kept n q = filters_movable kept (movable_conjuncts q) (each-passes movable (conjuncts q)) (joins n) (joins_movable n)
+-- a query without left joins has joins alone
+pub joins_alone : (n : ℕ) (q : BoundQuery) → left_ons q ≡ [] → all_joins n (left_conditions q) ≡ joins n
+joins_alone n q none = ap (λ lefts. all_joins n (map without_offsets (filter movable lefts))) none
+
+written_movable : OffsetsKeepValue → (n : ℕ) (q : BoundQuery) → left_ons q ≡ [] → is_movable_term (written n q) ≡ true
+written_movable kept n q none = filters_movable kept (movable_conjuncts q) (each-passes movable (conjuncts q)) (all_joins n (left_conditions q)) (ap is_movable_term (joins_alone n q none) ∙ joins_movable n)
 
 -- ---- steps keep the bag
 
@@ -64,12 +68,15 @@ led_keeps frame (s ∷ ss) x y m h = at (applied frame s x) refl h (λ z n k. le
 
 -- ---- from the written term to the shape
 
-module _ (at : Setting) (q : BoundQuery) (code : Code) (listed : at.conditions ≡ planning_list q) (fits : is_admissible at code ≡ true) where
+pub simplified : (frame : List Guard) (n : ℕ) (q : BoundQuery) → left_ons q ≡ [] → led frame (simplifying q) (written n q) ≡ Ok (filters (planning_list q) (joins n))
+simplified frame n q none = simplifies_each frame n q ∙ ap (λ x. Ok (filters (planning_list q) x)) (joins_alone n q none)
+
+module _ (at : Setting) (q : BoundQuery) (code : Code) (none : left_ons q ≡ []) (listed : at.conditions ≡ planning_list q) (fits : is_admissible at code ≡ true) where
   placed : led at.frame (placing at code) (filters (planning_list q) (joins (length at.frame))) ≡ Ok (shape at code)
   placed = ap (λ es. led at.frame (placing at code) (filters es (joins (length at.frame)))) (sym listed) ∙ places_each at code fits
 
   whole : led at.frame (simplifying q ++ placing at code) (written (length at.frame) q) ≡ Ok (shape at code)
-  whole = led_then at.frame (simplifying q) (placing at code) (written (length at.frame) q) (filters (planning_list q) (joins (length at.frame))) (simplifies_each at.frame (length at.frame) q) ∙ placed
+  whole = led_then at.frame (simplifying q) (placing at code) (written (length at.frame) q) (filters (planning_list q) (joins (length at.frame))) (simplified at.frame (length at.frame) q none) ∙ placed
 
 pub shapes_mean_same : OffsetsKeepValue → ShapesMeanSame
-shapes_mean_same kept at q code listed fits = led_keeps at.frame (simplifying q ++ placing at code) (written (length at.frame) q) (shape at code) (written_movable kept (length at.frame) q) (whole at q code listed fits)
+shapes_mean_same kept at q code none listed fits = led_keeps at.frame (simplifying q ++ placing at code) (written (length at.frame) q) (shape at code) (written_movable kept (length at.frame) q none) (whole at q code none listed fits)

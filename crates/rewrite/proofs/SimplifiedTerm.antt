@@ -1,10 +1,10 @@
 -- The steps of simplifying lead from the written term to the planning list over the joins.
-use Rattle.std.proofs.Common.{◌≡◌, ℕ, zero, suc, Bool, true, false, refl, sym, ap, ◌∙◌, List, [], ◌∷◌, ◌++◌, length, map, slice_get, Option, Some, None, Ok, if◌then◌else◌}
+use Rattle.std.proofs.Common.{◌≡◌, ℕ, zero, suc, ◌-◌, Bool, true, false, refl, sym, ap, ◌∙◌, List, [], ◌∷◌, ◌++◌, length, map, slice_get, Option, Some, None, Ok, if◌then◌else◌}
 use Rattle.memory.specs.Results.{and_then}
 use Rattle.expr.specs.Bound.{BoundExpr}
 use Rattle.tuples.specs.Guards.{Guard}
-use Rattle.row_terms.specs.Terms.{Term, Filtered}
-use Rattle.row_terms.specs.Written.{joins, filters}
+use Rattle.row_terms.specs.Terms.{Term, Filtered, LeftJoined}
+use Rattle.row_terms.specs.Written.{guarded_entry, joins, left_joins, left_conditions, all_joins, filters}
 use Rattle.algebra.specs.PlanningList.{written_conditions, simplified, simplified_parts, is_across, consequence, with_any, with_each, with_all, with_consequences, with_others, without_repeats, is_too_long, planned}
 use Rattle.algebra.specs.Rules.{constant_of, by_run, under, where_met}
 use Rattle.algebra.specs.Runs.{run, stands_in}
@@ -113,5 +113,12 @@ joins_run zero = refl
 joins_run (suc zero) = refl
 joins_run (suc (suc n)) = refl
 
+lefts_run : (lefts : List BoundExpr) (first : ℕ) (x : Term) → run x ≡ [] → run (left_joins first lefts x) ≡ []
+lefts_run [] first x h = h
+lefts_run (on ∷ lefts) first x h = lefts_run lefts (suc first) (LeftJoined on x (guarded_entry first)) refl
+
 pub simplifies_each : SimplifiesEach
-simplifies_each frame count q = written_simplified frame (joins count) (joins_run count) (written_conditions q)
+simplifies_each frame count q =
+    let lefts = left_conditions q in
+    let before = count - length lefts in
+    written_simplified frame (all_joins count lefts) (lefts_run lefts before (joins before) (joins_run before)) (written_conditions q)

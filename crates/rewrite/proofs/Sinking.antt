@@ -4,14 +4,14 @@ use Rattle.memory.specs.Results.{and_then}
 use Rattle.expr.specs.Bound.{BoundExpr}
 use Rattle.tuples.specs.Guards.{Guard}
 use Rattle.row_terms.specs.declared.path.Branch.TheVariants.{First, Second}
-use Rattle.row_terms.specs.Terms.{Term, Raw, Guarded, Filtered, Joined, Empty}
+use Rattle.row_terms.specs.Terms.{Term, Raw, Guarded, Filtered, Joined, LeftJoined, Empty}
 use Rattle.row_terms.specs.Written.{filters}
 use Rattle.algebra.specs.Rules.{where_met}
 use Rattle.algebra.specs.Runs.{reads_only}
 use Rattle.trailcheck.specs.Entries.{is_over}
 use Rattle.rewrite.specs.Trails.{led, at_root, all_down, below_filters}
 use Rattle.rewrite.specs.Placing.{passes, sunk, sinking, settled, settling, all_settled, settling_all}
-use Rattle.rewrite.proofs.Leads.{led_then, led_if, led_filter, led_guard, led_left, led_right, led_filters}
+use Rattle.rewrite.proofs.Leads.{led_then, led_if, led_filter, led_guard, led_left, led_right, led_kept, led_filters}
 
 module _ (frame : List Guard) (count : ℕ) where
   -- one condition that is on top of a term
@@ -34,6 +34,15 @@ module _ (frame : List Guard) (count : ℕ) where
           ap (λ m. and_then (where_met m (Joined x (Filtered e y))) (led frame (all_down Second (sinking count e y)))) q
           ∙ led_right frame x (sinking count e y) (Filtered e y) (sunk count e y) k
       at false false p q h k = refl
+
+  sinks e (LeftJoined on x y) = at (reads_only x e) refl (sinks e x)
+    where
+      at : (b : Bool) → reads_only x e ≡ b → led frame (sinking count e x) (Filtered e x) ≡ Ok (sunk count e x) →
+          led frame (if b then at_root 20 ∷ all_down First (sinking count e x) else []) (Filtered e (LeftJoined on x y)) ≡ Ok (if b then LeftJoined on (sunk count e x) y else Filtered e (LeftJoined on x y))
+      at true p h =
+          ap (λ m. and_then (where_met m (LeftJoined on (Filtered e x) y)) (led frame (all_down First (sinking count e x)))) p
+          ∙ led_kept frame on y (sinking count e x) (Filtered e x) (sunk count e x) h
+      at false p h = refl
 
   pub settles : (e : BoundExpr) (x : Term) → led frame (settling count e x) (Filtered e x) ≡ Ok (settled count e x)
   settles e x = led_if frame (is_over count e) (sinking count e x) (Filtered e x) (sunk count e x) (sinks e x)

@@ -9,7 +9,7 @@ use Rattle.expr.specs.Codes.{Code}
 use Rattle.predicates.specs.Equalities.{is_never_true}
 use Rattle.row_terms.specs.declared.path.Branch.{Branch}
 use Rattle.row_terms.specs.declared.path.Branch.TheVariants.{First, Second}
-use Rattle.row_terms.specs.Terms.{Term, Raw, Guarded, Filtered, Joined, Empty}
+use Rattle.row_terms.specs.Terms.{Term, Raw, Guarded, Filtered, Joined, LeftJoined, Empty}
 use Rattle.algebra.specs.PlanningList.{written_conditions, simplified, simplified_parts, parts_of, consequence, with_condition, with_any, with_each, with_all, with_consequences, is_too_long}
 use Rattle.algebra.specs.Rules.{is_open}
 use Rattle.algebra.specs.Runs.{reads_only, stands_in}
@@ -177,6 +177,12 @@ module _ (count : ℕ) where
       go true c h k = (small_root 4 (omega arith), small_all First (sinking count e x) h)
       go false true h k = (small_root 5 (omega arith), small_all Second (sinking count e y) k)
       go false false h k = tt
+
+  sinking_small e (LeftJoined on x y) = go (reads_only x e) (sinking_small e x)
+    where
+      go : (b : Bool) → AreSmall (sinking count e x) → AreSmall (if b then at_root 20 ∷ all_down First (sinking count e x) else [])
+      go true h = (small_root 20 (omega arith), small_all First (sinking count e x) h)
+      go false h = tt
 
   settling_small : (e : BoundExpr) (x : Term) → AreSmall (settling count e x)
   settling_small e x = go (is_over count e)

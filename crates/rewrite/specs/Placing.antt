@@ -8,7 +8,7 @@ use Rattle.expr.specs.Codes as codes
 use Rattle.expr.specs.Codes.{Code}
 use Rattle.predicates.specs.Equalities.{is_never_true}
 use Rattle.row_terms.specs.declared.path.Branch.TheVariants.{First, Second}
-use Rattle.row_terms.specs.Terms.{Term, Raw, Guarded, Filtered, Joined, Empty}
+use Rattle.row_terms.specs.Terms.{Term, Raw, Guarded, Filtered, Joined, LeftJoined, Empty}
 use Rattle.row_terms.specs.Written.{guarded_entry}
 use Rattle.algebra.specs.Rules.{is_open}
 use Rattle.algebra.specs.Runs.{reads_only}
@@ -64,6 +64,7 @@ abbrev pub goes_deeper : BoundExpr → Term → Bool
 goes_deeper e (Filtered a x) = goes_deeper e x
 goes_deeper e (Guarded i x) = true
 goes_deeper e (Joined x y) = reads_only x e || reads_only y e
+goes_deeper e (LeftJoined on x y) = reads_only x e
 goes_deeper e _ = false
 
 module _ (count : ℕ) where
@@ -75,6 +76,7 @@ module _ (count : ℕ) where
   sunk e (Filtered a x) = if passes e a x then Filtered a (sunk e x) else Filtered e (Filtered a x)
   sunk e (Guarded i x) = Guarded i (sunk e x)
   sunk e (Joined x y) = if reads_only x e then Joined (sunk e x) y else if reads_only y e then Joined x (sunk e y) else Filtered e (Joined x y)
+  sunk e (LeftJoined on x y) = if reads_only x e then LeftJoined on (sunk e x) y else Filtered e (LeftJoined on x y)
   sunk e x = Filtered e x
 
   -- the steps from the term under a filter by e
@@ -85,6 +87,7 @@ module _ (count : ℕ) where
       if reads_only x e then at_root 4 ∷ all_down First (sinking e x)
       else if reads_only y e then at_root 5 ∷ all_down Second (sinking e y)
       else []
+  sinking e (LeftJoined on x y) = if reads_only x e then at_root 20 ∷ all_down First (sinking e x) else []
   sinking e x = []
 
   -- a condition that is not over entries of the query stays on top

@@ -33,6 +33,21 @@ pub(crate) fn guarded<A: Heap>(
     Ok(Term::Guarded { entry, input })
 }
 
+/// Each combination of the left term with those of the right one on which a condition is true, or with null rows where there is
+/// none.
+pub(crate) fn left_joined<A: Heap>(
+    alloc: A,
+    on: MovableExpr<A>,
+    left: Term<A>,
+    right: Term<A>,
+) -> Result<Term<A>, AllocError>
+    ensures { IfOk result (λ t. term_of t ≡ terms.LeftJoined on (term_of left) (term_of right)) }
+{
+    let left = boxed(alloc, left)?;
+    let right = boxed(alloc, right)?;
+    Ok(Term::LeftJoined { on, left, right })
+}
+
 /// Each combination of the left term with each of the right one.
 pub(crate) fn joined<A: Heap>(
     alloc: A,

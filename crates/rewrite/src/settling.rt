@@ -6,7 +6,7 @@ ghost use Rattle.algebra.specs.View.{step_of};
 ghost use Rattle.rewrite.specs.Placing as spec;
 ghost use Rattle.rewrite.specs.Trails.{below_path};
 
-use crate::nodes::{filtered, guarded, joined};
+use crate::nodes::{filtered, guarded, joined, left_joined};
 use crate::steps::step_down;
 use algebra::{Step, reads_only};
 use expr::MovableExpr;
@@ -32,6 +32,7 @@ fn goes_deeper<A: Heap>(
             }
             reads_only(alloc, right, condition)
         }
+        Term::LeftJoined { left, .. } => reads_only(alloc, left, condition),
         _ => Ok(false),
     }
 }
@@ -100,6 +101,17 @@ fn sink<A: Heap>(
             }
             let term = joined(alloc, left, right)?;
             filtered(alloc, condition, term)
+        }
+        Term::LeftJoined { on, left, right } => {
+            let left = Box::into_inner(left);
+            let right = Box::into_inner(right);
+            if !reads_only(alloc, &left, &condition)? {
+                let term = left_joined(alloc, on, left, right)?;
+                return filtered(alloc, condition, term);
+            }
+            let path = step_down(alloc, trail, path, 20, Branch::First)?;
+            let left = sink(alloc, count, trail, path.as_slice(), condition, left)?;
+            left_joined(alloc, on, left, right)
         }
         Term::Raw { entry } => filtered(alloc, condition, Term::Raw { entry }),
         Term::Empty { entries } => filtered(alloc, condition, Term::Empty { entries }),

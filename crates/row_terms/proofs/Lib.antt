@@ -1,4 +1,5 @@
 pub mod Covered
+pub mod LeftOns
 pub mod NextEntry
 pub mod NullRows
 pub mod Ranges

@@ -1,5 +1,5 @@
 -- The term of a query as it is written.
-use Rattle.std.specs.Prelude.{ℕ, zero, suc, ◌-◌, List, [], ◌∷◌, length, map, filter}
+use Rattle.std.specs.Prelude.{ℕ, zero, suc, ◌-◌, List, [], ◌∷◌, length, map, filter, Option, option_to_list}
 use Rattle.expr.specs.Bound.{BoundExpr}
 use Rattle.expr.specs.BoundQuery.{BoundQuery}
 use Rattle.expr.specs.Movable.{movable}
@@ -26,6 +26,10 @@ left_joins first (on ∷ ons) x = left_joins (suc first) ons (LeftJoined on x (g
 abbrev pub filters : List BoundExpr → Term → Term
 filters [] x = x
 filters (e ∷ es) x = filters es (Filtered e x)
+
+-- an ON without its offsets, if it is there and cannot fault
+abbrev pub left_condition_in : Option BoundExpr → List BoundExpr
+left_condition_in on = map without_offsets (filter movable (option_to_list on))
 
 -- the ONs of the left joined entries that cannot fault, as none of an admitted query can
 abbrev pub left_conditions : BoundQuery → List BoundExpr

@@ -1,7 +1,7 @@
 //! The term of a query as it is written.
 
-ghost use Rattle.std.specs.Prelude.{◌≡◌, ◌+◌, ◌<◌, ◌^◌, ◌++◌, IfOk, OnOk, filter, length, map, option_map, option_to_list, true};
-ghost use Rattle.std.specs.List.{list_all};
+ghost use Rattle.std.specs.Prelude.{◌≡◌, ◌+◌, ◌<◌, ◌^◌, ◌++◌, IfOk, OnOk, length, map, option_map, true};
+ghost use Rattle.std.specs.List.{flat_map, list_all};
 ghost use Rattle.expr.specs.Movable.{movable};
 ghost use Rattle.expr.specs.View.{bound_expr_of, bound_query_of};
 ghost use Rattle.predicates.specs.Offsets.{without_offsets};
@@ -86,7 +86,7 @@ fn push_left_condition<A: Heap>(
     known: &mut Items<MovableExpr<A>, A>,
     condition: &BoundCondition<A>,
 ) -> Result<(), AllocError>
-    ensures { OnOk result (known.new ≡ known.old ++ map without_offsets (filter movable (option_to_list (option_map (λ b. bound_expr_of b.value) condition.now)))) }
+    ensures { OnOk result (known.new ≡ known.old ++ spec.left_condition_in (option_map (λ b. bound_expr_of b.value) condition.now)) }
 {
     let Some(on) = condition else {
         return Ok(());
@@ -96,6 +96,20 @@ fn push_left_condition<A: Heap>(
     }
     law_offsets_keep_value();
     known.push(MovableExpr::of_movable(copy_without_offsets(alloc, on)?))
+}
+
+// Adds those of several entries.
+fn push_left_conditions<A: Heap>(
+    alloc: A,
+    known: &mut Items<MovableExpr<A>, A>,
+    conditions: &[BoundCondition<A>],
+) -> Result<(), AllocError>
+    ensures { OnOk result (known.new ≡ known.old ++ flat_map spec.left_condition_in (map (λ o. option_map (λ b. bound_expr_of b.value) o) conditions.now)) }
+{
+    for condition in conditions {
+        push_left_condition(alloc, known, condition)?;
+    }
+    Ok(())
 }
 
 // The ONs of the left joined entries without their offsets, those that cannot fault.
@@ -108,9 +122,7 @@ fn left_conditions<A: Heap>(
     let ons = query.ons.as_slice();
     let inner = ons.len().saturating_sub(query.left_count);
     let mut known = Items::new(alloc);
-    for condition in &ons[inner..] {
-        push_left_condition(alloc, &mut known, condition)?;
-    }
+    push_left_conditions(alloc, &mut known, &ons[inner..])?;
     Ok(known)
 }
 

@@ -2,7 +2,7 @@
 use Rattle.std.specs.Prelude.{◌≡◌, ℕ, Bool, true, false, ◌==◌, ◌&&◌, List, [], ◌∷◌}
 use Rattle.predicates.specs.Operands.{Decides}
 use Rattle.predicates.specs.Same.{same}
-use Rattle.row_terms.specs.Terms.{Term, Raw, Guarded, Filtered, Joined, Empty}
+use Rattle.row_terms.specs.Terms.{Term, Raw, Guarded, Filtered, Joined, LeftJoined, Empty}
 
 -- the same entries in the same order
 abbrev pub same_entries : List ℕ → List ℕ → Bool
@@ -15,6 +15,7 @@ same_term (Raw i) (Raw j) = i == j
 same_term (Guarded i x) (Guarded j y) = (i == j) && same_term x y
 same_term (Filtered e x) (Filtered f y) = same e f && same_term x y
 same_term (Joined x y) (Joined u v) = same_term x u && same_term y v
+same_term (LeftJoined e x y) (LeftJoined f u v) = same e f && (same_term x u && same_term y v)
 same_term (Empty is) (Empty js) = same_entries is js
 same_term _ _ = false
 

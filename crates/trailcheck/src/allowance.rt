@@ -34,6 +34,8 @@ fn below<'t, A: Heap>(term: &'t Term<A>, branch: Branch) -> Option<&'t Term<A>> 
         (Branch::First, Term::Filtered { input, .. }) => Some(input),
         (Branch::First, Term::Joined { left, .. }) => Some(left),
         (Branch::Second, Term::Joined { right, .. }) => Some(right),
+        (Branch::First, Term::LeftJoined { left, .. }) => Some(left),
+        (Branch::Second, Term::LeftJoined { right, .. }) => Some(right),
         _ => None,
     }
 }

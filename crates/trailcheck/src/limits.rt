@@ -8,7 +8,7 @@ use memory::Heap;
 use row_terms::Term;
 
 /// The most steps of a trail.
-pub(crate) const MOST_STEPS: u64 = 4096;
+pub(crate) const MOST_STEPS: u64 = 16384;
 
 const MOST_NODES: u64 = 4096;
 
@@ -21,6 +21,10 @@ fn less_nodes<A: Heap>(number: u64, term: &Term<A>) -> u64
         Term::Guarded { input, .. } => less_nodes(number, input).saturating_sub(1),
         Term::Filtered { input, .. } => less_nodes(number, input).saturating_sub(1),
         Term::Joined { left, right } => {
+            let rest = less_nodes(number, left);
+            less_nodes(rest, right).saturating_sub(1)
+        }
+        Term::LeftJoined { left, right, .. } => {
             let rest = less_nodes(number, left);
             less_nodes(rest, right).saturating_sub(1)
         }

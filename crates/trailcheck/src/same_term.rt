@@ -48,6 +48,17 @@ pub fn is_same_term<A: Heap>(one: &Term<A>, other: &Term<A>) -> bool
                 right: next,
             },
         ) => { is_same_term(left, other) && is_same_term(right, next) }
+        (
+            Term::LeftJoined { on, left, right },
+            Term::LeftJoined {
+                on: other_on,
+                left: other,
+                right: next,
+            },
+        ) => {
+            is_same(on.expression(), other_on.expression())
+                && (is_same_term(left, other) && is_same_term(right, next))
+        }
         (Term::Empty { entries }, Term::Empty { entries: others }) => {
             are_same_entries(entries.as_slice(), others.as_slice())
         }

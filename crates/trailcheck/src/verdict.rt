@@ -3,7 +3,7 @@
 /// A reason for which a trail is refused, with its number.
 #[derive(Clone, Copy, Debug, PartialEq, Eq)]
 pub enum Reason {
-    /// 1: the trail has more than 4096 steps, or a step makes a term of more than 4096 nodes.
+    /// 1: the trail has more than 16384 steps, or a step makes a term of more than 4096 nodes.
     Limit,
     /// 2: the path leads to no node.
     NoNode,

@@ -30,6 +30,6 @@ invariant_of-result g c =
       cost = known;
       best = c.law_least_is_best.ensures problem code admissible (subst (λ n. IsLeast problem n code) known least);
       steps = refl;
-      accepted = laws.accepted at q code c.requires.conditions few c.requires.conjuncts admissible;
+      accepted = laws.accepted at q code c.requires.joins c.requires.conditions few c.requires.conjuncts admissible;
       short = laws.short at q code c.requires.conditions few c.requires.conjuncts admissible;
     }
