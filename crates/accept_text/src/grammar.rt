@@ -352,9 +352,15 @@ static LEFT_JOINS: [Row; 22] = [
     ),
     ("SELECT a FROM t LEFT JOIN u ON a, v", Err(32)),
     ("SELECT a FROM t LEFT JOIN u ON a JOIN v ON b", Err(33)),
-    ("SELECT a FROM t LEFT JOIN u ON a INNER JOIN v ON b", Err(33)),
+    (
+        "SELECT a FROM t LEFT JOIN u ON a INNER JOIN v ON b",
+        Err(33),
+    ),
     ("SELECT a FROM t LEFT JOIN u ON a CROSS JOIN v", Err(33)),
-    ("SELECT a FROM t LEFT JOIN u ON a RIGHT JOIN v ON b", Err(33)),
+    (
+        "SELECT a FROM t LEFT JOIN u ON a RIGHT JOIN v ON b",
+        Err(33),
+    ),
     ("SELECT a FROM t LEFT JOIN u ON a FULL JOIN v ON b", Err(33)),
     ("SELECT a FROM t LEFT JOIN u", Err(27)),
     ("SELECT a FROM t LEFT JOIN u USING (a)", Err(28)),
@@ -497,7 +503,9 @@ static LONGEST_FRONTS: [Row; 15] = [
 static PLACED: [Row; 16] = [
     (
         "SELECT a FROM t LEFT JOIN u ON b = c LEFT OUTER JOIN v AS w ON d",
-        Ok("SELECT a@7 FROM t@14 LEFT JOIN u@26 ON@31 (b@31 =@33 c@35) LEFT JOIN v@53 AS w ON@63 d@63"),
+        Ok(
+            "SELECT a@7 FROM t@14 LEFT JOIN u@26 ON@31 (b@31 =@33 c@35) LEFT JOIN v@53 AS w ON@63 d@63",
+        ),
     ),
     (
         "SELECT a + b * c FROM t",

@@ -220,13 +220,19 @@ static RUNS: [Group; 6] = [
             (LEFT_ON, ("", "a", " AND a"), 60, PAST),
             // The last of them is a conjunct of a left join.
             (
-                ("SELECT a FROM t LEFT JOIN u ON b LEFT JOIN v ON ", " WHERE c AND d"),
+                (
+                    "SELECT a FROM t LEFT JOIN u ON b LEFT JOIN v ON ",
+                    " WHERE c AND d",
+                ),
                 ("", "a", " AND a"),
                 60,
                 None,
             ),
             (
-                ("SELECT a FROM t LEFT JOIN u ON b LEFT JOIN v ON ", " WHERE c AND d"),
+                (
+                    "SELECT a FROM t LEFT JOIN u ON b LEFT JOIN v ON ",
+                    " WHERE c AND d",
+                ),
                 ("", "a", " AND a"),
                 61,
                 PAST,

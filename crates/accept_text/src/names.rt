@@ -44,7 +44,7 @@ static NEEDED: [(&str, &str); 15] = [
     ),
     (
         "SELECT d.id FROM deal d LEFT JOIN region r ON TRUE LEFT JOIN note n ON d.id = 1",
-        "deal.id deal.id region note ",
+        "deal.id region note deal.id ",
     ),
     (
         "SELECT a.id FROM deal a CROSS JOIN deal b, note",

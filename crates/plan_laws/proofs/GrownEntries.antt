@@ -1,5 +1,5 @@
 -- The entries of a query, which the grammar made: their aliases and the conditions of their ON.
-use Rattle.std.proofs.Common.{◌≡◌, ℕ, ◌+◌, Bool, true, false, cond, List, [], ◌∷◌, ◌++◌, length, map, Option, Some, None, Result, Ok, Err, ap, subst, ◌∙◌}
+use Rattle.std.proofs.Common.{◌≡◌, ℕ, ◌+◌, Bool, true, false, cond, List, [], ◌∷◌, ◌++◌, length, map, Option, Some, None, Ok, Err, ap, subst, ◌∙◌}
 use Rattle.memory.specs.Results.{first_then}
 use Rattle.memory.proofs.Cases.{ok_is}
 use Rattle.value.specs.declared.refusal.Refusal.TheVariants as r
@@ -7,7 +7,6 @@ use Rattle.value.specs.Names.{Name}
 use Rattle.row_ast.specs.Ast as ast
 use Rattle.row_objects.specs.Objects.{Table}
 use Rattle.catalog.specs.Catalog.{Catalog, table_named}
-use Rattle.scope.specs.declared.error.BindError.{BindError}
 use Rattle.scope.specs.Entry.{Entry, fault}
 use Rattle.scope.proofs.Found.{first_given}
 use Rattle.resolve.specs.Entries.{JoinedTable, alias_of, alias_or, entries, entries_in, entry_in, found_entry, is_used, item_tables, joined, joined_by, last_first, left_table, tables_of}

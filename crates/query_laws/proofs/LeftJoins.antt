@@ -1,9 +1,8 @@
 -- The left joins of a query that is bound.
-use Rattle.std.proofs.Common.{◌≡◌, ◌<◌, ◌≤◌, ℕ, zero, suc, ◌+◌, ◌-◌, Bool, true, false, ◌&&◌, not, if◌then◌else◌, cond, List, [], ◌∷◌, ◌++◌, length, length-append, map, drop, ⊤, Option, Some, None, Result, Ok, Err, refl, sym, ap, subst, ◌∙◌, arith}
-use Rattle.std.specs.Prelude.{nat_lt, option_map, option_to_list}
+use Rattle.std.proofs.Common.{◌≡◌, ◌<◌, ◌≤◌, ℕ, zero, suc, ◌+◌, ◌-◌, Bool, true, false, ◌&&◌, not, if◌then◌else◌, cond, List, [], ◌∷◌, ◌++◌, length, length-append, map, drop, Option, Some, None, Ok, Err, refl, sym, ap, subst, ◌∙◌, arith}
+use Rattle.std.specs.Prelude.{⊤, nat_lt, option_map, option_to_list}
 use Rattle.std.specs.List.{All, flat_map, slice_get}
 use Rattle.std.proofs.lemmas.Bool.{ltb-true}
-use Rattle.std.proofs.lemmas.List.{drop-length-append}
 use Rattle.std.proofs.lemmas.List.Elements.{All-cons, All-nil, All-weaker}
 use Rattle.memory.specs.Results.{first_then}
 use Rattle.memory.proofs.Cases.{ok_is, some_is}
@@ -18,8 +17,7 @@ use Rattle.expr.specs.Conjuncts.{left_ons}
 use Rattle.expr.specs.Fragile.{first_fragile}
 use Rattle.expr.specs.Movable.{movable}
 use Rattle.expr.specs.Offsets.{least_of, least_of_all}
-use Rattle.expr.proofs.Fragile.{none_is_movable}
-use Rattle.scope.specs.declared.error.BindError.{BindError}
+use Rattle.expr.proofs.NoneFragile.{none_is_movable}
 use Rattle.scope.specs.declared.lookup.Scope.{Scope}
 use Rattle.scope.specs.Entry.{Entry, fault}
 use Rattle.scope.specs.Lookup.{find_column, match_in, matches, means_some, on_scope}
@@ -82,7 +80,7 @@ module _ (cat : Catalog) (first : ℕ) where
       let rest = first_given (Ok step.0) (entries_in cat (before ++ step.0 ∷ []) (map (left_table first) ls)) es step.2 in
       let same : step.0 ∷ rest.1 ≡ es = ap (λ (e : Entry). e ∷ rest.1) (ok_is step.0 rest.0 rest.2) ∙ rest.4 in
       let later = have_ons (before ++ step.0 ∷ []) ls rest.1 rest.3 in
-      subst (λ (es : List Entry). (length es ≡ length (l ∷ ls)) × HaveOns es) same (ap suc later.0, l.on_, on_kept before (left_table first l) step.0 _ step.1, later.1)
+      subst (λ (es : List Entry). (length es ≡ length (l ∷ ls)) × HaveOns es) same (ap suc later.0, (l.on_, on_kept before (left_table first l) step.0 _ step.1, later.1))
 
   -- those of comma items, and then those of left joins
   abbrev Parted : List JoinedTable → List ast.LeftJoin → List Entry → Type 0
