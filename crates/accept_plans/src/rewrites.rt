@@ -186,8 +186,10 @@ root | SELECT a.id FROM deal a LEFT JOIN region r ON a.region = r.id LEFT JOIN r
 root | SELECT a.id FROM deal a LEFT JOIN region r ON a.region = r.id LEFT JOIN region s ON r.id = s.id WHERE r.id = 1 | 20 ., 19 0 | ([(1.0 = 1)] [(0.2 = 1.0)] (G0 R0 * G1 R1) + [(1.0 = 2.0)] G2 R2)
 root | SELECT a.id FROM deal a LEFT JOIN region r ON a.region = r.id LEFT JOIN region s ON r.id = s.id WHERE s.id = 1 | 19 . | [(2.0 = 1)] [(1.0 = 2.0)] ((G0 R0 + [(0.2 = 1.0)] G1 R1) * G2 R2)
 root | SELECT a.id FROM deal a LEFT JOIN region r ON a.region = r.id LEFT JOIN region s ON r.id = s.id WHERE s.id = r.id | 20 . | 1: 4
-root | SELECT a.id FROM deal a, region r LEFT JOIN region s ON a.region = s.id |  | ((G0 R0 * G1 R1) + [(0.2 = 2.0)] G2 R2)
-root | SELECT a.id FROM deal a, region r LEFT JOIN region s ON a.region = s.id | 6 0 | ((G1 R1 * G0 R0) + [(0.2 = 2.0)] G2 R2)
+root | SELECT a.id FROM deal a, region r LEFT JOIN region s ON r.id = s.id |  | ((G0 R0 * G1 R1) + [(1.0 = 2.0)] G2 R2)
+root | SELECT a.id FROM deal a, region r LEFT JOIN region s ON r.id = s.id | 6 0 | ((G1 R1 * G0 R0) + [(1.0 = 2.0)] G2 R2)
+root | SELECT a.id FROM deal a, region r LEFT JOIN region s ON r.id = s.id | 6 . | 1: 3
+root | SELECT a.id FROM deal a, region r LEFT JOIN region s ON r.id = s.id WHERE a.id = 1 | 6 00 | [(0.0 = 1)] ((G1 R1 * G0 R0) + [(1.0 = 2.0)] G2 R2)
 root | ONE | 0 . | 1: 3
 root | ONE | 19 . | 1: 3
 root | ONE | 20 . | 1: 3
