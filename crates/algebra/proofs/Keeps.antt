@@ -60,7 +60,7 @@ left_join-second w on x y z m h = (
       (and_from (is_movable_term x) (is_movable_term z) (and_left (is_movable_term x) (is_movable_term y) (and_right (movable on) (is_movable_term x && is_movable_term y) m)) h.0),
   λ i b. ap (λ c. covers x i || c) (h.1 i b),
   subst (λ is. SameSums (mean w (LeftJoined on x y)) (left_product union (passes w on) (null_rows is) (mean w x) (mean w z))) (same_entries (length w.tables) y z h.1)
-  (SameSums-left_product union (passes w on) (null_rows (entries_in (length w.tables) y)) (mean w x) (mean w x) (mean w y) (mean w z) (λ f. refl) h.2),
+      (SameSums-left_product union (passes w on) (null_rows (entries_in (length w.tables) y)) (mean w x) (mean w x) (mean w y) (mean w z) (λ f. refl) h.2),
 )
 
 pub at_node-keeps : (w : World) (f : Term → Outcome) → ((x : Term) → is_movable_term x ≡ true → Keeps w x (f x)) → (path : List Branch) (x : Term) → is_movable_term x ≡ true → Keeps w x (at_node f path x)

@@ -190,12 +190,12 @@ tables_joined q =
 parts_kept : (grouped : Bool) (lefts : ℕ) (limit : Option ℕ) (items : Result (List BoundItem) BindError) (ons : Result (List (Option BoundExpr)) BindError)
     (filter : Result (Option BoundExpr) BindError) (group_by : Result (List ColumnId) BindError) (having : Result (Option BoundExpr) BindError) (b : BoundQuery)
     → bound_parts grouped lefts limit items ons filter group_by having ≡ Ok b → (ons ≡ Ok b.ons) × (filter ≡ Ok b.filter)
-parts_kept grouped limit (Err fault) ons filter group_by having b e = absurd (cc)
-parts_kept grouped limit (Ok items) (Err fault) filter group_by having b e = absurd (cc)
-parts_kept grouped limit (Ok items) (Ok ons) (Err fault) group_by having b e = absurd (cc)
-parts_kept grouped limit (Ok items) (Ok ons) (Ok filter) (Err fault) having b e = absurd (cc)
-parts_kept grouped limit (Ok items) (Ok ons) (Ok filter) (Ok group_by) (Err fault) b e = absurd (cc)
-parts_kept grouped limit (Ok items) (Ok ons) (Ok filter) (Ok group_by) (Ok having) b e =
+parts_kept grouped lefts limit (Err fault) ons filter group_by having b e = absurd (cc)
+parts_kept grouped lefts limit (Ok items) (Err fault) filter group_by having b e = absurd (cc)
+parts_kept grouped lefts limit (Ok items) (Ok ons) (Err fault) group_by having b e = absurd (cc)
+parts_kept grouped lefts limit (Ok items) (Ok ons) (Ok filter) (Err fault) having b e = absurd (cc)
+parts_kept grouped lefts limit (Ok items) (Ok ons) (Ok filter) (Ok group_by) (Err fault) b e = absurd (cc)
+parts_kept grouped lefts limit (Ok items) (Ok ons) (Ok filter) (Ok group_by) (Ok having) b e =
     let same = ok_is (record { items = items; ons = ons; left_count = lefts; filter = filter; group_by = group_by; having = having; is_grouped = grouped; order_by = []; limit = limit }) b e in
     (ap (λ b. Ok b.ons) same, ap (λ b. Ok b.filter) same)
 

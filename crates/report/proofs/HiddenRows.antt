@@ -1,5 +1,5 @@
 -- The answer is a function of the bags of the rows of each entry, restricted to the columns that the query names.
-use Rattle.std.proofs.Common.{◌≡◌, Bool, true, false, List, [], ◌∷◌, map, filter, refl, sym, ap, ap₂, ◌∙◌, Option, Some, None, Result, Ok, Err}
+use Rattle.std.proofs.Common.{◌≡◌, Bool, true, false, List, [], ◌∷◌, map, refl, sym, ap, ap₂, ◌∙◌, Option, Some, None, Result, Ok, Err}
 use Rattle.std.specs.List.{filter_map}
 use Rattle.bags.specs.Least.{least}
 use Rattle.bags.proofs.Bags.{SameSums-filter}

@@ -136,7 +136,6 @@ module _ (count : ℕ) where
       go true c h k = let d = length-down First (sinking count e x) in omega (arith, d)
       go false true h k = let d = length-down Second (sinking count e y) in omega (arith, d)
       go false false h k = omega arith
-
   sinking_short e (LeftJoined on x y) = go (reads_only x e) (sinking_short e x)
     where
       go : (b : Bool) → length (sinking count e x) ≤ height x → length (if b then at_root 20 ∷ all_down First (sinking count e x) else []) ≤ suc (max (height x) (height y))
@@ -159,7 +158,6 @@ module _ (count : ℕ) where
       go true c h k = omega arith
       go false true h k = omega arith
       go false false h k = omega arith
-
   sunk_high e (LeftJoined on x y) = go (reads_only x e) (sunk_high e x)
     where
       go : (b : Bool) → height (sunk count e x) ≤ suc (height x) → height (if b then LeftJoined on (sunk count e x) y else Filtered e (LeftJoined on x y)) ≤ suc (suc (max (height x) (height y)))

@@ -34,7 +34,6 @@ module _ (frame : List Guard) (count : ℕ) where
           ap (λ m. and_then (where_met m (Joined x (Filtered e y))) (led frame (all_down Second (sinking count e y)))) q
           ∙ led_right frame x (sinking count e y) (Filtered e y) (sunk count e y) k
       at false false p q h k = refl
-
   sinks e (LeftJoined on x y) = at (reads_only x e) refl (sinks e x)
     where
       at : (b : Bool) → reads_only x e ≡ b → led frame (sinking count e x) (Filtered e x) ≡ Ok (sunk count e x) →

@@ -177,7 +177,6 @@ module _ (count : ℕ) where
       go true c h k = (small_root 4 (omega arith), small_all First (sinking count e x) h)
       go false true h k = (small_root 5 (omega arith), small_all Second (sinking count e y) k)
       go false false h k = tt
-
   sinking_small e (LeftJoined on x y) = go (reads_only x e) (sinking_small e x)
     where
       go : (b : Bool) → AreSmall (sinking count e x) → AreSmall (if b then at_root 20 ∷ all_down First (sinking count e x) else [])

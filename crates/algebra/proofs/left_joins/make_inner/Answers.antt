@@ -1,6 +1,6 @@
-use Rattle.std.proofs.Common.{rules, ◌≡◌, ◌∙◌, sym, ap, Bool, true, false}
+use Rattle.std.proofs.Common.{rules, ◌∙◌, sym, ap}
 use Rattle.predicates.specs.NullRows.{rejects_null_rows}
-use Rattle.row_terms.specs.Terms.{Filtered, Joined, LeftJoined, covers}
+use Rattle.row_terms.specs.Terms.{Filtered, covers}
 use Rattle.row_terms.specs.View.{term_of}
 use Rattle.algebra.proofs.Inner.{unmet, met}
 use Rattle.algebra.proofs.left_joins.make_inner.Goals as goal

@@ -2,7 +2,7 @@ use Rattle.std.proofs.Common.{◌≡◌, ◌∙◌, ℕ, Bool, true, false, List
 use Rattle.expr.specs.Bound.{BoundExpr}
 use Rattle.row_terms.specs.declared.path.Branch.{Branch}
 use Rattle.row_terms.specs.declared.path.Branch.TheVariants.{First, Second}
-use Rattle.row_terms.specs.Terms.{Term, Guarded, Filtered, Joined}
+use Rattle.row_terms.specs.Terms.{Term, Guarded, Filtered, Joined, LeftJoined}
 use Rattle.row_terms.specs.View.{term_of}
 use Rattle.algebra.specs.Runs.{reads_only}
 use Rattle.algebra.specs.Steps.{Step}
@@ -31,6 +31,10 @@ module _ (count : ℕ) (e : BoundExpr) where
     right_is c d h right k =
         ap (sinking count e) is
         ∙ ap₂ (λ m n. if m then at_root 4 ∷ all_down First (sinking count e x) else if n then at_root 5 ∷ all_down Second (sinking count e y) else []) (sym left ∙ h) (sym right ∙ k)
+
+  module _ (on : BoundExpr) (x y t : Term) (b c : Bool) (is : t ≡ LeftJoined on x y) (left : b ≡ reads_only x e) where
+    kept_is : b ≡ c → sinking count e t ≡ (if c then at_root 20 ∷ all_down First (sinking count e x) else [])
+    kept_is h = ap (sinking count e) is ∙ ap (λ m. if m then at_root 20 ∷ all_down First (sinking count e x) else []) (sym left ∙ h)
 
 -- ---- the trail
 
@@ -80,6 +84,21 @@ returns-in_ok-term-in-Joined-clause-steps g t c =
     (right_is c.args.count c.args.condition (term_of c.into_inner-left.result) (term_of c.into_inner-right.result) (term_of c.args.term) c.in_ok-reads_only-in-Joined.field-0
     (ap term_of c.in-Joined.is ∙ ap₂ (λ x y. Joined (term_of x) (term_of y)) (sym c.into_inner-left.ensures) (sym c.into_inner-right.ensures)) c.in_ok-reads_only-in-Joined.ensures
     c.in_ok-reads_only-in-Joined-2.field-0 false c.if-branch.false c.in_ok-reads_only-in-Joined-2.ensures c.if-branch-2.false)
+
+pub returns-then-not-branch-2-clause-steps : goal.returns-then-not-branch-2-clause-steps
+returns-then-not-branch-2-clause-steps g t c =
+    none_added_ok c.filtered-then-not-branch-2.result c.args.path.now (map step_of c.args.trail.now) _
+    (kept_is c.args.count c.args.condition c.in-LeftJoined.on (term_of c.into_inner-left-in-LeftJoined.result) (term_of c.into_inner-right-in-LeftJoined.result) (term_of c.args.term) c.in_ok-reads_only-in-LeftJoined.field-0 false
+    (ap term_of c.in-LeftJoined.is ∙ ap₂ (λ x y. LeftJoined c.in-LeftJoined.on (term_of x) (term_of y)) (sym c.into_inner-left-in-LeftJoined.ensures) (sym c.into_inner-right-in-LeftJoined.ensures))
+    c.in_ok-reads_only-in-LeftJoined.ensures (search rules))
+
+pub returns-in_ok-left-in-LeftJoined-clause-steps : goal.returns-in_ok-left-in-LeftJoined-clause-steps
+returns-in_ok-left-in-LeftJoined-clause-steps g t c =
+    moves c.left_joined-in-LeftJoined.result c.args.path.now (map step_of c.args.trail.now) _ 20 First _ (map step_of c.step_down-in-LeftJoined.new.trail) (map step_of c.sink-in-LeftJoined.new.trail) c.in_ok-path-in-LeftJoined.path c.as_slice-in-LeftJoined.result.now
+    c.in_ok-path-in-LeftJoined.ensures.step c.in_ok-path-in-LeftJoined.ensures.path c.as_slice-in-LeftJoined.ensures c.in_ok-left-in-LeftJoined.ensures.steps
+    (kept_is c.args.count c.args.condition c.in-LeftJoined.on (term_of c.into_inner-left-in-LeftJoined.result) (term_of c.into_inner-right-in-LeftJoined.result) (term_of c.args.term) c.in_ok-reads_only-in-LeftJoined.field-0 true
+    (ap term_of c.in-LeftJoined.is ∙ ap₂ (λ x y. LeftJoined c.in-LeftJoined.on (term_of x) (term_of y)) (sym c.into_inner-left-in-LeftJoined.ensures) (sym c.into_inner-right-in-LeftJoined.ensures))
+    c.in_ok-reads_only-in-LeftJoined.ensures (search rules))
 
 pub returns-in-Raw-clause-steps : goal.returns-in-Raw-clause-steps
 returns-in-Raw-clause-steps g t c = none_added_ok c.filtered-in-Raw.result c.args.path.now (map step_of c.args.trail.now) _ (ap (λ x. sinking c.args.count c.args.condition (term_of x)) c.in-Raw.is)
