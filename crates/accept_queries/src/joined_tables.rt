@@ -738,6 +738,102 @@ id,other
 4,2
 ";
 
+// Left joins that are refused or denied.
+const LEFT: &str = "-- a_left_join_goes_on
+alice: SELECT d.id FROM deal d LEFT region r ON TRUE
+3
+refused 42601 at 29
+
+alice: SELECT d.id FROM deal d LEFT JOIN region r
+3
+refused 42601 at 42
+
+alice: SELECT d.id FROM deal d LEFT OUTER region r ON TRUE
+3
+refused 42601 at 35
+
+alice: SELECT d.id FROM deal d OUTER JOIN region r ON TRUE
+3
+refused 42601 at 24
+
+alice: SELECT d.id FROM deal d RIGHT JOIN region r ON TRUE
+3
+refused 42601 at 24
+
+alice: SELECT d.id FROM deal d LEFT JOIN region r USING (id)
+3
+refused 42601 at 43
+
+-- left_joins_come_last
+alice: SELECT d.id FROM deal d LEFT JOIN region r ON d.region = r.id, region s
+3
+refused 42601 at 61
+
+alice: SELECT d.id FROM deal d LEFT JOIN region ON d.region = region.id JOIN region s ON TRUE
+3
+refused 42601 at 65
+
+-- names_of_left_joins
+alice: SELECT d.id FROM deal d LEFT JOIN deal d ON TRUE
+3
+refused 42712 at 34
+
+alice: SELECT d.id FROM deal d LEFT JOIN region r ON s.id = r.id LEFT JOIN region s ON TRUE
+3
+refused 42P01 at 46
+
+alice: SELECT d.id FROM region s, deal d LEFT JOIN region r ON s.id = r.id
+3
+refused 42P01 at 56
+
+alice: SELECT d.id FROM deal d LEFT JOIN region r ON CAST(d.id AS text) = r.name ORDER BY nosuch
+3
+refused 42703 at 83
+
+-- an_on_of_a_left_join_is_a_condition
+alice: SELECT d.id FROM deal d LEFT JOIN region r ON d.id + 1
+3
+refused 42804 at 46
+
+alice: SELECT d.id FROM deal d LEFT JOIN region r ON count(*) = 1
+3
+refused 42803 at 46
+
+-- an_on_of_a_left_join_may_not_fault
+alice: SELECT d.id FROM deal d LEFT JOIN region r ON d.amount/d.parts = r.id
+3
+refused 0A000 at 54
+
+alice: SELECT d.id FROM deal d LEFT JOIN region r ON -d.id = r.id AND CAST(r.name AS bigint) = 1
+3
+refused 0A000 at 46
+
+-- what_may_fault_comes_before_grants
+lone: SELECT d.id FROM deal d LEFT JOIN region r ON d.amount/d.parts = r.id
+3
+refused 0A000 at 54
+
+-- grants_of_left_joins
+lone: SELECT r.id FROM region r LEFT JOIN deal d ON TRUE
+4
+denied 42501 table deal
+
+-- columns_of_left_joins_need_grants
+guest: SELECT * FROM region r LEFT JOIN deal d ON r.id = d.id
+4
+denied 42501 column owner of table deal
+
+-- entries_of_left_joins_are_limited
+audit: SELECT count(*) FROM region a LEFT JOIN region b1 ON FALSE LEFT JOIN region b2 ON FALSE LEFT JOIN region b3 ON FALSE LEFT JOIN region b4 ON FALSE LEFT JOIN region b5 ON FALSE LEFT JOIN region b6 ON FALSE LEFT JOIN region b7 ON FALSE LEFT JOIN region b8 ON FALSE
+3
+refused 54000
+
+-- conjuncts_of_left_joins_are_limited
+audit: SELECT count(*) FROM region a LEFT JOIN region b ON a.id = b.id AND a.id = b.id AND a.id = b.id AND a.id = b.id AND a.id = b.id AND a.id = b.id AND a.id = b.id AND a.id = b.id AND a.id = b.id AND a.id = b.id AND a.id = b.id AND a.id = b.id AND a.id = b.id AND a.id = b.id AND a.id = b.id AND a.id = b.id AND a.id = b.id AND a.id = b.id AND a.id = b.id AND a.id = b.id AND a.id = b.id AND a.id = b.id AND a.id = b.id AND a.id = b.id AND a.id = b.id AND a.id = b.id AND a.id = b.id AND a.id = b.id AND a.id = b.id AND a.id = b.id AND a.id = b.id AND a.id = b.id AND a.id = b.id WHERE a.id > 0 AND a.id > 0 AND a.id > 0 AND a.id > 0 AND a.id > 0 AND a.id > 0 AND a.id > 0 AND a.id > 0 AND a.id > 0 AND a.id > 0 AND a.id > 0 AND a.id > 0 AND a.id > 0 AND a.id > 0 AND a.id > 0 AND a.id > 0 AND a.id > 0 AND a.id > 0 AND a.id > 0 AND a.id > 0 AND a.id > 0 AND a.id > 0 AND a.id > 0 AND a.id > 0 AND a.id > 0 AND a.id > 0 AND a.id > 0 AND a.id > 0 AND a.id > 0 AND a.id > 0 AND a.id > 0 AND a.id > 0
+3
+refused 54000
+";
+
 #[test]
 fn two_entries_are_joined(rt: HostRuntime) -> Result<(), Fail> {
     passes(rt.alloc(), TWO)
@@ -781,4 +877,9 @@ fn policies_of_each_entry_decide(rt: HostRuntime) -> Result<(), Fail> {
 #[test]
 fn rows_of_each_entry_decide(rt: HostRuntime) -> Result<(), Fail> {
     passes(rt.alloc(), OTHER_ROWS)
+}
+
+#[test]
+fn left_joins_are_refused_and_denied(rt: HostRuntime) -> Result<(), Fail> {
+    passes(rt.alloc(), LEFT)
 }
