@@ -200,11 +200,7 @@ fn names_that_are_in_use_or_unknown(rt: HostRuntime) -> Result<(), Fail> {
 
 #[test]
 fn texts_are_refused_at_their_offset(rt: HostRuntime) -> Result<(), Fail> {
-    Ok(run(&rt, OFFSETS)?)
-}
-
-#[test]
-fn left_joins_are_refused(rt: HostRuntime) -> Result<(), Fail> {
+    run(&rt, OFFSETS)?;
     Ok(run(&rt, LEFT_JOINS)?)
 }
 
