@@ -1,5 +1,5 @@
 -- The combinations of the shape of a plan are those of the written term.
-use Rattle.std.proofs.Common.{◌≡◌, ◌∙◌, refl, sym, ap, subst, ℕ, zero, suc, ◌-◌, true, List, [], ◌∷◌, ◌++◌, map, filter, length, Ok, Err}
+use Rattle.std.proofs.Common.{◌≡◌, ◌∙◌, refl, sym, ap, subst, ℕ, zero, suc, ◌-◌, true, List, [], ◌∷◌, ◌++◌, map, filter, length, Ok, Err, arith}
 use Rattle.std.specs.List.Sorted.{IsPermutation}
 use Rattle.std.proofs.lemmas.List.Sorted.{IsPermutation-refl, IsPermutation-trans}
 use Rattle.memory.specs.Results.{and_then}
@@ -46,7 +46,7 @@ filters_movable kept (e ∷ es) h x m = filters_movable kept es h.1 (Filtered (w
 
 -- a query without left joins has joins alone
 pub joins_alone : (n : ℕ) (q : BoundQuery) → left_ons q ≡ [] → all_joins n (left_conditions q) ≡ joins n
-joins_alone n q none = ap (λ lefts. all_joins n (map without_offsets (filter movable lefts))) none
+joins_alone n q none = let all : n - 0 ≡ n = omega arith in ap (λ lefts. all_joins n (map without_offsets (filter movable lefts))) none ∙ ap joins all
 
 written_movable : OffsetsKeepValue → (n : ℕ) (q : BoundQuery) → left_ons q ≡ [] → is_movable_term (written n q) ≡ true
 written_movable kept n q none = filters_movable kept (movable_conjuncts q) (each-passes movable (conjuncts q)) (all_joins n (left_conditions q)) (ap is_movable_term (joins_alone n q none) ∙ joins_movable n)
