@@ -1,9 +1,9 @@
 //! Explaining: the text of the plan by which a query is answered.
 
-ghost use Rattle.std.specs.Prelude.{◌≡◌, ◌≢◌, ◌<◌, ◌≤◌, ℕ, List, IfOk, length, map, option_map, true};
+ghost use Rattle.std.specs.Prelude.{◌≡◌, ◌≢◌, ◌<◌, ◌≤◌, ℕ, List, [], IfOk, length, map, option_map, true};
 ghost use Rattle.value.specs.Names.{Name};
 ghost use Rattle.row_ast.specs.View.{expr_of, query_of};
-ghost use Rattle.expr.specs.Conjuncts.{movable_conjuncts};
+ghost use Rattle.expr.specs.Conjuncts.{left_ons, movable_conjuncts};
 ghost use Rattle.scope.specs.View.{entries_of};
 ghost use Rattle.catalog.specs.Catalog.{Catalog};
 ghost use Rattle.stats.specs.Statistics as stats;
@@ -119,6 +119,7 @@ fn best_text<A: Heap>(
     requires tables { AreTables store.now.catalog (bound_of bound.now).entries }
     requires few { length (bound_of bound.now).entries ≤ most_entries }
     requires conjuncts { length (movable_conjuncts (bound_of bound.now).query) ≤ most_conjuncts }
+    requires joins { left_ons (bound_of bound.now).query ≡ [] }
     ensures { IfOk result (λ text. text.items ≡ spec.best_text store.now.catalog role.now (bound_of bound.now) (map (λ e. known store.now.catalog role.now (statistics_in store.now) e.table) (bound_of bound.now).entries)) }
 {
     let entries = bound.entries.as_slice();

@@ -16,6 +16,9 @@ use Rattle.engine.proofs.Statistics.{as_many}
 use Rattle.engine.proofs.Steps.{as_long}
 use Rattle.engine.proofs.explaining.best_text.Goals as goal
 
+pub known_statistics-requires-clause-tables : goal.known_statistics-requires-clause-tables
+known_statistics-requires-clause-tables g c = rw c.as_slice-entries.ensures c.requires.tables
+
 pub new-requires-clause-each : goal.new-requires-clause-each
 new-requires-clause-each g c =
     let gathered = (rw (c.as_slice-entries.ensures, c.as_slice-frame.ensures) at c.in_ok-statistics.ensures) in
@@ -30,6 +33,9 @@ new-requires-clause-entries g c =
     let as_many = length-map c.args.bound.now.entries (λ e. entry_of e) in
     let few = c.requires.few in
     omega (arith, same, as_many, few)
+
+pub new-requires-clause-joins : goal.new-requires-clause-joins
+new-requires-clause-joins g c = rw c.deref-2.ensures c.requires.joins
 
 pub returns : goal.returns
 returns g c =

@@ -13,7 +13,7 @@ use Rattle.planning.specs.Wanted.{wanted_column}
 use Rattle.resolve.specs.View.{bound_of}
 use Rattle.engine.specs.Plans.{IsPlanFor, Plan}
 use Rattle.engine.proofs.Made.{is_made}
-use Rattle.engine.proofs.OfText.{text_conjuncts, text_few, text_tables}
+use Rattle.engine.proofs.OfText.{text_conjuncts, text_few, text_inner, text_tables}
 use Rattle.engine.proofs.Statistics.{as_many}
 use Rattle.engine.proofs.Steps.{as_long}
 use Rattle.engine.proofs.preparing.plan.Goals as goal
@@ -41,6 +41,9 @@ pub new-requires-clause-conjuncts : goal.new-requires-clause-conjuncts
 new-requires-clause-conjuncts g c =
     let few = text_conjuncts c.args.store.now.catalog c.args.role.now (bound_of c.args.bound.now) c.requires (λ text q is. (c.law_parsing_is_determined.ensures.query.found text q is).2) in
     rw c.deref.ensures few
+
+pub new-requires-clause-joins : goal.new-requires-clause-joins
+new-requires-clause-joins g c = rw c.deref.ensures (text_inner c.args.store.now.catalog c.args.role.now (bound_of c.args.bound.now) c.requires)
 
 pub new-requires-2 : goal.new-requires-2
 new-requires-2 g c =
