@@ -95,6 +95,7 @@ const REPLIES: &str = "\
 zed | ONE | cost 5;filter 1 (deal.id = 3);first deal full;trail;9 0; | 6 refused 42704
 zed | ONE |  | 6 refused 42704
 audit | SELECT | cost 5; | 3 refused 42601 at 6
+audit | SELECT d.id FROM deal d LEFT JOIN region r ON d.region = r.id | cost 5;first d full;nested r full;trail;9 00;9 01; | 3 refused 0A000
 audit | SELECT nosuch FROM deal | cost 5; | 3 refused 42703 at 7
 lone | SELECT count(*) FROM deal | cost 5;first deal full;trail;9 .; | 4 denied 42501 table deal
 lone | ONE |  | 4 denied 42501 column id of table deal
