@@ -47,6 +47,10 @@ audit 'a list of 640 compared with 1,900' plan "SELECT id FROM deal WHERE owner 
 { printf 'cost 5\nfilter 1 (deal.id = 3)\nfirst deal full\ntrail\n'; repeated 2000 '10- . 0
 '; for _ in $(seq 400); do printf '3 %s\n' "$(repeated 1900 0)"; done; } > plan
 audit 'paths of 1,900 digits' plan 'SELECT id FROM deal WHERE id = 3'
+{ printf "cost 5\nfilter 1 (deal.id = 3)\nfilter 2 (deal.owner = 'bob')\nfirst deal full\ntrail\n"; repeated 4000 '10- . 0
+'; repeated 12384 '3 .
+'; } > plan
+audit '16,384 steps over 4,002 filters' plan "SELECT id FROM deal WHERE id = 3 AND owner = 'bob'"
 filtered "deal.id = 3$(repeated 260000 ' + 0')"
 audit 'a sum of 260,000 numbers' plan 'SELECT id FROM deal WHERE id = 3'
 filtered "$(repeated 512 '(')deal.id = 3$(repeated 512 ')')"
