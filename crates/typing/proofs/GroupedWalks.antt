@@ -14,10 +14,6 @@ use Rattle.expr.specs.Offsets.{least_of}
 use Rattle.typing.specs.Grouping.{misplaced_column, misplaced, misplaced_members, misplaced_arms}
 use Rattle.expr.proofs.Leasts.{least_of_assoc, least_of_none}
 
--- the least of two offsets that are known
-pub least_is : (a b a' b' r : Option ℕ) → r ≡ least_of a b → a ≡ a' → b ≡ b' → r ≡ least_of a' b'
-least_is a b a' b' r e p q = e ∙ ap (λ x. least_of x b) p ∙ ap (least_of a') q
-
 module _ (entries : List Entry) (scope : Scope) (group_by : List ColumnId) (of_groups : Bool) where
   -- the misplaced parts of an expression, through an equal one
   pub misplaced_as : (e f : ast.Expr) (r : Option ℕ) → e ≡ f → r ≡ misplaced entries scope group_by of_groups f → r ≡ misplaced entries scope group_by of_groups e

@@ -8,7 +8,8 @@ use Rattle.row_ast.proofs.Walks.{and_is, or_is, case_none, case_other, case_ligh
 use Rattle.row_ast.proofs.Operands.{negate_is, in_is, is_null_is, not_is, cast_is, call_is, arithmetic_is, comparison_is, between_is}
 use Rattle.memory.proofs.Lighter.{lighter, left_lighter, right_lighter, middle_lighter, last_lighter}
 use Rattle.typing.specs.Grouping.{misplaced_call}
-use Rattle.typing.proofs.GroupedWalks.{misplaced_as, least_is, column_is, misplaced_step, misplaced_over, misplaced_arm_step, misplaced_arms_over}
+use Rattle.expr.proofs.FragileWalks.{least_is}
+use Rattle.typing.proofs.GroupedWalks.{misplaced_as, column_is, misplaced_step, misplaced_over, misplaced_arm_step, misplaced_arms_over}
 use Rattle.typing.proofs.grouped.+misplaced.Goals as goal
 
 -- ---- each call is on less
