@@ -16,6 +16,7 @@ use report::{Answering, finish_marked};
 use resolve::{Bound, bind};
 use rewrite::simplify;
 use row_marks::Marks;
+use row_terms::left_conditions;
 use std::alloc::{AllocError, AllocGlobal, Global};
 use std::process::Abort;
 use std::test::Fail;
@@ -91,6 +92,7 @@ fn setting(
         frame: frame(alloc, store.catalog(), ROLE, entries)?,
         indexed: indexed(alloc, entries.len())?,
         conditions: simplify(alloc, &bound.query)?.conditions,
+        lefts: left_conditions(alloc, &bound.query)?,
     })
 }
 

@@ -95,7 +95,6 @@ const REPLIES: &str = "\
 zed | ONE | cost 5;filter 1 (deal.id = 3);first deal full;trail;9 0; | 6 refused 42704
 zed | ONE |  | 6 refused 42704
 audit | SELECT | cost 5; | 3 refused 42601 at 6
-audit | SELECT d.id FROM deal d LEFT JOIN region r ON d.region = r.id | cost 5;first d full;nested r full;trail;9 00;9 01; | 3 refused 0A000
 audit | SELECT nosuch FROM deal | cost 5; | 3 refused 42703 at 7
 lone | SELECT count(*) FROM deal | cost 5;first deal full;trail;9 .; | 4 denied 42501 table deal
 lone | ONE |  | 4 denied 42501 column id of table deal
@@ -109,6 +108,40 @@ audit | ONE | cost 5;filter 1 (deal.id = 3);first deal index owner;trail;9 0; | 
 audit | ONE | cost 5;filter 1 (deal.id = 3);first deal index owner by 1;trail;9 0; | 3 refused line 0 reason 5
 audit | SELECT deal.id FROM region, deal WHERE deal.id = 3 | cost 5;filter 1 (deal.id = 3);first region full;nested deal index id by 1;trail;5 .;9 0;9 10; | 0 accepted
 audit | SELECT deal.id FROM region, deal WHERE deal.id = 3 | cost 5;filter 1 (deal.id = 3);first region index id;nested deal full;trail;5 .;9 0;9 10; | 3 refused line 0 reason 5
+";
+
+// Left joins: their lines, and the rules that fit them.
+const LEFT: &str = "\
+audit | SELECT d.id FROM deal d LEFT JOIN region r ON d.region = r.id WHERE r.name IS NULL | cost 0;filter 1 (r.name IS NULL);on r (d.region = r.id);first d full;left hash 1 r full;trail;9 00;9 01; | 0 accepted
+audit | SELECT d.id FROM deal d LEFT JOIN region r ON d.region = r.id WHERE r.name IS NULL | cost 0;filter 1 (r.name IS NULL);on r (d.region = r.id);first d full;left nested r full;trail;9 00;9 01; | 0 accepted
+audit | SELECT d.id FROM deal d LEFT JOIN region r ON d.region = r.id WHERE r.name IS NULL | cost 0;filter 1 (r.name IS NULL);on r (d.region = r.id);first d full;left hash 1 r full;trail;19 .; | 3 refused line 1 reason 4
+audit | SELECT d.id FROM deal d LEFT JOIN region r ON d.region = r.id WHERE r.name IS NULL | cost 0;filter 1 (r.name IS NULL);on r (d.region = r.id);first d full;left hash 1 r full;trail;20 .; | 3 refused line 1 reason 4
+audit | SELECT d.id FROM deal d LEFT JOIN region r ON d.region = r.id WHERE r.name IS NULL | cost 0;filter 1 (r.name IS NULL);on r (d.region = r.id);first d full;left hash 1 r full;trail;4 .; | 3 refused line 1 reason 3
+audit | SELECT d.id FROM deal d LEFT JOIN region r ON d.region = r.id WHERE r.name IS NULL | cost 0;filter 1 (r.name IS NULL);on r (d.region = r.id);first d full;left hash 1 r full;trail;5 .; | 3 refused line 1 reason 3
+audit | SELECT d.id FROM deal d LEFT JOIN region r ON d.region = r.id WHERE r.name IS NULL | cost 0;filter 1 (r.name IS NULL);on r (d.region = r.id);first d full;left hash 1 r full;trail;6 0; | 3 refused line 1 reason 3
+audit | SELECT d.id FROM deal d LEFT JOIN region r ON d.region = r.id WHERE r.name IS NULL | cost 0;filter 1 (r.name IS NULL);on r (d.region = r.id);first d full;left hash 1 r full;trail;16 .; | 3 refused line 1 reason 3
+audit | SELECT d.id FROM deal d LEFT JOIN region r ON d.region = r.id WHERE r.name IS NULL | cost 0;filter 1 (r.name IS NULL);on r (d.region = r.id);first d full;left hash 1 r full;trail;20- 0; | 3 refused line 1 reason 3
+audit | SELECT d.id FROM deal d LEFT JOIN region r ON d.region = r.id WHERE r.name IS NULL | cost 0;filter 1 (r.name IS NULL);on r (d.region = r.id);first d full;left hash 1 r full;trail;19- .; | 3 refused line 1 reason 3
+audit | SELECT d.id FROM deal d LEFT JOIN region r ON d.region = r.id WHERE r.name IS NULL | cost 0;filter 1 (r.name IS NULL);on r (d.region = r.id);first d full;left hash 1 r full;trail;19 . 1; | 3 refused line 1 reason 3
+audit | SELECT d.id FROM deal d LEFT JOIN region r ON d.region = r.id WHERE r.name IS NULL | cost 0;filter 1 (r.name IS NULL);on r (d.region = r.id);first d full;left hash 1 r full;trail;21 .; | 3 refused line 1 reason 3
+audit | SELECT d.id FROM deal d LEFT JOIN region r ON d.region = r.id WHERE r.name IS NULL | cost 0;filter 1 (r.name IS NULL);on r (d.region = r.id);first d full;left hash 1 r full;trail;9 010; | 3 refused line 1 reason 3
+audit | SELECT d.id FROM deal d LEFT JOIN region r ON d.region = r.id WHERE r.name IS NULL | cost 0;filter 1 (r.name IS NULL);on r (d.region = r.id);first d full;left hash 1 r full;trail;9 0101; | 3 refused line 1 reason 2
+audit | SELECT d.id FROM deal d LEFT JOIN region r ON d.region = r.id WHERE r.name IS NULL | cost 0;filter 1 (r.name IS NULL);on r (d.region = r.id);first d full;left hash 1 r full;trail; | 3 refused line 1 reason 6
+audit | SELECT d.id FROM deal d LEFT JOIN region r ON d.region = r.id WHERE r.name IS NULL | cost 0;filter 1 (r.name IS NULL);on r (d.region = r.id);first d full;hash 1 r full;trail;9 00;9 01; | 3 refused line 0 reason 5
+audit | SELECT d.id FROM deal d LEFT JOIN region r ON d.region = r.id WHERE r.name IS NULL | cost 0;filter 1 (r.name IS NULL);on r (d.region = r.id);first d full;left hash 2 r full;trail;9 00;9 01; | 3 refused line 0 reason 5
+audit | SELECT d.id FROM deal d LEFT JOIN region r ON d.region = r.id WHERE r.name IS NULL | cost 0;filter 1 (r.name IS NULL);first d full;left hash 1 r full;trail;9 00;9 01; | 3 refused line 0 reason 5
+audit | SELECT d.id FROM deal d LEFT JOIN region r ON d.region = r.id WHERE r.name IS NULL | cost 0;filter 1 (r.name IS NULL);on r (d.region = r.id);on r (d.region = r.id);first d full;left hash 1 r full;trail;9 00;9 01; | 3 refused line 0 reason 5
+audit | SELECT d.id FROM deal d LEFT JOIN region r ON d.region = r.id WHERE r.name IS NULL | cost 0;filter 1 (r.name IS NULL);on r (r.id = d.region);first d full;left hash 1 r full;trail;9 00;9 01; | 3 refused line 0 reason 5
+audit | SELECT d.id FROM deal d LEFT JOIN region r ON d.region = r.id WHERE r.name IS NULL | cost 0;filter 1 (r.name IS NULL);on d (d.region = r.id);first d full;left hash 1 r full;trail;9 00;9 01; | 3 refused line 0 reason 5
+audit | SELECT d.id FROM deal d LEFT JOIN region r ON d.region = r.id WHERE r.name IS NULL | cost 0;filter 1 (r.name IS NULL);on r (d.region = r.id);first r full;left hash 1 d full;trail;9 00;9 01; | 3 refused line 0 reason 5
+audit | SELECT d.id FROM deal d LEFT JOIN region r ON d.region = r.id WHERE r.name IS NULL | cost 0;filter 1 (r.name IS NULL);on r (d.region = r.id);first d full;left merge 1 r full;trail;9 00;9 01; | 3 unreadable line 5
+audit | SELECT d.id FROM deal d LEFT JOIN region r ON d.region = r.id WHERE r.name IS NULL | cost 0;filter 1 (r.name IS NULL);on r (d.region = r.id);first d full;left nested r index id;trail;9 00;9 01; | 3 unreadable line 5
+audit | SELECT d.id FROM deal d LEFT JOIN region r ON d.region = r.id WHERE r.name IS NULL | cost 0;filter 1 (r.name IS NULL);on r (d.region = r.id);first d full;left hash r full;trail;9 00;9 01; | 3 unreadable line 5
+audit | SELECT d.id FROM deal d LEFT JOIN region r ON d.region = r.id WHERE r.name IS NULL | cost 0;filter 1 (r.name IS NULL);on r (d.region = r.id);left first d full;left hash 1 r full;trail;9 00;9 01; | 3 unreadable line 4
+audit | SELECT d.id FROM deal d LEFT JOIN region r ON d.region = r.id WHERE r.name IS NULL | cost 0;filter 1 (r.name IS NULL);on x (d.region = r.id);first d full;left hash 1 r full;trail;9 00;9 01; | 3 unreadable line 3
+audit | SELECT d.id FROM deal d LEFT JOIN region r ON d.region = r.id WHERE r.name IS NULL | cost 0;on r (d.region = r.id);filter 1 (r.name IS NULL);first d full;left hash 1 r full;trail;9 00;9 01; | 3 unreadable line 3
+alice | SELECT d.id FROM region s LEFT JOIN deal d ON s.id = d.region | cost 0;on d (s.id = d.region);first s full;left nested d full;trail;9 0; | 0 accepted
+alice | SELECT d.id FROM region s LEFT JOIN deal d ON s.id = d.region | cost 0;on d (s.id = d.region);first s full;left nested d full;trail;9 0;9 1; | 3 refused line 2 reason 4
 ";
 
 // The query of a row.
@@ -178,6 +211,12 @@ fn filters_are_the_planning_list_in_any_spelling(rt: HostRuntime) -> Result<(), 
 fn the_first_unreadable_line_is_told(rt: HostRuntime) -> Result<(), Fail> {
     let store = sales(rt.alloc())?;
     Ok(audit_all(&rt, &store, UNREADABLE)?)
+}
+
+#[test]
+fn left_joins_are_audited(rt: HostRuntime) -> Result<(), Fail> {
+    let store = sales(rt.alloc())?;
+    Ok(audit_all(&rt, &store, LEFT)?)
 }
 
 #[test]

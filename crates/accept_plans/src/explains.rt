@@ -37,6 +37,21 @@ audit | SELECT id FROM deal WHERE 1 = 2 | 0 cost 0 / filter 1 FALSE / empty / tr
 alice | SELECT id FROM deal WHERE 1 = 2 ORDER BY id | 0 cost 0 / filter 1 FALSE / empty / trail
 ";
 
+// Left joins.
+const LEFT: &str = "\
+audit | SELECT d.id, r.name FROM deal d LEFT JOIN region r ON d.region = r.id | 0 cost 19 / on r (d.region = r.id) / first d full / left hash 1 r full / trail
+audit | SELECT d.id FROM deal d LEFT JOIN region r ON d.region = r.id WHERE r.name IS NULL | 0 cost 19 / filter 1 (r.name IS NULL) / on r (d.region = r.id) / first d full / left hash 1 r full / trail
+audit | SELECT d.id FROM deal d LEFT JOIN region r ON d.region = r.id WHERE r.id NOT IN (1, 2) | 0 cost 19 / filter 1 (r.id NOT IN (1, 2)) / on r (d.region = r.id) / first d full / left hash 1 r full / trail
+audit | SELECT d.id FROM deal d LEFT JOIN region r ON d.region = r.id WHERE r.id BETWEEN 1 AND 2 | 0 cost 19 / filter 1 (r.id BETWEEN 1 AND 2) / on r (d.region = r.id) / first d full / left hash 1 r full / trail
+audit | SELECT d.id FROM deal d LEFT JOIN region r ON d.region = r.id LEFT JOIN region s ON r.id = s.id WHERE s.id = 1 | 0 cost 35 / filter 1 (s.id = 1) / on r (d.region = r.id) / on s (r.id = s.id) / first d full / left hash 1 r full / left hash 1 s full / trail
+audit | SELECT d.id FROM deal d LEFT JOIN region r ON d.region = r.id LEFT JOIN region s ON r.id = s.id WHERE r.id = s.id | 0 cost 35 / filter 1 (r.id = s.id) / on r (d.region = r.id) / on s (r.id = s.id) / first d full / left hash 1 r full / left hash 1 s full / trail
+audit | SELECT d.id, r.id AS r FROM deal d LEFT JOIN region r ON d.region = r.id AND d.id > 2 WHERE FALSE | 0 cost 0 / filter 1 FALSE / on r ((d.region = r.id) AND (d.id > 2)) / empty / trail
+audit | SELECT d.id FROM deal d LEFT JOIN region r ON TRUE | 0 cost 23 / on r TRUE / first d full / left nested r full / trail
+audit | SELECT d.id, r.id AS r FROM deal d LEFT JOIN region r ON FALSE ORDER BY id LIMIT 2 | 0 cost 38 / on r FALSE / first d full / left nested r full / sort d.id / trail
+audit | SELECT d.id, r.name FROM deal d LEFT JOIN region r ON d.region = r.id ORDER BY id | 0 cost 40 / on r (d.region = r.id) / first d full / left hash 1 r full / sort d.id / trail
+alice | SELECT r.id, d.id AS k FROM region r LEFT JOIN deal d ON r.id = d.region | 0 cost 3006 / on d (r.id = d.region) / first r full / left hash 1 d full / trail
+";
+
 // Groups and orders, with and without a last sort.
 const ORDERS: &str = "\
 audit | SELECT owner, count(*) AS n FROM deal GROUP BY owner | 0 cost 20 / first deal full / sort deal.owner / trail
@@ -61,7 +76,6 @@ zed | SELECT id FROM deal | 6 refused 42704
 audit | SELECT | 3 refused 42601 at 6
 audit | SELECT nosuch FROM deal | 3 refused 42703 at 7
 audit | SELECT id FROM nosuch | 3 refused 42P01 at 15
-audit | SELECT d.id FROM deal d LEFT JOIN region r ON d.region = r.id | 3 refused 0A000
 audit | SELECT d.id FROM deal d LEFT JOIN region r ON CAST(d.id AS text) = r.name | 3 refused 0A000 at 46
 lone | SELECT d.id FROM deal d LEFT JOIN region r ON d.region = r.id | 4 denied 42501 column id of table deal
 lone | SELECT id FROM deal | 4 denied 42501 column id of table deal
@@ -146,6 +160,12 @@ fn thousands(alloc: Global) -> Result<Box<Store<Global>, Global>, Failure<Fixtur
 fn joins_are_planned_by_cost(rt: HostRuntime) -> Result<(), Fail> {
     let store = sales(rt.alloc())?;
     Ok(explain_all(&rt, &store, JOINS)?)
+}
+
+#[test]
+fn left_joins_are_planned_by_cost(rt: HostRuntime) -> Result<(), Fail> {
+    let store = sales(rt.alloc())?;
+    Ok(explain_all(&rt, &store, LEFT)?)
 }
 
 #[test]

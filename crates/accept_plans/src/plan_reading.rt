@@ -2,9 +2,9 @@
 
 use crate::rows::bytes_of;
 use algebra::Step;
-use expr::{Access, Code, Method};
+use expr::{Access, Method};
 use memory::{Failure, Items, Text};
-use plan_texts::{Plan, PlanEntry, read_plan};
+use plan_texts::{Plan, PlanCode, PlanEntry, PlanStep, read_plan};
 use row_terms::Branch;
 use std::alloc::{AllocError, AllocGlobal, Global};
 use std::process::Abort;
@@ -35,6 +35,16 @@ cost 7;first x full;trail; | line 2
 cost 7;first r index id by 0;hash 1 deal full;merge 2 r index name;trail; | 7, 0 filters, 2 range 1 0 nested, 1 full hash 1, 2 index 2 merge 2
 cost 7;first r index region;trail; | line 2
 cost 7;first deal full;nested r full;sort deal.region;trail;4- .;11 011 0 1; | 7, 0 filters, 1 full nested, 2 full nested, sort 1.3, 4 reverse, 11 left right right 0 1
+cost 7;on r deal.region = r.id;first deal full;left hash 1 r full;trail; | 7, 0 filters, on 2, 1 full nested, 2 left full hash 1
+cost 7;filter 1 deal.id = 1;on r r.id = 1;first deal full;left nested r full;trail; | 7, 1 filters, on 2, 1 full nested, 2 left full nested
+cost 7;on x deal.region = r.id;empty;trail; | line 2
+cost 7;on r deal.region = x.id;empty;trail; | line 2
+cost 7;on r;empty;trail; | line 2
+cost 7;on r deal.region = r.id;filter 1 r.id = 1;empty;trail; | line 3
+cost 7;first deal full;left merge 1 r full;trail; | line 3
+cost 7;first deal full;left nested r index id;trail; | line 3
+cost 7;left nested r full;trail; | line 2
+cost 7;first deal full;on r deal.id = r.id;trail; | line 3
 cost 7;empty;trail;1 012; | line 4
 cost 7;empty;trail;1 0 1 2 3; | line 4
 cost 7;empty;trail;1 ; | line 4
@@ -67,12 +77,15 @@ fn show_method(method: Method, out: &mut String) -> Result<(), AllocError> {
     }
 }
 
-fn show_code(code: &Code<Global>, out: &mut String) -> Result<(), AllocError> {
+fn show_code(code: &PlanCode<Global>, out: &mut String) -> Result<(), AllocError> {
     match code {
-        Code::Empty => out.push_str(", empty"),
-        Code::Steps(steps) => {
-            for step in steps.as_slice() {
+        PlanCode::Empty => out.push_str(", empty"),
+        PlanCode::Steps(steps) => {
+            for PlanStep { step, is_left } in steps.as_slice() {
                 write!(out, ", {} ", step.entry)?;
+                if *is_left {
+                    out.push_str("left ")?;
+                }
                 show_access(step.access, out)?;
                 show_method(step.method, out)?;
             }
@@ -100,6 +113,9 @@ fn show_step(step: &Step<Global>, out: &mut String) -> Result<(), AllocError> {
 
 fn show_plan(plan: &Plan<Global>, out: &mut String) -> Result<(), AllocError> {
     write!(out, "{}, {} filters", plan.cost, plan.filters.len())?;
+    for on in plan.ons.as_slice() {
+        write!(out, ", on {}", on.entry)?;
+    }
     show_code(&plan.code, out)?;
     if let Some(sort) = plan.sort {
         write!(out, ", sort {}.{}", sort.entry, sort.column)?;

@@ -1,7 +1,7 @@
 //! Plans of the planner, written as texts, are accepted.
 
 use crate::verdicts::made_setting;
-use bound_plans::{named, plan_entries};
+use bound_plans::{inner_count, marked_code, named, named_ons, plan_entries};
 use expr::{Code, MovableExpr};
 use fixtures::{audited, code_of, sales};
 use memory::Items;
@@ -30,6 +30,9 @@ root | 1 f n | SELECT id FROM deal WHERE CASE WHEN owner = CURRENT_USER THEN id 
 root | 1 f n | SELECT id FROM deal WHERE CASE WHEN owner = 'x' THEN id END = 1
 root | 1 f n | SELECT id FROM deal WHERE NOT CASE WHEN id = 1 THEN NULL END = NULL
 root | empty | SELECT deal.id FROM deal, region WHERE 1 = 2
+root | 1 f n, 2 f n | SELECT r.id FROM deal d LEFT JOIN region r ON d.region = r.id
+root | 1 f n, 2 f h1, 3 f n | SELECT d.id FROM deal d LEFT JOIN region r ON r.id = d.region AND d.parts > 2 LEFT JOIN deal e ON e.id < d.id AND r.name IS NULL WHERE d.id > 1 AND (r.name IS NULL OR e.id = 2)
+alice | 1 f n, 2 f h1 | SELECT d.id FROM deal d LEFT JOIN deal e ON d.id = e.id AND e.owner = 'bob'
 ";
 
 // The conditions as trees, with their columns named.
@@ -56,10 +59,12 @@ fn plan_text(
     let entries = bound.entries.as_slice();
     let setting = made_setting(alloc, store.catalog(), role, bound, "")?;
     let trail = place(alloc, &setting, simplify(alloc, &bound.query)?.trail, &code)?;
+    let lefts = setting.lefts.as_slice();
     let plan = Plan {
         cost: 0,
         filters: filters(alloc, entries, setting.conditions.as_slice())?,
-        code,
+        ons: named_ons(alloc, entries, lefts)?,
+        code: marked_code(alloc, inner_count(entries, lefts), &code)?,
         sort: None,
         trail,
     };

@@ -12,7 +12,7 @@ use memory::{Items, boxed};
 use resolve::{Bound, bind};
 use rewrite::simplify;
 use row_ast::Query;
-use row_terms::written;
+use row_terms::{left_conditions, written};
 use std::alloc::{AllocError, Global};
 use std::process::Abort;
 use std::test::Fail;
@@ -150,12 +150,14 @@ pub fn made_setting(
     let frame = frame(alloc, catalog, role, entries)?.into();
     let indexed = indexed(alloc, entries.len(), column)?;
     let conditions = simplify(alloc, &bound.query)?.conditions;
+    let lefts = left_conditions(alloc, &bound.query)?;
     boxed(
         alloc,
         Setting {
             frame,
             indexed,
             conditions,
+            lefts,
         },
     )
 }

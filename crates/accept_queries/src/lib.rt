@@ -11,6 +11,8 @@ mod faults;
 #[cfg(test)]
 mod joined_tables;
 #[cfg(test)]
+mod left_joins;
+#[cfg(test)]
 mod passing;
 #[cfg(test)]
 mod sales;

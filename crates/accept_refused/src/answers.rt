@@ -29,7 +29,7 @@ struct Request {
 }
 
 // Rows, faults and groups.
-static ROWS: [Request; 6] = [
+static ROWS: [Request; 7] = [
     Request {
         role: "bob",
         text: "SELECT amount/parts FROM deal",
@@ -72,9 +72,18 @@ static ROWS: [Request; 6] = [
         status: 0,
         written: "region,count,sum\n1,1,100\n2,1,50\n\\N,1,100\n",
     },
+    Request {
+        role: "alice",
+        text: LEFT,
+        asked: Asked::Rows,
+        status: 0,
+        written: "id,name\n1,north\n2,south\n5,\\N\n",
+    },
 ];
 
 const JOIN: &str = "SELECT d.id, r.name FROM deal d, region r WHERE d.region = r.id";
+
+const LEFT: &str = "SELECT d.id, r.name FROM deal d LEFT JOIN region r ON d.region = r.id";
 
 // A refusal, and the denials of rows and of a plan.
 static REFUSALS: [Request; 3] = [
@@ -103,7 +112,7 @@ static REFUSALS: [Request; 3] = [
 
 // Plans of joins. With a condition on the region it has one row: a pass over 1,000 deals that are not known, and 1,000 pairs with 3
 // steps to read the regions.
-static PLANS: [Request; 3] = [
+static PLANS: [Request; 4] = [
     Request {
         role: "audit",
         text: JOIN,
@@ -124,6 +133,13 @@ static PLANS: [Request; 3] = [
         asked: Asked::Plan,
         status: 0,
         written: "cost 2003\nfilter 1 (d.region = r.id)\nfilter 2 (r.name = 'north')\nfirst d full\nnested r full\ntrail\n",
+    },
+    Request {
+        role: "audit",
+        text: LEFT,
+        asked: Asked::Plan,
+        status: 0,
+        written: "cost 19\non r (d.region = r.id)\nfirst d full\nleft hash 1 r full\ntrail\n",
     },
 ];
 

@@ -12,7 +12,7 @@ use metered::Metered;
 use resolve::{Bound, bind};
 use rewrite::{Simplified, place, simplify};
 use row_ast::Query;
-use row_terms::written;
+use row_terms::{left_conditions, written};
 use scope::Entry;
 use stats::Stats;
 use std::alloc::{AllocError, Global};
@@ -150,6 +150,10 @@ fn searched<A: Heap>(
         "not each has statistics"
     );
     assert!(rt; setting.frame.len() <= MAX_ENTRIES, "too many entries");
+    assert!(rt;
+        setting.lefts.len() <= setting.frame.len(),
+        "too many left joins"
+    );
     let problem = Problem::new(alloc, setting, &lent, None)?;
     let (code, cost) = search(alloc, &problem)?;
     let is_wanted = match &code {
@@ -202,6 +206,7 @@ fn plan_bound<A: Heap>(
         frame: frame(alloc, store.catalog(), planned.role, entries)?,
         indexed: no_indexes(alloc, entries.len())?,
         conditions,
+        lefts: left_conditions(alloc, &bound.query)?,
     };
     let setting = boxed(alloc, setting)?;
     let code = searched(rt, alloc, &rows, &setting, planned)?;

@@ -84,6 +84,10 @@ fn cost_of(
         "not each has statistics"
     );
     assert!(rt; setting.frame.len() <= MAX_ENTRIES, "too many entries");
+    assert!(rt;
+        setting.lefts.len() <= setting.frame.len(),
+        "too many left joins"
+    );
     let problem = Problem::new(rt.alloc(), setting, &statistics, column_of(wanted))?;
     let code = code(rt, text)?;
     let is_code = is_admissible(rt.alloc(), setting, &code)?;

@@ -8,8 +8,8 @@ use crate::texts::shown;
 use crate::without_thirds::{WithoutThirds, has_no_third};
 use expr::Code;
 use fixture_plans::{
-    Drawn, Random, all_codes, draw, nested_loops, no_query, run_into_over, run_over, seen_rows,
-    tables_of,
+    Drawn, Random, all_codes, draw, draw_left, nested_loops, no_query, run_into_over, run_over,
+    seen_rows, tables_of,
 };
 use memory::Items;
 use std::alloc::{AllocError, AllocGlobal, Global};
@@ -38,8 +38,10 @@ fn wanted(
     tested: Tested,
 ) -> Result<String, AllocError> {
     let entries = world.tables.len();
+    let conditions = setting.conditions.as_slice();
+    let lefts = setting.lefts.as_slice();
     let mut found = Vec::new(alloc);
-    for combination in nested_loops(alloc, world, setting.conditions.as_slice())? {
+    for combination in nested_loops(alloc, world, conditions, lefts)? {
         if matches!(tested, Tested::Lists) || has_no_third(&combination, entries) {
             found.push(combination)?;
         }
@@ -184,6 +186,18 @@ fn all_give_the_same(rt: &(impl Abort + AllocGlobal), tested: Tested) -> Result<
     Ok(())
 }
 
+// The same of one entry or two and up to three that are left joined to them, at most four in all.
+fn all_left_give_the_same(rt: &(impl Abort + AllocGlobal)) -> Result<(), AllocError> {
+    let mut random = Random::new(SEED);
+    for number in 0..PROBLEMS {
+        let inner = number % 2 + 1;
+        let lefts = (number / 2 % 4).min(4u64.saturating_sub(inner));
+        let problem = draw_left(rt.alloc(), &mut random, inner.saturating_add(lefts), lefts)?;
+        gives_the_same(rt, &mut random, &problem, Tested::Lists)?;
+    }
+    Ok(())
+}
+
 #[test]
 fn every_code_gives_the_combinations_of_nested_loops(rt: HostRuntime) -> Result<(), Fail> {
     Ok(all_give_the_same(&rt, Tested::Lists)?)
@@ -193,4 +207,9 @@ fn every_code_gives_the_combinations_of_nested_loops(rt: HostRuntime) -> Result<
 #[test]
 fn every_code_gives_a_sink_the_rows_that_it_wants(rt: HostRuntime) -> Result<(), Fail> {
     Ok(all_give_the_same(&rt, Tested::Sinks)?)
+}
+
+#[test]
+fn every_code_gives_the_combinations_of_left_joins(rt: HostRuntime) -> Result<(), Fail> {
+    Ok(all_left_give_the_same(&rt)?)
 }

@@ -71,6 +71,10 @@ fn found(
         "not each has statistics"
     );
     assert!(rt; setting.frame.len() <= MAX_ENTRIES, "too many entries");
+    assert!(rt;
+        setting.lefts.len() <= setting.frame.len(),
+        "too many left joins"
+    );
     let problem = Problem::new(rt.alloc(), setting, &statistics, column_of(wanted))?;
     let (code, least) = search(rt.alloc(), &problem)?;
     assert!(rt; cost(&problem, &code) == least, "another cost");

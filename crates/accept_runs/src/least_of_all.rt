@@ -82,6 +82,10 @@ fn is_least(
         "not each has statistics"
     );
     assert!(rt; setting.frame.len() <= MAX_ENTRIES, "too many entries");
+    assert!(rt;
+        setting.lefts.len() <= setting.frame.len(),
+        "too many left joins"
+    );
     let problem = Problem::new(rt.alloc(), setting, &statistics, *wanted)?;
     let (code, cost) = search(rt.alloc(), &problem)?;
     let got = text_of(rt.alloc(), &Costed { code, cost })?;

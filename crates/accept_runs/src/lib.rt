@@ -23,6 +23,8 @@ mod least_codes;
 #[cfg(test)]
 mod least_of_all;
 #[cfg(test)]
+mod left_trails;
+#[cfg(test)]
 mod planned;
 #[cfg(test)]
 mod rows;

@@ -8,6 +8,7 @@ use memory::{Items, boxed};
 use resolve::{Bound, bind};
 use rewrite::simplify;
 use row_ast::Query;
+use row_terms::left_conditions;
 use stats::Stats;
 use std::alloc::{AllocError, AllocGlobal, Global};
 use std::process::Abort;
@@ -124,6 +125,7 @@ fn planned_bound(
         frame: frame(rt.alloc(), store.catalog(), "root", entries)?,
         indexed: indexed(rt.alloc(), asked.indexes, entries.len())?,
         conditions: simplify(rt.alloc(), &bound.query)?.conditions,
+        lefts: left_conditions(rt.alloc(), &bound.query)?,
     };
     let filter = match &bound.query.filter {
         Some(condition) => Some(copy_expr(rt.alloc(), condition)?),

@@ -15,6 +15,7 @@ use memory::{Failure, Items};
 use resolve::{Bound, bind};
 use rewrite::simplify;
 use row_ast::Query;
+use row_terms::left_conditions;
 use std::alloc::{AllocError, AllocGlobal, Global};
 use std::process::Abort;
 use std::test::Fail;
@@ -61,6 +62,7 @@ fn setting(
         frame: frame(alloc, store.catalog(), row.role, entries)?,
         indexed: indexed(alloc, row.indexes, entries.len())?,
         conditions: simplify(alloc, &bound.query)?.conditions,
+        lefts: left_conditions(alloc, &bound.query)?,
     })
 }
 

@@ -104,14 +104,15 @@ ask 0 SELECT amount / parts FROM deal => fault 22012 at 14
 ask 0 SELECT id FROM deal => id / 1 / 2 / 3 / 4 / 5
 ";
 
-// A left join has no plan yet, and its ON may not fault; names and privileges come before that.
+// Left joins are answered in sessions as elsewhere, and their ONs may not fault; names and privileges come before that.
 const LEFT_JOINS: &str = "\
 login alice => session 0
-ask 0 SELECT d.id FROM deal d LEFT JOIN region r ON d.region = r.id => refused 0A000
-prepare 0 p SELECT d.id FROM deal d LEFT JOIN region r ON d.region = r.id => ok
-execute 0 p => refused 0A000
-declare 0 c SELECT d.id FROM deal d LEFT OUTER JOIN region r ON TRUE => refused 0A000
-fetch 0 c 1 => refused 34000
+ask 0 SELECT d.id, r.name FROM deal d LEFT JOIN region r ON d.region = r.id => id,name / 1,north / 2,south / 5,\\N
+prepare 0 p SELECT d.id FROM deal d LEFT JOIN region r ON d.region = r.id WHERE r.name IS NULL => ok
+execute 0 p => id / 5
+declare 0 c SELECT r.id, d.id AS deal FROM region r LEFT OUTER JOIN deal d ON r.id = d.region => ok
+fetch 0 c 2 => id,deal / 1,1 / 2,2
+fetch 0 c 2 => id,deal / \\N,\\N
 ask 0 SELECT d.id FROM deal d LEFT JOIN region r ON d.amount/d.parts = r.id => refused 0A000 at 54
 login lone => session 1
 ask 1 SELECT d.id FROM deal d LEFT JOIN region r ON d.region = r.id => denied 42501 column id of table deal

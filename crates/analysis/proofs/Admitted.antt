@@ -1,6 +1,5 @@
 -- What an admitted query was read and bound from.
-use Rattle.std.proofs.Common.{◌≡◌, ℕ, nat_lt, Bool, true, false, not, ◌||◌, if◌then◌else◌, List, length, Option, Some, None, Result, Ok, Err, refl, ap, subst, ◌==◌}
-use Rattle.std.proofs.lemmas.Bool.{eqb-true}
+use Rattle.std.proofs.Common.{◌≡◌, ℕ, nat_lt, Bool, true, false, not, ◌||◌, if◌then◌else◌, List, length, Option, Some, None, Result, Ok, Err, refl, ap}
 use Rattle.memory.proofs.Cases.{ok_is}
 use Rattle.value.specs.Names.{Name}
 use Rattle.value.specs.declared.refusal.Refusal.{Refusal}
@@ -10,14 +9,11 @@ use Rattle.syntax.specs.Parsing.{parsed_query, query_bytes}
 use Rattle.syntax.specs.declared.error.ParseError.{ParseError}
 use Rattle.syntax.proofs.TextAnswer.{query_too_long}
 use Rattle.catalog.specs.Catalog.{Catalog, is_role}
-use Rattle.access.specs.Access.{RequiredPrivilege, denial}
-use Rattle.access.specs.Needed.{needed}
-use Rattle.resolve.specs.BindError.{BindError}
-use Rattle.resolve.specs.Resolved.{Bound, bound}
-use Rattle.resolve.proofs.EntryTables.{given}
+use Rattle.access.specs.Access.{RequiredPrivilege}
+use Rattle.resolve.specs.Resolved.{Bound}
 use Rattle.replies.specs.Reply as reply
 use Rattle.replies.specs.Reply.{Reply}
-use Rattle.analysis.specs.Analysis.{admitted, admitted_query, is_refused_at_once, permitted, query_read, unless_denied, unless_refused}
+use Rattle.analysis.specs.Analysis.{is_refused_at_once, query_read, unless_denied, unless_refused}
 
 -- a query that is read is that of the text
 pub was_parsed : (b : Bool) (r : Result Query ParseError) (refusal : Reply) (q : Query) → (if b then unless_refused r else Err refusal) ≡ Ok q → r ≡ Ok q
@@ -26,32 +22,8 @@ was_parsed true (Err error) refusal q e = absurd (cc)
 was_parsed false r refusal q e = absurd (cc)
 
 pub not_denied : (b c : Bound) (o : Option RequiredPrivilege) → unless_denied b o ≡ Ok c → b ≡ c
-not_denied b c None e = go (b.query.left_count == 0) e
-  where
-    go : (is_served : Bool) → (if is_served then Ok b else Err (reply.Refused r.FeatureNotSupported None)) ≡ Ok c → b ≡ c
-    go true e = ok_is b c e
-    go false e = absurd (cc)
+not_denied b c None e = ok_is b c e
 not_denied b c (Some privilege) e = absurd (cc)
-
--- what is admitted has no left join
-pub no_left_join : (b c : Bound) (o : Option RequiredPrivilege) → unless_denied b o ≡ Ok c → c.query.left_count ≡ 0
-no_left_join b c None e = go (b.query.left_count == 0) refl e
-  where
-    go : (is_served : Bool) → (b.query.left_count == 0) ≡ is_served → (if is_served then Ok b else Err (reply.Refused r.FeatureNotSupported None)) ≡ Ok c → c.query.left_count ≡ 0
-    go true is e = subst (λ (c : Bound). c.query.left_count ≡ 0) (ok_is b c e) (eqb-true b.query.left_count 0 is)
-    go false is e = absurd (cc)
-no_left_join b c (Some privilege) e = absurd (cc)
-
-pub admitted_has_none : (cat : Catalog) (role : Name) (q : Query) (b : Bound) → admitted_query cat role q ≡ Ok b → b.query.left_count ≡ 0
-admitted_has_none cat role q b e = go (bound cat q) e
-  where
-    go : (r : Result Bound BindError) → permitted cat role r ≡ Ok b → b.query.left_count ≡ 0
-    go (Err fault) e = absurd (cc)
-    go (Ok c) e = no_left_join c b (denial cat role (needed c.entries c.query)) e
-
-pub admitted_text_has_none : (cat : Catalog) (role : Name) (text : List ℕ) (b : Bound) → admitted cat role text ≡ Ok b → b.query.left_count ≡ 0
-admitted_text_has_none cat role text b e =
-    let read = given (admitted_query cat role) b (query_read cat role text) e in admitted_has_none cat role read.0 b read.2
 
 -- what is refused at once is refused by a code alone
 pub refused_at_once : (cat : Catalog) (role : Name) (text : List ℕ) → is_refused_at_once cat role text ≡ true → (code : Refusal) × (query_read cat role text ≡ Err (reply.Refused code None))

@@ -1,5 +1,5 @@
 -- The analysis of a text before any row is read: its query is bound, or it is refused or denied.
-use Rattle.std.specs.Prelude.{ℕ, ◌==◌, Bool, not, ◌||◌, nat_lt, List, length, Option, Some, None, Result, Ok, Err, if◌then◌else◌}
+use Rattle.std.specs.Prelude.{ℕ, Bool, not, ◌||◌, nat_lt, List, length, Option, Some, None, Result, Ok, Err, if◌then◌else◌}
 use Rattle.std.specs.Result.{result_err}
 use Rattle.value.specs.declared.refusal.Refusal.TheVariants as r
 use Rattle.value.specs.Names.{Name}
@@ -38,13 +38,9 @@ is_refused_at_once cat role text = not (is_role cat role) || nat_lt query_bytes 
 abbrev pub denied_reply : RequiredPrivilege → Reply
 denied_reply privilege = reply.Denied privilege.column privilege.table.name
 
--- left joins have a meaning and no plan yet: a query with one is refused
-abbrev pub served : Bound → Result Bound Reply
-served b = if b.query.left_count == 0 then Ok b else Err (reply.Refused r.FeatureNotSupported None)
-
 abbrev pub unless_denied : Bound → Option RequiredPrivilege → Result Bound Reply
 unless_denied b (Some privilege) = Err (denied_reply privilege)
-unless_denied b None = served b
+unless_denied b None = Ok b
 
 abbrev pub permitted : Catalog → Name → Result Bound BindError → Result Bound Reply
 permitted cat role (Err e) = Err (reply.Refused e.code (Some e.offset))

@@ -54,20 +54,6 @@ fn first_missing<'s, A: Heap>(
     missing(alloc, catalog, role, bound.entries.as_slice(), &bound.query)
 }
 
-// The bound query, if it has no left join: those have no plan yet.
-fn served<'s, A: Heap>(bound: Bound<'s, A>) -> Result<Bound<'s, A>, Reply<A>>
-    ensures { admitted_of result ≡ spec.served (bound_of bound.entry) }
-{
-    if bound.query.left_count == 0 {
-        Ok(bound)
-    } else {
-        Err(Reply::Refused {
-            code: Refusal::FeatureNotSupported,
-            offset: None,
-        })
-    }
-}
-
 // The bound query, or its denial.
 fn unless_denied<'s, A: Heap>(
     alloc: A,
@@ -78,14 +64,14 @@ fn unless_denied<'s, A: Heap>(
     ensures { IfOk result (λ found. admitted_of found ≡ spec.unless_denied (bound_of bound.entry) (denial catalog.now role.now (needed (bound_of bound.entry).entries (bound_of bound.entry).query))) }
 {
     match first_missing(alloc, catalog, role, &bound) {
-        Ok(None) => Ok(served(bound)),
+        Ok(None) => Ok(Ok(bound)),
         Ok(Some(privilege)) => Ok(Err(denied_reply(alloc, privilege)?)),
         Err(error) => Err(error),
     }
 }
 
 /// The query bound; or the refusal by the first error of its names, aggregates, types or keys, or the denial of the
-/// first privilege that is missing, or the refusal of a left join. It fails where memory runs out.
+/// first privilege that is missing. It fails where memory runs out.
 pub fn admit<'s, A: Heap>(
     alloc: A,
     catalog: &'s Catalog<A>,

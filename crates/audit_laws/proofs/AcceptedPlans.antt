@@ -1,8 +1,7 @@
 -- An accepted plan is right in every content.
-use Rattle.std.proofs.Common.{◌≡◌, ◌<◌, ℕ, suc, Bool, true, false, if◌then◌else◌, List, [], ◌∷◌, map, length, Result, Ok, Err, refl, sym, ap, ap₂, subst, ◌∙◌}
+use Rattle.std.proofs.Common.{◌≡◌, ◌<◌, ℕ, suc, Bool, true, false, if◌then◌else◌, List, [], ◌∷◌, map, length, Result, Ok, Err, refl, sym, ap, ap₂, subst}
 use Rattle.std.specs.List.Sorted.{IsPermutation}
 use Rattle.std.proofs.lemmas.List.Sorted.{IsPermutation-refl}
-use Rattle.value.specs.Datum.{Row}
 use Rattle.value.specs.Names.{Name}
 use Rattle.expr.specs.BoundQuery.{BoundQuery}
 use Rattle.expr.specs.Codes.{Code}
@@ -35,18 +34,19 @@ use Rattle.resolve.specs.Resolved.{Bound}
 use Rattle.plan_texts.specs.Plans.{Plan}
 use Rattle.plan_texts.specs.Reading.{plan_at}
 use Rattle.bound_plans.specs.Entries.{plan_entries}
+use Rattle.bound_plans.specs.LeftJoins.{plain_code}
 use Rattle.replies.specs.Reply.{Reply}
 use Rattle.store.specs.Database.{Rows}
 use Rattle.analysis.specs.Analysis.{admitted}
 use Rattle.engine.specs.Answer.{seen}
-use Rattle.engine.specs.Audits.{Audit, Judged, admitted_audit, audit_of, judged}
+use Rattle.engine.specs.Audits.{Judged, admitted_audit, audit_of, judged}
 use Rattle.engine.specs.Guarded.{guarded_tables}
 use Rattle.engine.specs.Settings.{setting}
-use Rattle.engine.proofs.OfText.{text_entries, text_inner, text_tables}
+use Rattle.engine.proofs.OfText.{text_inner, text_sound, text_tables}
 use Rattle.engine.proofs.Planned.{code_passing}
 use Rattle.engine.proofs.Readable.{found_in}
 use Rattle.engine.proofs.Steps.{filter_same}
-use Rattle.audit_laws.specs.AcceptedPlans.{AcceptedAreRight, IsRight, given_by, world_over}
+use Rattle.audit_laws.specs.AcceptedPlans.{AcceptedAreRight, given_by, world_over}
 
 -- ---- what is accepted
 
@@ -55,15 +55,15 @@ then_accepted true v r is = (refl, is)
 then_accepted false v r is = absurd (cc)
 
 -- its code is one that a plan may have
-admissible : (at : Setting) (x : Term) (es : List Entry) (p : Plan) → judged at x es p ≡ Accepted → is_admissible at p.code ≡ true
-admissible at x es p is = (then_accepted (is_admissible at p.code) _ _ (then_accepted _ (verdict at x p.trail p.code) _ is).1).0
+admissible : (at : Setting) (x : Term) (es : List Entry) (p : Plan) → judged at x es p ≡ Accepted → is_admissible at (plain_code p.code) ≡ true
+admissible at x es p is = (then_accepted (is_admissible at (plain_code p.code)) _ _ (then_accepted _ (verdict at x p.trail (plain_code p.code)) _ is).1).0
 
 judged_accepted : (v : Verdict) → Judged v ≡ Judged Accepted → v ≡ Accepted
 judged_accepted v is = cc
 
 module _ (cat : Catalog) (role : Name) where
   -- a plan is read
-  plan_read : (b : Bound) (r : Result Plan ℕ) → audit_of cat role b r ≡ Judged Accepted → (p : Plan) × (r ≡ Ok p) × (is_admissible (setting cat role b) p.code ≡ true)
+  plan_read : (b : Bound) (r : Result Plan ℕ) → audit_of cat role b r ≡ Judged Accepted → (p : Plan) × (r ≡ Ok p) × (is_admissible (setting cat role b) (plain_code p.code) ≡ true)
   plan_read b (Err line) is = absurd (cc)
   plan_read b (Ok p) is = (p, refl, admissible (setting cat role b) (written (length b.entries) b.query) b.entries p (judged_accepted _ is))
 
@@ -101,17 +101,17 @@ module _ (means : WrittenMeans) (same : ShapesMeanSame) (shown : GuardsShow) (ha
   code_passes cat role text b fit is code fits rows =
       let w = world_over cat rows role b in
       let at = setting cat role b in
-      let some : 0 < length w.tables = subst (λ n. 0 < n) (sym (as_many cat role rows b.entries)) (text_entries cat role b (text, is) have) in
+      let inner : length (left_ons b.query) < length w.tables = subst (λ n. length (left_ons b.query) < n) (sym (as_many cat role rows b.entries)) (text_inner cat role b (text, is) have) in
       subst (λ tables. IsPermutation (given_by cat rows role b code) (passing role (movable_conjuncts b.query) (left_combinations role (left_ons b.query) tables)))
       (left_rows cat role rows shown fit b.entries (text_tables cat role b (text, is)))
-      (code_passing means same w some (text_inner cat role b (text, is)) at (their_guards cat role rows b.entries) refl code fits (mean w (shape at code)) (IsPermutation-refl (mean w (shape at code))))
+      (code_passing means same w inner (text_sound cat role b (text, is) have) at (their_guards cat role rows b.entries) refl refl code fits (mean w (shape at code)) (IsPermutation-refl (mean w (shape at code))))
 
   pub accepted_are_right : AcceptedAreRight
   accepted_are_right cat role text plan fit is =
       let asked = text_admitted cat role plan (admitted cat role text) is in
       let b = asked.0 in
       let read = plan_read cat role b (plan_at (plan_entries b.entries) plan) asked.2 in
-      let passes = code_passes cat role text b fit asked.1 read.0.code read.2 in
+      let passes = code_passes cat role text b fit asked.1 (plain_code read.0.code) read.2 in
       record {
         query = b;
         read = read.0;

@@ -1,16 +1,21 @@
 -- The plan that explains a text is accepted by its audit.
-use Rattle.std.proofs.Common.{◌≡◌, ◌<◌, ◌^◌, ℕ, zero, suc, true, if◌then◌else◌, List, [], ◌∷◌, map, length, option_map, Result, Ok, Err, slice_index_or, refl, ap, subst, ◌∙◌, arith}
-use Rattle.std.specs.List.{All, AllByRecursion, IsDistinct}
+use Rattle.std.proofs.Common.{◌≡◌, ◌<◌, ◌≤◌, ◌+◌, ◌^◌, ℕ, zero, suc, Bool, true, false, cond, if◌then◌else◌, List, [], ◌∷◌, map, filter, length, option_map, Some, Result, Ok, Err, slice_index_or, refl, ap, subst, ◌∙◌, arith}
+use Rattle.std.specs.List.{All, AllByRecursion, IsDistinct, sum_by}
+use Rattle.std.proofs.lemmas.List.Sums.{sum_by-cons}
+use Rattle.value.specs.Limits.{most_conjuncts}
 use Rattle.std.specs.Str.{IsUtf8, bytes_eq}
 use Rattle.std.proofs.lemmas.List.{length-map}
 use Rattle.std.proofs.lemmas.List.Elements.{recursion_from_All}
 use Rattle.std.proofs.lemmas.Option.{slice_get_within}
 use Rattle.value.specs.Names.{Name}
-use Rattle.expr.specs.Bound.{BoundExpr}
+use Rattle.expr.specs.Bound.{BoundExpr, Column, Literal, CurrentUser, Negate, Arithmetic, Comparison, Between, In, IsNull, Not, And, Or, Cast, Case, CountStar, Call, BoundExprs, no_expr, one_expr}
 use Rattle.expr.specs.BoundQuery.{BoundQuery}
 use Rattle.expr.specs.Codes.{Code}
 use Rattle.expr.specs.Columns.{columns}
-use Rattle.expr.specs.Conjuncts.{movable_conjuncts}
+use Rattle.expr.specs.Conjuncts.{conjuncts_of, left_ons, members, movable_conjuncts}
+use Rattle.expr.specs.Movable.{movable}
+use Rattle.predicates.specs.Offsets.{without_offset, without_offsets}
+use Rattle.predicates.specs.Rebuilt.{all_rebuilt}
 use Rattle.expr.specs.NamedColumns.{named_columns}
 use Rattle.expr.specs.declared.bound.ColumnId.{ColumnId}
 use Rattle.row_objects.specs.Objects.{Table}
@@ -20,20 +25,21 @@ use Rattle.catalog_laws.specs.WellFormed.{IsWellFormed}
 use Rattle.access.specs.Guards.{guard}
 use Rattle.stats.specs.Statistics.{Stats, Unknown, row_count}
 use Rattle.algebra.specs.PlanningList.{planning_list}
-use Rattle.row_terms.specs.Written.{written}
+use Rattle.row_terms.specs.Written.{left_conditions, written}
 use Rattle.trailcheck.specs.Admissible.{is_admissible}
 use Rattle.trailcheck.specs.Settings.{Setting}
 use Rattle.trailcheck.specs.Verdicts.{verdict}
 use Rattle.trailcheck.specs.declared.verdict.Reason.TheVariants as reason
 use Rattle.trailcheck.specs.declared.verdict.Verdict.TheVariants.{Accepted, Refused}
 use Rattle.rewrite.specs.Laws.{PlansAreAccepted}
-use Rattle.planning.specs.Best.{BestIsThere}
+use Rattle.planning.specs.Best.{BestIsThere, best}
 use Rattle.expr_texts.specs.Filters.{IsName}
 use Rattle.plan_texts.specs.Plans.{Plan}
 use Rattle.plan_texts.specs.PlanTexts.{plan_text}
 use Rattle.plan_texts.specs.Reading.{IsFilter, IsPlan, PlansReadBack, plan_at, plan_without_offsets}
 use Rattle.bound_plans.specs.Entries.{plan_entries}
 use Rattle.bound_plans.specs.Found.{ColumnsAreFound, IsColumn, NamesBindBack, Unmistakable}
+use Rattle.bound_plans.specs.LeftJoins.{MarksAreRight, inner_count, plain_code}
 use Rattle.bound_plans.specs.Named.{named}
 use Rattle.syntax.specs.Tables.{HaveTables}
 use Rattle.resolve.specs.EntryTables.{AreTables}
@@ -46,18 +52,31 @@ use Rattle.engine.specs.Audits.{Judged, admitted_audit, audit_of, judged}
 use Rattle.engine.specs.Explained.{best_text, explained_query, plan_with, problem, text_if_found, trail}
 use Rattle.engine.specs.Settings.{setting}
 use Rattle.engine.proofs.OfText as of_text
-use Rattle.engine.proofs.OfText.{text_conjuncts, text_entries, text_few, text_inner, text_tables}
+use Rattle.engine.proofs.FewConjuncts.{member_count}
+use Rattle.engine.proofs.OfText.{few_left_conditions, text_conjuncts, text_entries, text_few, text_lefts, text_members, text_tables}
 use Rattle.plan_laws.specs.Names.{AreNames}
 use Rattle.audit_laws.specs.ExplainedPlans.{ExplainedAreAccepted, ExplainedArePlans, HasCounts}
 use Rattle.audit_laws.proofs.EntryNames.{admitted_aliases_differ, column_named, columns_few, entry_named, index_named, small_number, unmistakable}
-use Rattle.plan_laws.proofs.SoundPlans.{Facts, filters_each, filters_right, plan_is, trail_accepted}
+use Rattle.plan_laws.proofs.SoundPlans.{Facts, filters_each, is_right, ons_each, plan_is, trail_accepted}
 
 -- ---- the plan that explains a text
 
-pub explained_are_plans : BestIsThere → ExplainedArePlans
-explained_are_plans there cat statistics role text b is =
+-- no more entries are left joined than there are
+left_joined_few : HaveTables → (cat : Catalog) (role : Name) (text : List ℕ) (b : Bound) → admitted cat role text ≡ Ok b → length (left_conditions b.query) < length (setting cat role b).frame
+left_joined_few have cat role text b is =
+    let fewer = few_left_conditions b (text_lefts cat role b (text, is) have) in
+    let many = length-map b.entries (λ e. guard cat role e.table) in
+    omega (arith, fewer, many)
+
+-- so there is a best code
+best_there : BestIsThere → HaveTables → (cat : Catalog) (role : Name) (text : List ℕ) (b : Bound) (counts : List Stats) → admitted cat role text ≡ Ok b
+    → (code : Code) × (best (problem cat role b counts) ≡ Some code) × (is_admissible (setting cat role b) code ≡ true)
+best_there there have cat role text b counts is = there (problem cat role b counts) (let l = left_joined_few have cat role text b is in omega (arith, l))
+
+pub explained_are_plans : BestIsThere → HaveTables → ExplainedArePlans
+explained_are_plans there have cat statistics role text b is =
     let counts : List Stats = map (λ (e : Entry). statistics e.table) b.entries in
-    let it = there (problem cat role b counts) in (
+    let it = best_there there have cat role text b counts is in (
       plan_with cat role b counts it.0,
       ap (option_map (plan_with cat role b counts)) it.1,
       ap (explained_query cat statistics role) is ∙ ap (λ o. let r : Result (List ℕ) Reply = Ok (text_if_found b.entries (option_map (plan_with cat role b counts) o)) in r) it.1,
@@ -79,12 +98,57 @@ granted_columns : (cat : Catalog) (role : Name) (entries : List Entry) (ids : Li
 granted_columns cat role entries [] h = tt
 granted_columns cat role entries (id ∷ ids) h = (granted_column cat role entries id h.0, granted_columns cat role entries ids h.1)
 
+-- ---- the members of the ONs of left joined entries
+
+-- as many without offsets
+same_members : (e : BoundExpr) → length (conjuncts_of (without_offsets e)) ≡ length (conjuncts_of e)
+same_members (And offset es) = go es
+  where
+    go : (es : BoundExprs) → length (members (all_rebuilt without_offset es)) ≡ length (members es)
+    go no_expr = refl
+    go (one_expr e es) = ap suc (go es)
+same_members (Column id) = refl
+same_members (Literal d) = refl
+same_members CurrentUser = refl
+same_members (Negate offset e) = refl
+same_members (Arithmetic op offset e f) = refl
+same_members (Comparison op offset e f) = refl
+same_members (Between negated offset e low high) = refl
+same_members (In negated offset values e) = refl
+same_members (IsNull negated offset e) = refl
+same_members (Not offset e) = refl
+same_members (Or offset es) = refl
+same_members (Cast offset to e) = refl
+same_members (Case offset as_ o) = refl
+same_members (CountStar offset) = refl
+same_members (Call f offset e) = refl
+
+-- each has no more than all
+abbrev AreFew : List BoundExpr → Type 0
+AreFew ons = AllByRecursion (λ on. length (conjuncts_of on) ≤ most_conjuncts) ons
+
+movable_members : (ons : List BoundExpr) → sum_by member_count ons ≤ most_conjuncts → AreFew (filter movable ons)
+movable_members [] h = tt
+movable_members (on ∷ ons) h = go (movable on) (movable_members ons (omega (arith, h, all)))
+  where
+    all : sum_by member_count (on ∷ ons) ≡ member_count on + sum_by member_count ons
+    all = sum_by-cons member_count on ons
+
+    go : (b : Bool) → AreFew (filter movable ons) → AreFew (cond b (on ∷ filter movable ons) (filter movable ons))
+    go true rest = (omega (arith, h, all), rest)
+    go false rest = rest
+
+few_each : (ons : List BoundExpr) → AreFew ons → AllByRecursion (λ on. length (conjuncts_of on) < 2 ^ 64) (map without_offsets ons)
+few_each [] h = tt
+few_each (on ∷ ons) h = (let few = h.0 in let same = same_members on in omega (arith, few, same), few_each ons h.1)
+
 -- ---- the laws below
 
 pub record Laws : Type 0 where
   pub back : PlansReadBack
   pub bind : NamesBindBack
   pub found : ColumnsAreFound
+  pub marks : MarksAreRight
   pub accept : PlansAreAccepted
   pub there : BestIsThere
   pub tables : HaveTables
@@ -108,7 +172,9 @@ module _ (laws : Laws) where
 
     facts : Facts b.entries b.query at
     facts = record {
-      inner = text_inner cat role b (text, is);
+      lefts = refl;
+      among = left_joined_few laws.tables cat role text b is;
+      few_members = few_each (filter movable (left_ons b.query)) (movable_members (left_ons b.query) (text_members cat role b (text, is) laws.small));
       listed = refl;
       each = length-map b.entries (λ e. guard cat role e.table);
       some = text_entries cat role b (text, is) laws.tables;
@@ -122,7 +188,7 @@ module _ (laws : Laws) where
       query = granted_columns cat role b.entries (named_columns b.query) (recursion_from_All (IsGranted cat role b.entries) (named_columns b.query) (laws.granted cat role text b is));
     }
 
-    module _ (IsSaid : List Entry → BoundExpr → Type 0) (said_filter : SaidAreFilters IsSaid) (said : All (IsSaid b.entries) (planning_list b.query)) (statistics : Table → Stats) (few : HasCounts statistics) where
+    module _ (IsSaid : List Entry → BoundExpr → Type 0) (said_filter : SaidAreFilters IsSaid) (said : All (IsSaid b.entries) (planning_list b.query)) (said_lefts : All (IsSaid b.entries) (left_conditions b.query)) (statistics : Table → Stats) (few : HasCounts statistics) where
       abbrev counts : List Stats
       counts = map (λ (e : Entry). statistics e.table) b.entries
 
@@ -134,10 +200,12 @@ module _ (laws : Laws) where
         whole =
             plan_is b.entries b.query at facts column_number small_number counts (rows_few statistics few b.entries) code admissible
             (filters_each b.entries b.query at facts (IsSaid b.entries) (said_filter b.entries facts.differ) (recursion_from_All (IsSaid b.entries) (planning_list b.query) said))
+            (ons_each b.entries b.query at facts (IsSaid b.entries) (said_filter b.entries facts.differ) (recursion_from_All (IsSaid b.entries) (left_conditions b.query) said_lefts))
 
         judged_is : judged at (written (length b.entries) b.query) b.entries (plan_without_offsets plan) ≡ Accepted
         judged_is =
-            ap (λ t. if t then verdict at (written (length b.entries) b.query) (trail cat role b code) code else Refused record { line = 0; reason = reason.Code }) (filters_right b.entries b.query at facts laws.bind laws.found)
+            ap (λ t. if t then verdict at (written (length b.entries) b.query) (trail cat role b code) (plain_code plan.code) else Refused record { line = 0; reason = reason.Code }) (is_right b.entries b.query at facts laws.bind laws.found laws.marks plan code refl refl refl)
+            ∙ ap (verdict at (written (length b.entries) b.query) (trail cat role b code)) (laws.marks (inner_count b.entries (left_conditions b.query)) code).1
             ∙ trail_accepted b.entries b.query at facts laws.accept code admissible
 
         audited : audit_of cat role b (plan_at (plan_entries b.entries) (plan_text (plan_entries b.entries) plan)) ≡ Judged Accepted
@@ -146,7 +214,7 @@ module _ (laws : Laws) where
       -- the text of the best plan is accepted
       best_audited : audit_of cat role b (plan_at (plan_entries b.entries) (best_text cat role b counts)) ≡ Judged Accepted
       best_audited =
-          let it = laws.there (problem cat role b counts) in
+          let it = best_there laws.there laws.tables cat role text b counts is in
           ap (λ o. audit_of cat role b (plan_at (plan_entries b.entries) (text_if_found b.entries (option_map (plan_with cat role b counts) o)))) it.1 ∙ audited it.0 it.2
 
   -- ---- the law
@@ -158,11 +226,14 @@ module _ (laws : Laws) where
     abbrev PlanningListsAreSaid : Type 0
     PlanningListsAreSaid = (entries : List Entry) (q : BoundQuery) → All (IsSaid entries) (movable_conjuncts q) → All (IsSaid entries) (planning_list q)
 
+    abbrev AdmittedLeftsAreSaid : Type 0
+    AdmittedLeftsAreSaid = (cat : Catalog) (role : Name) (text : List ℕ) (b : Bound) → IsWellFormed cat → AreNames cat → IsUtf8 text → admitted cat role text ≡ Ok b → All (IsSaid b.entries) (left_conditions b.query)
+
     abbrev AliasesAreNames : Type 0
     AliasesAreNames = (cat : Catalog) (role : Name) (text : List ℕ) (b : Bound) → IsWellFormed cat → AreNames cat → IsUtf8 text → admitted cat role text ≡ Ok b → All (λ (e : Entry). IsName e.alias) b.entries
 
-    pub explained_accepted : SaidAreFilters IsSaid → AdmittedAreSaid → PlanningListsAreSaid → AliasesAreNames → ExplainedAreAccepted
-    explained_accepted said_filter admitted_said planning_said admitted_aliases cat statistics role text plan fit names few utf8 explains = go (admitted cat role text) refl explains
+    pub explained_accepted : SaidAreFilters IsSaid → AdmittedAreSaid → AdmittedLeftsAreSaid → PlanningListsAreSaid → AliasesAreNames → ExplainedAreAccepted
+    explained_accepted said_filter admitted_said admitted_lefts_said planning_said admitted_aliases cat statistics role text plan fit names few utf8 explains = go (admitted cat role text) refl explains
       where
         same_text : (s t : List ℕ) → ◌≡◌ {A = Result (List ℕ) Reply} (Ok s) (Ok t) → s ≡ t
         same_text s t e = cc
@@ -172,4 +243,4 @@ module _ (laws : Laws) where
         go (Ok b) is e =
             let text_is : best_text cat role b (map (λ (e : Entry). statistics e.table) b.entries) ≡ plan = same_text (best_text cat role b (map (λ (e : Entry). statistics e.table) b.entries)) plan e in
             subst (λ p. audit_of cat role b (plan_at (plan_entries b.entries) p) ≡ Judged Accepted) text_is
-            (best_audited cat role b text is fit names (admitted_aliases cat role text b fit names utf8 is) IsSaid said_filter (planning_said b.entries b.query (admitted_said cat role text b fit names utf8 is)) statistics few)
+            (best_audited cat role b text is fit names (admitted_aliases cat role text b fit names utf8 is) IsSaid said_filter (planning_said b.entries b.query (admitted_said cat role text b fit names utf8 is)) (admitted_lefts_said cat role text b fit names utf8 is) statistics few)

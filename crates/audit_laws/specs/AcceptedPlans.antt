@@ -16,6 +16,7 @@ use Rattle.resolve.specs.Resolved.{Bound}
 use Rattle.plan_texts.specs.Plans.{Plan}
 use Rattle.plan_texts.specs.Reading.{plan_at}
 use Rattle.bound_plans.specs.Entries.{plan_entries}
+use Rattle.bound_plans.specs.LeftJoins.{plain_code}
 use Rattle.store.specs.Database.{Rows}
 use Rattle.analysis.specs.Analysis.{admitted}
 use Rattle.engine.specs.Answer.{answer, seen}
@@ -38,9 +39,9 @@ pub record IsRight (cat : Catalog) (role : Name) (text plan : List ℕ) : Type 0
   pub is_admitted : admitted cat role text ≡ Ok query
   pub is_read : plan_at (plan_entries query.entries) plan ≡ Ok read
   -- its shape gives exactly the combinations of rows that the role sees that pass the movable conjuncts
-  pub passes : (rows : Rows) → IsPermutation (given_by cat rows role query read.code) (passing role (movable_conjuncts query.query) (left_combinations role (left_ons query.query) (seen cat rows role query.entries)))
+  pub passes : (rows : Rows) → IsPermutation (given_by cat rows role query (plain_code read.code)) (passing role (movable_conjuncts query.query) (left_combinations role (left_ons query.query) (seen cat rows role query.entries)))
   -- so over them the query has its answer
-  pub answers : (rows : Rows) → report.answer role query.query (given_by cat rows role query read.code) ≡ answer cat rows role query
+  pub answers : (rows : Rows) → report.answer role query.query (given_by cat rows role query (plain_code read.code)) ≡ answer cat rows role query
 
 abbrev pub AcceptedAreRight : Type 0
 AcceptedAreRight = (cat : Catalog) (role : Name) (text plan : List ℕ) → IsWellFormed cat → audit cat role text plan ≡ Judged Accepted → IsRight cat role text plan

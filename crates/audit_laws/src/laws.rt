@@ -3,7 +3,7 @@
 ghost use Rattle.audit_laws.specs.AcceptedPlans.{AcceptedAreRight};
 ghost use Rattle.audit_laws.specs.ExplainedPlans.{ExplainedAreAccepted, ExplainedArePlans};
 
-use bound_plans::{law_columns_are_found, law_names_bind_back};
+use bound_plans::{law_columns_are_found, law_marks_are_right, law_names_bind_back};
 use catalog_laws::law_well_formed;
 use plan_texts::law_plans_read_back;
 use planning::{law_best_is_there, law_shapes_mean_same};
@@ -31,6 +31,7 @@ pub fn law_explained_texts_are_plans()
     ensures { ExplainedArePlans }
 {
     law_best_is_there();
+    law_queries_have_tables();
 }
 
 /// The plan that explains a text is accepted by its audit, by whatever statistics it was chosen. The names of columns have to be words
@@ -41,6 +42,7 @@ pub fn law_explained_plans_are_accepted()
     law_plans_read_back();
     law_names_bind_back();
     law_columns_are_found();
+    law_marks_are_right();
     law_plans_are_accepted();
     law_best_is_there();
     law_queries_have_tables();

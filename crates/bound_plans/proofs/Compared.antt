@@ -5,7 +5,7 @@ use Rattle.expr.specs.Bound.{BoundExpr}
 use Rattle.scope.specs.Entry.{Entry}
 use Rattle.bound_plans.specs.Filters.{is_filter, are_filters}
 
-and_false : (b : Bool) → (b && false) ≡ false
+pub and_false : (b : Bool) → (b && false) ≡ false
 and_false true = refl
 and_false false = refl
 

@@ -2,3 +2,5 @@ mod Back
 mod Findable
 mod Made
 mod Compared
+mod Marks
+mod Ons

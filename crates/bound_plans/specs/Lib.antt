@@ -1,4 +1,5 @@
 pub mod Entries
 pub mod Filters
 pub mod Found
+pub mod LeftJoins
 pub mod Named

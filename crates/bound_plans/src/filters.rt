@@ -13,7 +13,7 @@ use scope::{Entry, bind_expr, everywhere};
 use std::alloc::AllocError;
 
 // True where the filter with its columns found is the condition.
-fn is_filter<A: Heap>(
+pub(crate) fn is_filter<A: Heap>(
     alloc: A,
     entries: &[Entry<'_, A>],
     filter: &Expr<A>,

@@ -5,12 +5,14 @@ use Rattle.std.specs.List.{All}
 use Rattle.value.specs.Names.{Name}
 use Rattle.expr.specs.Bound.{BoundExpr}
 use Rattle.expr.specs.BoundQuery.{BoundQuery}
+use Rattle.expr.specs.Codes.{Code}
 use Rattle.scope.specs.Entry.{Entry}
 use Rattle.catalog.specs.Catalog.{Catalog}
 use Rattle.access.specs.Guards.{frame, guard}
 use Rattle.tuples.specs.Guards as guards
 use Rattle.tuples.specs.Guards.{Guard}
 use Rattle.stats.specs.Statistics.{Stats}
+use Rattle.row_terms.specs.Written.{left_conditions}
 use Rattle.algebra.specs.PlanningList.{planning_list}
 use Rattle.algebra.specs.Steps.{Step}
 use Rattle.planning.specs.Placing.{placing}
@@ -27,6 +29,7 @@ use Rattle.plan_texts.specs.declared.plan.SortColumn.{SortColumn}
 use Rattle.plan_texts.specs.Plans.{Plan, PlanEntry}
 use Rattle.plan_texts.specs.PlanTexts.{plan_text}
 use Rattle.bound_plans.specs.Entries.{plan_entries}
+use Rattle.bound_plans.specs.LeftJoins.{inner_count, marked_code, named_ons}
 use Rattle.bound_plans.specs.Named.{named}
 use Rattle.resolve.specs.Resolved.{Bound}
 use Rattle.replies.specs.Reply.{Reply, no_memory}
@@ -66,9 +69,20 @@ same_explained cat role text one other h = same_query cat role one other (admitt
 
 -- ---- the text of the best plan
 
+-- a plan with these conditions, and these ONs of the left joined entries
+abbrev pub named_with : List Entry → (conditions lefts : List BoundExpr) → Code → (cost : ℕ) → Option SortColumn → List Step → Plan
+named_with entries conditions lefts code cost sort steps = record {
+  cost = cost;
+  filters = map (named entries) conditions;
+  ons = named_ons entries lefts;
+  code = marked_code (inner_count entries lefts) code;
+  sort = sort;
+  trail = steps;
+}
+
 module _ (cat : Catalog) (role : Name) (b : Bound) (stats : List Stats) (p : planning.Plan) (is : IsPlan p) (query : p.query ≡ b.query) (from : p.problem ≡ problem cat role b stats) where
   abbrev named_plan : (cost : ℕ) → Option SortColumn → List Step → Plan
-  named_plan cost sort steps = record { cost = cost; filters = map (named b.entries) (planning_list b.query); code = p.code; sort = sort; trail = steps }
+  named_plan cost sort steps = named_with b.entries (planning_list b.query) (left_conditions b.query) p.code cost sort steps
 
   is_plan_with : named_plan p.cost (option_map sort_column (last_sort p.problem p.code)) p.trail ≡ plan_with cat role b stats p.code
   is_plan_with =
@@ -84,11 +98,12 @@ module _ (cat : Catalog) (role : Name) (b : Bound) (stats : List Stats) (p : pla
       ap (plan_text (plan_entries b.entries)) is_plan_with ∙ sym (ap (λ o. text_if_found b.entries (option_map (plan_with cat role b stats) o)) found)
 
   -- the same of entries, conditions and names that are those of the query
-  pub written_best : (entries : List Entry) (conditions : List BoundExpr) (names : List PlanEntry) (q : Plan) → entries ≡ b.entries → conditions ≡ planning_list b.query → names ≡ plan_entries b.entries
-      → q ≡ record { cost = p.cost; filters = map (named entries) conditions; code = p.code; sort = option_map sort_column (last_sort p.problem p.code); trail = p.trail } → plan_text names q ≡ best_text cat role b stats
-  written_best entries conditions names q of_entries of_conditions of_names is_q =
+  pub written_best : (entries : List Entry) (conditions lefts : List BoundExpr) (names : List PlanEntry) (q : Plan) → entries ≡ b.entries → conditions ≡ planning_list b.query → lefts ≡ left_conditions b.query → names ≡ plan_entries b.entries
+      → q ≡ named_with entries conditions lefts p.code p.cost (option_map sort_column (last_sort p.problem p.code)) p.trail → plan_text names q ≡ best_text cat role b stats
+  written_best entries conditions lefts names q of_entries of_conditions of_lefts of_names is_q =
       ap₂ plan_text of_names
-      (is_q ∙ ap₂ (λ es cs. let x : Plan = record { cost = p.cost; filters = map (named es) cs; code = p.code; sort = option_map sort_column (last_sort p.problem p.code); trail = p.trail } in x) of_entries of_conditions)
+      (is_q ∙ ap₂ (λ es cs. named_with es cs lefts p.code p.cost (option_map sort_column (last_sort p.problem p.code)) p.trail) of_entries of_conditions
+      ∙ ap (λ ls. named_with b.entries (planning_list b.query) ls p.code p.cost (option_map sort_column (last_sort p.problem p.code)) p.trail) of_lefts)
       ∙ is_best_text
 
 -- what a plan is made from

@@ -1,5 +1,6 @@
 -- A query within the limits has few conjuncts, and no more when it is bound.
 use Rattle.std.proofs.Common.{◌≡◌, ℕ, ◌+◌, ◌≤◌, Bool, true, false, ◌&&◌, cond, List, [], ◌∷◌, ◌++◌, ◌-◌, length, length-append, map, take, drop, Option, Some, None, Result, Ok, Err, refl, sym, ap, subst, ◌∙◌, arith}
+use Rattle.std.specs.Prelude.{option_to_list}
 use Rattle.std.specs.List.{flat_map, sum, sum_by}
 use Rattle.std.proofs.lemmas.Bool.{leb-true}
 use Rattle.std.proofs.lemmas.List.{take-append-drop}
@@ -15,7 +16,7 @@ use Rattle.expr.specs.declared.bound.ColumnId.{ColumnId}
 use Rattle.expr.specs.Bound as bound
 use Rattle.expr.specs.Bound.{BoundExpr, bound_arms_of, bound_exprs_of}
 use Rattle.expr.specs.BoundQuery.{BoundItem, BoundQuery}
-use Rattle.expr.specs.Conjuncts.{conjuncts, conjuncts_in, conjuncts_of, inner_ons, members, movable_conjuncts}
+use Rattle.expr.specs.Conjuncts.{conjuncts, conjuncts_in, conjuncts_of, inner_ons, left_ons, members, movable_conjuncts}
 use Rattle.expr.specs.Movable.{movable}
 use Rattle.row_objects.specs.Objects.{Table}
 use Rattle.scope.specs.declared.error.BindError.{BindError}
@@ -199,21 +200,36 @@ parts_kept grouped lefts limit (Ok items) (Ok ons) (Ok filter) (Ok group_by) (Ok
     let same = ok_is (record { items = items; ons = ons; left_count = lefts; filter = filter; group_by = group_by; having = having; is_grouped = grouped; order_by = []; limit = limit }) b e in
     (ap (λ b. Ok b.ons) same, ap (λ b. Ok b.filter) same)
 
--- of the first ones there are no more than of all
-of_the_first : (n : ℕ) (ons : List (Option BoundExpr)) → sum_by count_in (take n ons) ≤ sum_by count_in ons
-of_the_first n ons =
-    let k = sum_by-append count_in (take n ons) (drop n ons) in
-    let e = ap (sum_by count_in) (take-append-drop n ons) in
-    omega arith
+-- the first ones and the others are all
+of_both : (n : ℕ) (ons : List (Option BoundExpr)) → sum_by count_in (take n ons) + sum_by count_in (drop n ons) ≡ sum_by count_in ons
+of_both n ons = sym (sum_by-append count_in (take n ons) (drop n ons)) ∙ ap (sum_by count_in) (take-append-drop n ons)
 
-query_bound : (es : List Entry) (q : ast.Query) (b : BoundQuery) → bound_query es q ≡ Ok b → length (conjuncts b) ≤ sum_by entry_members es + filter_members q.filter
+-- the conjuncts of the ONs that are there
+abbrev pub member_count : BoundExpr → ℕ
+member_count on = length (conjuncts_of on)
+
+there_count : (ons : List (Option BoundExpr)) → sum_by member_count (flat_map option_to_list ons) ≡ sum_by count_in ons
+there_count [] = refl
+there_count (None ∷ ons) = let n = there_count ons in let k = sum_by-cons count_in None ons in omega (arith, n, k)
+there_count (Some on ∷ ons) =
+    let n = there_count ons in
+    let k = sum_by-cons count_in (Some on) ons in
+    let l = sum_by-cons member_count on (flat_map option_to_list ons) in
+    omega (arith, n, k, l)
+
+-- those of a query, and those of the ONs of its left joined entries
+abbrev all_conjuncts : BoundQuery → ℕ
+all_conjuncts b = length (conjuncts b) + sum_by member_count (left_ons b)
+
+query_bound : (es : List Entry) (q : ast.Query) (b : BoundQuery) → bound_query es q ≡ Ok b → all_conjuncts b ≡ sum_by entry_members es + filter_members q.filter
 query_bound es q b e =
     let parts = parts_kept _ _ _ _ _ _ _ _ b e in
     let n = ons_bound es 0 es b.ons parts.0 in
     let m = condition_bound es (everywhere es) q.filter b.filter parts.1 in
     let k = length-append (flat_map conjuncts_in (inner_ons b)) (conjuncts_in b.filter) in
     let l = length-flat_map conjuncts_in (inner_ons b) in
-    let f = of_the_first (length b.ons - b.left_count) b.ons in
+    let f = of_both (length b.ons - b.left_count) b.ons in
+    let t = there_count (drop (length b.ons - b.left_count) b.ons) in
     omega arith
 
 -- the checks and ORDER BY keep the conjuncts
@@ -222,13 +238,13 @@ not_faulty : {X E : Type 0} (o : Option E) (x y : X) → unless_fault o x ≡ Ok
 not_faulty None x y e = ok_is x y e
 not_faulty (Some fault) x y e = absurd (cc)
 
-checked_kept : (es : List Entry) (q : ast.Query) (c : BoundQuery) (b : Bound) → checked es q c ≡ Ok b → length (conjuncts c) ≡ length (conjuncts b.query)
+checked_kept : (es : List Entry) (q : ast.Query) (c : BoundQuery) (b : Bound) → checked es q c ≡ Ok b → all_conjuncts c ≡ all_conjuncts b.query
 checked_kept es q c b e =
     let types = given (ordered es q) b (unless_fault _ c) e in
     let keys = given (λ keys. Ok record { entries = es; query = with_order types.0 keys }) b (on_each (output_key types.0.items) q.order_by) types.2 in
-    ap (λ c. length (conjuncts c)) (not_faulty _ c types.0 types.1) ∙ ap (λ b. length (conjuncts b.query)) (ok_is (record { entries = es; query = with_order types.0 keys.0 }) b keys.2)
+    ap all_conjuncts (not_faulty _ c types.0 types.1) ∙ ap (λ b. all_conjuncts b.query) (ok_is (record { entries = es; query = with_order types.0 keys.0 }) b keys.2)
 
-as_few_conjuncts : (cat : Catalog) (q : ast.Query) (b : Bound) → bound cat q ≡ Ok b → length (conjuncts b.query) ≤ limits.conjuncts q
+as_few_conjuncts : (cat : Catalog) (q : ast.Query) (b : Bound) → bound cat q ≡ Ok b → all_conjuncts b.query ≤ limits.conjuncts q
 as_few_conjuncts cat q b e =
     let found = given (bound_with q) b (entries cat q) e in
     let all = given lefts_checked b (bound_checked q found.0) found.2 in
@@ -237,7 +253,7 @@ as_few_conjuncts cat q b e =
     let m = query_bound found.0 q columns.0 columns.1 in
     let k = entries_found cat [] (tables_of q) found.0 found.1 in
     let l = tables_joined q in
-    let s = ap (λ b. length (conjuncts b.query)) (not_faulty (left_fault all.0.query) all.0 b all.2) in
+    let s = ap (λ b. all_conjuncts b.query) (not_faulty (left_fault all.0.query) all.0 b all.2) in
     omega arith
 
 -- ---- those that are movable
@@ -262,6 +278,17 @@ permitted_conjuncts cat role q b (Ok b') few is e =
     let n = as_few_conjuncts cat q b' is in
     let m = few_movable b'.query in
     subst (λ (b : Bound). length (movable_conjuncts b.query) ≤ most_conjuncts) (not_denied b' b _ e) (omega arith)
+
+-- nor have the ONs of its left joined entries more
+permitted_lefts : (cat : Catalog) (role : Name) (q : ast.Query) (b : Bound) (r : Result Bound BindError)
+    → limits.conjuncts q ≤ most_conjuncts → bound cat q ≡ r → permitted cat role r ≡ Ok b → sum_by member_count (left_ons b.query) ≤ most_conjuncts
+permitted_lefts cat role q b (Err fault) few is e = absurd (cc)
+permitted_lefts cat role q b (Ok b') few is e =
+    let n = as_few_conjuncts cat q b' is in
+    subst (λ (b : Bound). sum_by member_count (left_ons b.query) ≤ most_conjuncts) (not_denied b' b _ e) (omega arith)
+
+pub admitted_lefts : (cat : Catalog) (role : Name) (q : ast.Query) (b : Bound) → within_limits q ≡ true → admitted_query cat role q ≡ Ok b → sum_by member_count (left_ons b.query) ≤ most_conjuncts
+admitted_lefts cat role q b small e = permitted_lefts cat role q b (bound cat q) (few_conjuncts q small) refl e
 
 pub admitted_conjuncts : (cat : Catalog) (role : Name) (q : ast.Query) (b : Bound)
     → within_limits q ≡ true → admitted_query cat role q ≡ Ok b → length (movable_conjuncts b.query) ≤ most_conjuncts

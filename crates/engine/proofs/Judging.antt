@@ -1,4 +1,4 @@
--- The verdict on a plan whose filters are the planning list, and the audits that give the status of memory.
+-- The verdict on a plan whose filters, ONs and words are those of the query, and the audits that give the status of memory.
 use Rattle.std.proofs.Common.{◌≡◌, ◌∙◌, Bool, true, if◌then◌else◌, List, sym, ap, arith}
 use Rattle.row_terms.specs.Terms.{Term}
 use Rattle.trailcheck.specs.Settings.{Setting}
@@ -7,16 +7,16 @@ use Rattle.trailcheck.specs.declared.verdict.Reason.TheVariants as reason
 use Rattle.trailcheck.specs.declared.verdict.Verdict.{Verdict}
 use Rattle.trailcheck.specs.declared.verdict.Verdict.TheVariants as verdicts
 use Rattle.plan_texts.specs.Plans.{Plan}
-use Rattle.bound_plans.specs.Filters.{are_filters}
+use Rattle.bound_plans.specs.LeftJoins.{is_of_query, plain_code}
 use Rattle.scope.specs.Entry.{Entry}
 use Rattle.replies.specs.Reply.{no_memory}
 use Rattle.replies.specs.ReplyText.{reply_text}
 use Rattle.replies.proofs.Statuses.{only_no_memory}
 use Rattle.engine.specs.Audits.{Audit, Replied, Unreadable, Judged, audit_status, audit_text, judged}
 
-pub judged_is : (at : Setting) (x : Term) (es : List Entry) (p : Plan) (b : Bool) (v : Verdict) → b ≡ are_filters es p.filters at.conditions → b ≡ true → v ≡ verdict at x p.trail p.code → v ≡ judged at x es p
+pub judged_is : (at : Setting) (x : Term) (es : List Entry) (p : Plan) (b : Bool) (v : Verdict) → b ≡ is_of_query es at.conditions at.lefts p → b ≡ true → v ≡ verdict at x p.trail (plain_code p.code) → v ≡ judged at x es p
 judged_is at x es p b v is holds h =
-    h ∙ ap (λ t. if t then verdict at x p.trail p.code else verdicts.Refused record { line = 0; reason = reason.Code }) (sym holds ∙ is)
+    h ∙ ap (λ t. if t then verdict at x p.trail (plain_code p.code) else verdicts.Refused record { line = 0; reason = reason.Code }) (sym holds ∙ is)
 
 -- an audit of that status is out of memory
 pub only_memory : (a : Audit) → audit_status a ≡ 7 → audit_text a ≡ reply_text no_memory

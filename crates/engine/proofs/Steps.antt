@@ -61,10 +61,10 @@ module _ {E G : Type 0} (entry : E → Entry) (guard : G → Guard) (rows : Rows
     pub their_guards : map (λ t. t.guard) (map table ts) ≡ map guard gs
     their_guards = ap (map (λ t. t.guard)) made ∙ guards_are es gs same
 
-    pub some_tables : 0 < length (map entry es) → 0 < length ts
-    some_tables some =
+    pub each_has_table : length ts ≡ length (map entry es)
+    each_has_table =
         let n = ap length made in
-        omega (arith, some, n, length-map ts table, length-map es entry, as_many es gs same)
+        omega (arith, n, length-map ts table, length-map es entry, as_many es gs same)
 
 -- ---- the walk that guards tables
 

@@ -15,7 +15,7 @@ use Rattle.trailcheck.specs.declared.verdict.Verdict.TheVariants.{Accepted, Refu
 use Rattle.plan_texts.specs.Plans.{Plan}
 use Rattle.plan_texts.specs.Reading.{plan_at}
 use Rattle.bound_plans.specs.Entries.{plan_entries}
-use Rattle.bound_plans.specs.Filters.{are_filters}
+use Rattle.bound_plans.specs.LeftJoins.{is_of_query, plain_code}
 use Rattle.resolve.specs.Resolved.{Bound}
 use Rattle.replies.specs.Reply.{Reply, reply_status}
 use Rattle.replies.specs.ReplyText.{reply_text}
@@ -32,9 +32,9 @@ pub data Audit : Type 0 where
 
 -- ---- the verdict
 
--- the checker's verdict on code and trail, where the filters are the planning list
+-- the checker's verdict on code and trail, where the filters are the planning list, and ONs and words those of the left joined entries
 abbrev pub judged : Setting → (written : Term) → List Entry → Plan → Verdict
-judged at written entries p = if are_filters entries p.filters at.conditions then verdict at written p.trail p.code else Refused record { line = 0; reason = reason.Code }
+judged at written entries p = if is_of_query entries at.conditions at.lefts p then verdict at written p.trail (plain_code p.code) else Refused record { line = 0; reason = reason.Code }
 
 abbrev pub audit_of : Catalog → Name → Bound → Result Plan ℕ → Audit
 audit_of cat role b (Err line) = Unreadable line

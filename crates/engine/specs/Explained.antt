@@ -10,6 +10,7 @@ use Rattle.catalog.specs.Catalog.{Catalog}
 use Rattle.access.specs.Guards.{guard}
 use Rattle.tuples.specs.Guards as guards
 use Rattle.stats.specs.Statistics.{Stats}
+use Rattle.row_terms.specs.Written.{left_conditions}
 use Rattle.algebra.specs.PlanningList.{planning_list}
 use Rattle.algebra.specs.Steps.{Step}
 use Rattle.planning.specs.Placing.{placing}
@@ -23,6 +24,7 @@ use Rattle.plan_texts.specs.declared.plan.SortColumn.{SortColumn}
 use Rattle.plan_texts.specs.Plans.{Plan}
 use Rattle.plan_texts.specs.PlanTexts.{plan_text}
 use Rattle.bound_plans.specs.Entries.{plan_entries}
+use Rattle.bound_plans.specs.LeftJoins.{inner_count, marked_code, named_ons}
 use Rattle.bound_plans.specs.Named.{named}
 use Rattle.resolve.specs.Resolved.{Bound}
 use Rattle.replies.specs.Reply.{Reply, reply_status}
@@ -51,7 +53,8 @@ abbrev pub plan_with : Catalog → Name → Bound → List Stats → Code → Pl
 plan_with cat role b statistics code = record {
   cost = cost (estimates (problem cat role b statistics)) code;
   filters = map (named b.entries) (planning_list b.query);
-  code = code;
+  ons = named_ons b.entries (left_conditions b.query);
+  code = marked_code (inner_count b.entries (left_conditions b.query)) code;
   sort = option_map sort_column (last_sort (problem cat role b statistics) code);
   trail = trail cat role b code;
 }

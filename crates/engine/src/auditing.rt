@@ -21,7 +21,7 @@ ghost use Rattle.engine.specs.View.{audit_of};
 use crate::setting::setting;
 use algebra::Step;
 use analysis::{admit, read_query};
-use bound_plans::{are_filters, read_trail};
+use bound_plans::{is_of_query, plain_code, read_trail};
 use catalog::Catalog;
 use expr::Code;
 use memory::{Failure, Heap};
@@ -62,7 +62,8 @@ pub fn check<A: Heap>(
     judge(alloc, setting, written, trail, code)
 }
 
-// The checker's verdict on code and trail, where the filters are the planning list.
+// The checker's verdict on code and trail, where the filters are the planning list, and ONs and words those of the left joined
+// entries.
 fn judged<A: Heap>(
     alloc: A,
     setting: &Setting<A>,
@@ -72,18 +73,15 @@ fn judged<A: Heap>(
 ) -> Result<Verdict, AllocError>
     ensures { IfOk result (λ v. v ≡ spec.judged (setting_of setting.now) (term_of written) (entries_of entries.now) (plan_of plan.now)) }
 {
-    if !are_filters(
-        alloc,
-        entries,
-        plan.filters.as_slice(),
-        setting.conditions.as_slice(),
-    )? {
+    let conditions = setting.conditions.as_slice();
+    if !is_of_query(alloc, entries, conditions, setting.lefts.as_slice(), plan)? {
         return Ok(Verdict::Refused(Refusal {
             line: 0,
             reason: Reason::Code,
         }));
     }
-    judge(alloc, setting, written, plan.trail.as_slice(), &plan.code)
+    let code = plain_code(alloc, &plan.code)?;
+    judge(alloc, setting, written, plan.trail.as_slice(), &code)
 }
 
 // The verdict on a plan of a role's bound query.

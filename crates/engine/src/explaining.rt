@@ -1,19 +1,21 @@
 //! Explaining: the text of the plan by which a query is answered.
 
-ghost use Rattle.std.specs.Prelude.{◌≡◌, ◌≢◌, ◌<◌, ◌≤◌, ℕ, List, [], IfOk, length, map, option_map, true};
+ghost use Rattle.std.specs.Prelude.{◌≡◌, ◌≢◌, ◌<◌, ◌≤◌, ℕ, List, IfOk, length, map, option_map, true};
 ghost use Rattle.value.specs.Names.{Name};
 ghost use Rattle.row_ast.specs.View.{expr_of, query_of};
-ghost use Rattle.expr.specs.Conjuncts.{left_ons, movable_conjuncts};
+ghost use Rattle.expr.specs.Conjuncts.{movable_conjuncts};
 ghost use Rattle.scope.specs.View.{entries_of};
 ghost use Rattle.catalog.specs.Catalog.{Catalog};
 ghost use Rattle.stats.specs.Statistics as stats;
 ghost use Rattle.algebra.specs.View.{step_of};
 ghost use Rattle.planning.specs.Simplifying.{simplifying};
+ghost use Rattle.row_terms.specs.Written.{left_conditions};
 ghost use Rattle.trailcheck.specs.View.{setting_of};
 ghost use Rattle.value.specs.Limits.{most_conjuncts, most_entries};
 ghost use Rattle.planning.specs.LastSort.{last_sort};
 ghost use Rattle.planning.specs.Plans.{IsPlan};
 ghost use Rattle.plan_texts.specs.View.{plan_of};
+ghost use Rattle.bound_plans.specs.LeftJoins.{inner_count, marked_code, named_ons};
 ghost use Rattle.bound_plans.specs.Named.{named};
 ghost use Rattle.resolve.specs.EntryTables.{AreTables};
 ghost use Rattle.resolve.specs.View.{bound_of};
@@ -33,7 +35,7 @@ use crate::known::known_statistics;
 use crate::setting::setting_with;
 use algebra::Step;
 use analysis::{admit, read_query};
-use bound_plans::{named, write_trail};
+use bound_plans::{inner_count, marked_code, named, named_ons, write_trail};
 use expr::{ColumnId, MovableExpr};
 use memory::{Heap, Items};
 use output::{Out, send};
@@ -46,7 +48,7 @@ use scope::Entry;
 use stats::Stats;
 use std::alloc::AllocError;
 use store::{Store, column_number};
-use syntax::law_parsing_is_determined;
+use syntax::{law_parsing_is_determined, law_queries_have_tables};
 
 // The trees of conditions, each column by the alias of its entry.
 fn named_conditions<A: Heap>(
@@ -84,25 +86,30 @@ fn last_sort<A: Heap>(plan: &Plan<'_, A>) -> Option<SortColumn>
     }
 }
 
-// A plan as its text has it, its filters the conditions; the trail begins with those steps, which simplify the query.
+// A plan as its text has it, its filters the conditions, and these the ONs of its left joined entries; the trail begins with those
+// steps, which simplify the query.
 fn plan_with<A: Heap>(
     alloc: A,
     entries: &[Entry<'_, A>],
     conditions: &[MovableExpr<A>],
+    lefts: &[MovableExpr<A>],
     plan: Plan<'_, A>,
     trail: Items<Step<A>, A>,
 ) -> Result<plan_texts::Plan<A>, AllocError>
     requires { map step_of trail ≡ simplifying plan.query }
-    ensures value { IfOk result (λ p. plan_of p ≡ record { cost = plan.entry.cost; filters = map (named (entries_of entries.now)) conditions.now; code = plan.entry.code; sort = option_map spec.sort_column (last_sort plan.entry.problem plan.entry.code); trail = plan.entry.trail }) }
+    ensures value { IfOk result (λ p. plan_of p ≡ record { cost = plan.entry.cost; filters = map (named (entries_of entries.now)) conditions.now; ons = named_ons (entries_of entries.now) lefts.now; code = marked_code (inner_count (entries_of entries.now) lefts.now) plan.entry.code; sort = option_map spec.sort_column (last_sort plan.entry.problem plan.entry.code); trail = plan.entry.trail }) }
     ensures plan { IfOk result (λ _. IsPlan plan.entry) }
 {
     let filters = named_conditions(alloc, entries, conditions)?;
+    let ons = named_ons(alloc, entries, lefts)?;
     let cost = plan.cost();
     let sort = last_sort(&plan);
     let (code, trail) = plan.into_parts(alloc, trail)?;
+    let code = marked_code(alloc, inner_count(entries, lefts), &code)?;
     Ok(plan_texts::Plan {
         cost,
         filters,
+        ons,
         code,
         sort,
         trail,
@@ -119,7 +126,7 @@ fn best_text<A: Heap>(
     requires tables { AreTables store.now.catalog (bound_of bound.now).entries }
     requires few { length (bound_of bound.now).entries ≤ most_entries }
     requires conjuncts { length (movable_conjuncts (bound_of bound.now).query) ≤ most_conjuncts }
-    requires joins { left_ons (bound_of bound.now).query ≡ [] }
+    requires lefts { length (left_conditions (bound_of bound.now).query) ≤ length (bound_of bound.now).entries }
     ensures { IfOk result (λ text. text.items ≡ spec.best_text store.now.catalog role.now (bound_of bound.now) (map (λ e. known store.now.catalog role.now (statistics_in store.now) e.table) (bound_of bound.now).entries)) }
 {
     let entries = bound.entries.as_slice();
@@ -129,7 +136,9 @@ fn best_text<A: Heap>(
     let unknown = Stats::unknown();
     let statistics = known_statistics(alloc, store, entries, frame, &unknown)?;
     let found = Plan::new(alloc, &bound.query, &setting, &statistics)?;
-    let plan = plan_with(alloc, entries, setting.conditions.as_slice(), found, trail)?;
+    let conditions = setting.conditions.as_slice();
+    let lefts = setting.lefts.as_slice();
+    let plan = plan_with(alloc, entries, conditions, lefts, found, trail)?;
     write_trail(alloc, entries, &plan)
 }
 
@@ -147,7 +156,8 @@ fn explained_query<A: Heap>(
     role: &str,
     query: &Query<A>,
 ) -> Result<(Vec<u8, A>, u8), AllocError>
-    requires { within_limits (query_of query.now) ≡ true }
+    requires limits { within_limits (query_of query.now) ≡ true }
+    requires from { 0 < length (query_of query.now).from }
     ensures { IfOk result (λ r. spec.IsExplanation r.0.items r.1 (explained_query store.now.catalog (known store.now.catalog role.now (statistics_in store.now)) role.now (admitted_query store.now.catalog role.now (query_of query.now)))) }
 {
     match admit(alloc, store.catalog(), role, query)? {
@@ -166,6 +176,7 @@ fn explained<A: Heap>(
     ensures { IfOk result (λ r. spec.IsExplanation r.0.items r.1 (explained store.now.catalog (known store.now.catalog role.now (statistics_in store.now)) role.now text.now)) }
 {
     law_parsing_is_determined();
+    law_queries_have_tables();
     match read_query(alloc, store.catalog(), role, text)? {
         Ok(query) => {
             let explained = explained_query(alloc, store, role, &query);

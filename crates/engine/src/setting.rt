@@ -20,6 +20,7 @@ use memory::{Heap, Items};
 use planning::simplify;
 use resolve::Bound;
 use row_objects::Index;
+use row_terms::left_conditions;
 use scope::Entry;
 use std::alloc::AllocError;
 use store::column_number;
@@ -51,7 +52,7 @@ fn indexed<A: Heap>(
 }
 
 /// The guards of the entries for the role, which show exactly the rows that it sees, the indexes of their tables, and the
-/// planning list, which is given.
+/// planning list, which is given, and the ONs of the left joined entries.
 pub(crate) fn setting_with<A: Heap>(
     alloc: A,
     catalog: &Catalog<A>,
@@ -68,6 +69,7 @@ pub(crate) fn setting_with<A: Heap>(
         frame: frame(alloc, catalog, role, entries)?,
         indexed: indexed(alloc, entries)?,
         conditions,
+        lefts: left_conditions(alloc, &bound.query)?,
     })
 }
 

@@ -7,6 +7,11 @@ use trailcheck::{Setting, is_admissible};
 
 // ---- parts of steps
 
+// So many numbers may name a condition, or a conjunct of an ON, of which none that is drawn has more than two.
+fn numbers(setting: &Setting<Global>) -> u64 {
+    (setting.conditions.len() as u64).max(2)
+}
+
 // Every way to read rows by an index on one of two columns.
 fn push_by_index(
     all: &mut Items<Access, Global>,
@@ -65,7 +70,7 @@ fn accesses_at(
     step: CodeStep,
 ) -> Result<Items<Access, Global>, AllocError> {
     let mut accesses = Items::new(alloc);
-    let every = every_access(alloc, setting.conditions.len() as u64)?;
+    let every = every_access(alloc, numbers(setting))?;
     for access in every.as_slice() {
         let step = CodeStep {
             access: *access,
@@ -87,7 +92,7 @@ fn methods_at(
     step: CodeStep,
 ) -> Result<Items<Method, Global>, AllocError> {
     let mut methods = Items::new(alloc);
-    let every = every_method(alloc, setting.conditions.len() as u64)?;
+    let every = every_method(alloc, numbers(setting))?;
     for method in every.as_slice() {
         let step = CodeStep {
             method: *method,

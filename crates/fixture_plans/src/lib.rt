@@ -9,7 +9,7 @@ mod random_problems;
 mod worlds;
 
 pub use every_code::all_codes;
-pub use loops::{all_combinations, nested_loops, seen_rows};
+pub use loops::{all_combinations, left_combinations, nested_loops, seen_rows};
 pub use random::Random;
-pub use random_problems::{Drawn, draw};
+pub use random_problems::{Drawn, draw, draw_left};
 pub use worlds::{no_query, run_into_over, run_marked_over, run_over, tables_of};

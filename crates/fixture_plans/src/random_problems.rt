@@ -2,7 +2,8 @@
 
 use crate::random::Random;
 use expr::{
-    BoundExpr, ColumnId, Copied, MovableExpr, comparison, disjunction, literal, null_check,
+    BoundExpr, ColumnId, Copied, MovableExpr, comparison, conjunction, disjunction, literal,
+    null_check,
 };
 use memory::{Items, boxed};
 use stats::{Bounds, ColumnStats, Stats};
@@ -151,6 +152,49 @@ fn conditions(
     Ok(conditions)
 }
 
+// The ON of a left joined entry: mostly that a column of it is equal to one of an entry before it, and sometimes one condition more.
+fn on(alloc: Global, random: &mut Random, entry: u64) -> Copied<Global> {
+    let own = ColumnId {
+        entry: entry as usize,
+        column: random.below(2) as usize,
+    };
+    let own = column_expr(alloc, own)?;
+    let other = column_expr(alloc, column(random, entry));
+    let mut members = Vec::new(alloc);
+    if !random.once_in(6) {
+        let equality = comparison(alloc, Comparison::Equal, 0, own, other)?;
+        members.push(Box::into_inner(equality))?;
+    }
+    if members.len() == 0 || random.once_in(3) {
+        let more = condition(alloc, random, entry.saturating_add(1))?;
+        members.push(Box::into_inner(more))?;
+    }
+    match members.pop() {
+        Some(only) if members.len() == 0 => boxed(alloc, only),
+        Some(last) => {
+            members.push(last)?;
+            conjunction(alloc, 0, Ok(members))
+        }
+        None => literal(alloc, Ok(Value::Bool(true))),
+    }
+}
+
+// Those of the last so many entries.
+fn ons(
+    alloc: Global,
+    random: &mut Random,
+    count: u64,
+    lefts: u64,
+) -> Result<Items<MovableExpr<Global>, Global>, AllocError> {
+    let mut ons = Items::new(alloc);
+    for entry in count.saturating_sub(lefts)..count {
+        if let Some(on) = MovableExpr::new(on(alloc, random, entry)?) {
+            ons.push(on)?;
+        }
+    }
+    Ok(ons)
+}
+
 // ---- problems
 
 // The numbers of the columns of an entry that have an index: the more entries, the fewer.
@@ -170,6 +214,16 @@ fn indexed(
 
 /// A problem of so many entries.
 pub fn draw(alloc: Global, random: &mut Random, count: u64) -> Result<Drawn, AllocError> {
+    draw_left(alloc, random, count, 0)
+}
+
+/// A problem of so many entries, of which the last so many are left joined.
+pub fn draw_left(
+    alloc: Global,
+    random: &mut Random,
+    count: u64,
+    lefts: u64,
+) -> Result<Drawn, AllocError> {
     let mut frame = Items::new(alloc);
     let mut all_indexed = Items::new(alloc);
     let mut statistics = Items::new(alloc);
@@ -182,6 +236,7 @@ pub fn draw(alloc: Global, random: &mut Random, count: u64) -> Result<Drawn, All
         frame,
         indexed: all_indexed,
         conditions: conditions(alloc, random, count)?,
+        lefts: ons(alloc, random, count, lefts)?,
     };
     let wanted = if random.once_in(2) {
         Some(column(random, count))

@@ -1,13 +1,10 @@
 -- The best plan from a state is the best of a step and the best plan after it.
 use Rattle.std.proofs.Common.{◌≡◌, ℕ, ◌+◌, true, false, List, [], ◌∷◌, ◌++◌, length, Option, Some, None, refl, sym, ap, ap₂, ◌∙◌, subst, arith, length-append, ◌⊎◌, inl, inr, true≢false}
-use Rattle.expr.specs.declared.code.Access.{Access}
-use Rattle.expr.specs.declared.code.Access.TheVariants.{Full, Index, Range}
 use Rattle.expr.specs.declared.code.CodeStep.{CodeStep}
-use Rattle.expr.specs.declared.code.Method.{Method}
-use Rattle.expr.specs.declared.code.Method.TheVariants.{Nested, Hash, Merge}
-use Rattle.expr.specs.Codes.{access_numbers, method_numbers, step_numbers}
+use Rattle.expr.specs.Codes.{step_numbers}
+use Rattle.left_tails.proofs.BestTails.{step_many}
 use Rattle.joindp.specs.Walks.{Walk, Plan, numbers, IsNoWorse, with_first, IsOneOf, IsPath, path_cost, IsPlan, IsBestFrom, IsBestOf, IsPick}
-use Rattle.joindp.proofs.Before.{IsNoMore, no_later_after, no_later_before, no_later_itself, no_later_through, no_more_itself, no_more_through}
+use Rattle.left_tails.proofs.Before.{IsNoMore, no_later_after, no_later_before, no_later_itself, no_later_through, no_more_itself, no_more_through}
 
 -- ---- the order of plans
 
@@ -32,20 +29,6 @@ pub record IsAsGood (w : Walk) (s : w.State) (d c : CodeStep) : Type 0 where
   pub allowed : w.allows s d ≡ true
   pub next : w.next s d ≡ w.next s c
   pub cost : IsNoMore (w.step_cost s d) (step_numbers d) (w.step_cost s c) (step_numbers c)
-
--- as many numbers for each step
-pub access_many : (a : Access) → length (access_numbers a) ≡ 3
-access_many Full = refl
-access_many (Index column) = refl
-access_many (Range column bound) = refl
-
-method_many : (m : Method) → length (method_numbers m) ≡ 2
-method_many Nested = refl
-method_many (Hash conjunct) = refl
-method_many (Merge conjunct) = refl
-
-step_many : (c : CodeStep) → length (step_numbers c) ≡ 6
-step_many c = let l = length-append (access_numbers c.access) (method_numbers c.method) in let a = access_many c.access in let m = method_many c.method in omega (arith, l, a, m)
 
 module _ (w : Walk) (s : w.State) where
   pub as_good_itself : (c : CodeStep) → w.allows s c ≡ true → IsAsGood w s c c

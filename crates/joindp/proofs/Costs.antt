@@ -15,15 +15,16 @@ use Rattle.stats.specs.Factors.{million}
 use Rattle.stats.specs.Statistics.{Stats}
 use Rattle.stats.specs.View.{selection_of, selections_of}
 use Rattle.stats.specs.declared.selection.Selection as declared
-use Rattle.trailcheck.specs.Admissible.{are_allowed_steps, is_admissible, is_allowed_access, is_allowed_method, is_allowed_step, is_connected, is_next, is_refuted}
+use Rattle.trailcheck.specs.Admissible.{are_allowed_steps, is_admissible, is_allowed_access, is_allowed_method, is_allowed_step, is_connected, is_next}
 use Rattle.trailcheck.specs.Entries.{is_among}
-use Rattle.trailcheck.specs.Settings.{Setting}
+use Rattle.trailcheck.specs.Settings.{Setting, inner_count}
 use Rattle.trailcheck.proofs.Placed.{among_more}
-use Rattle.trailcheck.specs.Shapes.{entry_index}
-use Rattle.joindp.specs.Cost.{Estimates, cost_after, entry_size, factor_held, last_sorting, size, step_cost, step_cost_of}
+use Rattle.trailcheck.specs.Shapes.{entry_index, inner_steps}
+use Rattle.joindp.specs.Cost.{Estimates, cost_after, entry_size, factor_held, last_sorting, size, step_cost, step_cost_of, whole_size}
 use Rattle.predicates.specs.Numbered.{numbered}
 use Rattle.joins.specs.Orders.{Order, is_ordered_by, order_after, sorting_unless}
 use Rattle.predicates.proofs.Connected.{or_false}
+use Rattle.joindp.proofs.Codes.{inner_many, is_code}
 
 -- ---- bits
 
@@ -88,10 +89,8 @@ module _ (at : Estimates) where
   part_first list placed order steps same = (list, (same, omega arith))
 
   -- what is wanted in order is sorted in the end
-  pub last_sorted : (order wanted : Order) (id : ColumnId) (all : Entries) (ordered : Bool) (x cost : ℕ) → wanted ≡ Some id → ordered ≡ is_ordered_by order id → ((i : ℕ) → all i ≡ nat_lt i (length at.statistics)) → x ≡ size at all → cost ≡ sorting_unless ordered x
-      → cost ≡ last_sorting at order wanted
-  last_sorted order wanted id all ordered x cost is orders every sizes costs =
-      costs ∙ ap (λ b. sorting_unless b x) orders ∙ ap (sorting_unless (is_ordered_by order id)) (sizes ∙ same_size all (λ i. nat_lt i (length at.statistics)) every) ∙ sym (ap (last_sorting at order) is)
+  pub last_sorted : (order wanted : Order) (id : ColumnId) (ordered : Bool) (x cost : ℕ) → wanted ≡ Some id → ordered ≡ is_ordered_by order id → x ≡ whole_size at → cost ≡ sorting_unless ordered x → cost ≡ last_sorting at order wanted
+  last_sorted order wanted id ordered x cost is orders sizes costs = costs ∙ ap (λ b. sorting_unless b x) orders ∙ ap (sorting_unless (is_ordered_by order id)) sizes ∙ sym (ap (last_sorting at order) is)
 
   -- the set of one entry
   pub size_of_one : (entry x : ℕ) (one none : Entries) → ((i : ℕ) → none i ≡ false) → ((i : ℕ) → one i ≡ ((entry == i) || none i)) → x ≡ size at one → x ≡ entry_size at entry
@@ -139,16 +138,16 @@ rest_below steps k d more below =
 
 -- ---- codes that a plan may have
 
-next_below : (at : Setting) (placed : List ℕ) (s : CodeStep) → length at.frame ≤ 12 → is_next at placed s ≡ true → nat_lt (entry_index s) 12 ≡ true
+next_below : (at : Setting) (placed : List ℕ) (s : CodeStep) → inner_count at ≤ 12 → is_next at placed s ≡ true → nat_lt (entry_index s) 12 ≡ true
 next_below at placed s few next =
-    let within = and_parts (nat_le 1 s.entry && nat_le s.entry (length at.frame)) (not (is_among placed (entry_index s))) next in
-    let ends = and_parts (nat_le 1 s.entry) (nat_le s.entry (length at.frame)) within.0 in
+    let within = and_parts (nat_le 1 s.entry && nat_le s.entry (inner_count at)) (not (is_among placed (entry_index s))) next in
+    let ends = and_parts (nat_le 1 s.entry) (nat_le s.entry (inner_count at)) within.0 in
     let low = leb-true 1 s.entry ends.0 in
-    let high = leb-true s.entry (length at.frame) ends.1 in
+    let high = leb-true s.entry (inner_count at) ends.1 in
     lt-ltb (entry_index s) 12 (omega (arith, low, high))
 
 -- each step is of one of at most 12 entries
-pub steps_below : (at : Setting) (placed : List ℕ) (steps : List CodeStep) → length at.frame ≤ 12 → are_allowed_steps at placed steps ≡ true → list_all (λ s. nat_lt (entry_index s) 12) steps ≡ true
+pub steps_below : (at : Setting) (placed : List ℕ) (steps : List CodeStep) → inner_count at ≤ 12 → are_allowed_steps at placed steps ≡ true → list_all (λ s. nat_lt (entry_index s) 12) steps ≡ true
 steps_below at placed [] few allowed = refl
 steps_below at placed (s ∷ ss) few allowed =
     let parts = and_parts (is_allowed_step at placed s) (are_allowed_steps at (placed ++ entry_index s ∷ []) ss) allowed in
@@ -156,9 +155,16 @@ steps_below at placed (s ∷ ss) few allowed =
     let next = and_parts (is_next at placed s) (is_connected at placed (entry_index s)) first.0 in
     and_from _ _ (next_below at placed s few next.0) (steps_below at (placed ++ entry_index s ∷ []) ss few parts.1)
 
--- that holds of the steps of a code that a plan may have
-pub admissible_below : (at : Setting) (code : Code) (steps read : List CodeStep) → length at.frame ≤ 12 → is_admissible at code ≡ true → code ≡ Steps steps → read ≡ steps → list_all (λ s. nat_lt (entry_index s) 12) read ≡ true
+-- that holds of the inner steps of a code that a plan may have
+pub admissible_below : (at : Setting) (code : Code) (steps read : List CodeStep) → inner_count at ≤ 12 → is_admissible at code ≡ true → code ≡ Steps steps → read ≡ inner_steps at steps → list_all (λ s. nat_lt (entry_index s) 12) read ≡ true
 admissible_below at code steps read few admissible is same =
-    let sound = and_parts (not (is_refuted at)) ((length steps == length at.frame) && are_allowed_steps at [] steps) (ap (is_admissible at) (sym is) ∙ admissible) in
-    let parts = and_parts (length steps == length at.frame) (are_allowed_steps at [] steps) sound.1 in
-    ap (list_all (λ s. nat_lt (entry_index s) 12)) same ∙ steps_below at [] steps few parts.1
+    let h = is_code at steps (ap (is_admissible at) (sym is) ∙ admissible) in
+    ap (list_all (λ s. nat_lt (entry_index s) 12)) same ∙ steps_below at [] (inner_steps at steps) few h.inner
+
+-- and they are no more
+pub admissible_few : (at : Setting) (code : Code) (steps read : List CodeStep) → inner_count at ≤ 12 → is_admissible at code ≡ true → code ≡ Steps steps → read ≡ inner_steps at steps → length read ≤ 12
+admissible_few at code steps read few admissible is same =
+    let h = is_code at steps (ap (is_admissible at) (sym is) ∙ admissible) in
+    let many = inner_many at steps h.long in
+    let n = ap (λ ss. length ss) same in
+    omega (arith, n, many, few)

@@ -11,6 +11,7 @@ use Rattle.expr.specs.declared.code.CodeStep.{CodeStep}
 use Rattle.expr.specs.Codes.{access_numbers, method_numbers, step_numbers}
 use Rattle.stats.specs.Card.{Entries}
 use Rattle.trailcheck.specs.Shapes.{entry_index}
+use Rattle.trailcheck.specs.Settings.{inner_count}
 use Rattle.joins.specs.Orders.{Order, is_ordered_by, merge_sorting, order_of, sides, sorting_unless}
 use Rattle.joindp.specs.Best.{Problem, estimates}
 use Rattle.joindp.specs.Cost.{access_cost, entry_size, join_cost, size}
@@ -18,8 +19,9 @@ use Rattle.joindp.specs.FewSteps.{comes_by, few_steps, few_steps_to, few_with, h
 use Rattle.joindp.specs.Following.{accesses, all_numbers, is_equality, may_be_next, may_follow, may_join_by, step_of}
 use Rattle.joindp.specs.Search.{After, search, set_of}
 use Rattle.joindp.specs.Walks.{IsNoLater, IsOneOf}
-use Rattle.joindp.proofs.Before.{IsNoMore, first_is, no_later_after, no_later_under, no_more_itself, no_more_through, other_is}
-use Rattle.joindp.proofs.Bests.{IsAsGood, access_many, as_good_through}
+use Rattle.left_tails.proofs.Before.{IsNoMore, first_is, no_later_after, no_later_under, no_more_itself, no_more_through, other_is}
+use Rattle.left_tails.proofs.BestTails.{access_many}
+use Rattle.joindp.proofs.Bests.{IsAsGood, as_good_through}
 use Rattle.joindp.proofs.Elements.{from_append, from_filter, from_flat_map, from_range, in_filter, in_flat_map, in_left, in_range, in_right}
 use Rattle.joindp.proofs.Followed.{all_accesses, allowed, equality_listed, step_follows}
 use Rattle.joindp.proofs.NewSteps.{is_new}
@@ -179,7 +181,7 @@ first_passing i b test a (suc n) j h = go (test a) h (first_passing i b test (a 
     go true (inr there) rest = let r = from_range (a + 1) n j (from_filter test (range_with_len (a + 1) n) j there).0 in (a, omega (arith, r.0), inl refl, inl refl)
     go false there rest = rest there
 
-module _ (p : Problem) (set : ℕ) (order : Order) (i : ℕ) (within : i < length p.setting.frame) (next : may_be_next p.setting (set_of set) i ≡ true) where
+module _ (p : Problem) (set : ℕ) (order : Order) (i : ℕ) (within : i < inner_count p.setting) (next : may_be_next p.setting (set_of set) i ≡ true) where
   abbrev ways : List Access
   ways = accesses p.setting i
 
@@ -259,14 +261,14 @@ enough p set order c may =
     let same : step_of i c.access c.method ≡ c = ap (λ (n : ℕ). let t : CodeStep = record { entry = n; access = c.access; method = c.method } in t) number in
     let to = to_entry p set order i new.below new.next c.access c.method (all_accesses p.setting i c.access new.access) new.method in (
       to.0,
-      in_flat_map (few_steps_to p (set_of set)) (filter (may_be_next p.setting (set_of set)) (range_with_len 0 (length p.setting.frame))) i to.0
-          (in_filter (may_be_next p.setting (set_of set)) (range_with_len 0 (length p.setting.frame)) i (in_range 0 (length p.setting.frame) i (omega arith) (omega (arith, new.below))) new.next) to.1,
+      in_flat_map (few_steps_to p (set_of set)) (filter (may_be_next p.setting (set_of set)) (range_with_len 0 (inner_count p.setting))) i to.0
+          (in_filter (may_be_next p.setting (set_of set)) (range_with_len 0 (inner_count p.setting)) i (in_range 0 (inner_count p.setting) i (omega arith) (omega (arith, new.below))) new.next) to.1,
       subst (IsAsGood (search p) (After set order) to.0) same to.2,
     )
 
 -- ---- each of the few may follow
 
-module _ (p : Problem) (placed : Entries) (i : ℕ) (within : i < length p.setting.frame) (next : may_be_next p.setting placed i ≡ true) where
+module _ (p : Problem) (placed : Entries) (i : ℕ) (within : i < inner_count p.setting) (next : may_be_next p.setting placed i ≡ true) where
   abbrev all_ways : List Access
   all_ways = accesses p.setting i
 
@@ -319,7 +321,7 @@ module _ (p : Problem) (placed : Entries) (i : ℕ) (within : i < length p.setti
 
 pub few_follow : (p : Problem) (placed : Entries) (c : CodeStep) → IsOneOf (few_steps p placed) c → may_follow p.setting placed c ≡ true
 few_follow p placed c h =
-    let f = from_flat_map (few_steps_to p placed) (filter (may_be_next p.setting placed) (range_with_len 0 (length p.setting.frame))) c h in
-    let k = from_filter (may_be_next p.setting placed) (range_with_len 0 (length p.setting.frame)) f.0 f.1 in
-    let r = from_range 0 (length p.setting.frame) f.0 k.0 in
+    let f = from_flat_map (few_steps_to p placed) (filter (may_be_next p.setting placed) (range_with_len 0 (inner_count p.setting))) c h in
+    let k = from_filter (may_be_next p.setting placed) (range_with_len 0 (inner_count p.setting)) f.0 f.1 in
+    let r = from_range 0 (inner_count p.setting) f.0 k.0 in
     entry_may p placed f.0 (omega (arith, r.1)) k.1 c f.2

@@ -13,7 +13,7 @@ use Rattle.expr.specs.Bound.{BoundExpr}
 use Rattle.predicates.specs.Equalities.{column_sides}
 use Rattle.stats.specs.Card.{Entries}
 use Rattle.trailcheck.specs.Admissible.{bounds, condition_at, is_allowed_access, is_indexed, is_listed, is_some_and}
-use Rattle.trailcheck.specs.Settings.{Setting}
+use Rattle.trailcheck.specs.Settings.{Setting, inner_count}
 use Rattle.trailcheck.specs.Shapes.{entry_index}
 use Rattle.joindp.specs.Following.{accesses, all_numbers, by_index, columns_indexed, equates_with, first_step, first_steps, is_equality, may_be_next, may_follow, may_join_by, parts_of_index, span, step_of}
 use Rattle.joindp.specs.Walks.{IsOneOf}
@@ -93,11 +93,11 @@ module _ (at : Setting) where
 
   -- ---- steps
 
-  pub step_follows : (placed : Entries) (i : ℕ) (a : Access) (m : Method) → i < length at.frame → may_be_next at placed i ≡ true → is_allowed_access at i a ≡ true → may_join_by at placed i m ≡ true → may_follow at placed (step_of i a m) ≡ true
+  pub step_follows : (placed : Entries) (i : ℕ) (a : Access) (m : Method) → i < inner_count at → may_be_next at placed i ≡ true → is_allowed_access at i a ≡ true → may_join_by at placed i m ≡ true → may_follow at placed (step_of i a m) ≡ true
   step_follows placed i a m within next access method =
       let index : i + 1 - 1 ≡ i = omega arith in
       and_from _ _
-      (and_from _ _ (and_from _ _ (le-leb 1 (i + 1) (omega arith)) (le-leb (i + 1) (length at.frame) (omega arith))) (ap (may_be_next at placed) index ∙ next))
+      (and_from _ _ (and_from _ _ (le-leb 1 (i + 1) (omega arith)) (le-leb (i + 1) (inner_count at) (omega arith))) (ap (may_be_next at placed) index ∙ next))
       (and_from _ _ (ap (λ (n : ℕ). is_allowed_access at n a) index ∙ access) (ap (λ (n : ℕ). may_join_by at placed n m) index ∙ method))
 
   -- each step that may come first is listed
@@ -110,14 +110,14 @@ module _ (at : Setting) where
       ap (λ (n : ℕ). let t : CodeStep = record { entry = n; access = s.access; method = Nested } in t) number
       ∙ ap (λ (m : Method). let t : CodeStep = record { entry = s.entry; access = s.access; method = m } in t) (sym (none_joins i s.method new.method)) in
       let to = subst (IsOneOf (map (first_step i) (accesses at i))) same (in_map (first_step i) (accesses at i) s.access (all_accesses i s.access new.access)) in
-      in_flat_map (λ (entry : ℕ). map (first_step entry) (accesses at entry)) (filter (may_be_next at (λ entry. false)) (range_with_len 0 (length at.frame))) i s
-      (in_filter (may_be_next at (λ entry. false)) (range_with_len 0 (length at.frame)) i (in_range 0 (length at.frame) i (omega arith) (omega (arith, new.below))) new.next) to
+      in_flat_map (λ (entry : ℕ). map (first_step entry) (accesses at entry)) (filter (may_be_next at (λ entry. false)) (range_with_len 0 (inner_count at))) i s
+      (in_filter (may_be_next at (λ entry. false)) (range_with_len 0 (inner_count at)) i (in_range 0 (inner_count at) i (omega arith) (omega (arith, new.below))) new.next) to
 
   -- and each that is listed may come first
   pub first_follow : (s : CodeStep) → IsOneOf (first_steps at) s → may_follow at (λ entry. false) s ≡ true
   first_follow s h =
-      let f = from_flat_map (λ (entry : ℕ). map (first_step entry) (accesses at entry)) (filter (may_be_next at (λ entry. false)) (range_with_len 0 (length at.frame))) s h in
-      let k = from_filter (may_be_next at (λ entry. false)) (range_with_len 0 (length at.frame)) f.0 f.1 in
-      let r = from_range 0 (length at.frame) f.0 k.0 in
+      let f = from_flat_map (λ (entry : ℕ). map (first_step entry) (accesses at entry)) (filter (may_be_next at (λ entry. false)) (range_with_len 0 (inner_count at))) s h in
+      let k = from_filter (may_be_next at (λ entry. false)) (range_with_len 0 (inner_count at)) f.0 f.1 in
+      let r = from_range 0 (inner_count at) f.0 k.0 in
       let m = from_map (first_step f.0) (accesses at f.0) s f.2 in
       subst (λ x. may_follow at (λ entry. false) x ≡ true) m.2 (step_follows (λ entry. false) f.0 m.0 Nested (omega (arith, r.1)) k.1 (allowed f.0 m.0 m.1) refl)

@@ -14,7 +14,7 @@ use Rattle.trailcheck.specs.Admissible.{is_some_and}
 use Rattle.trailcheck.specs.Shapes.{entry_index}
 use Rattle.joins.specs.Orders.{Order, facing, is_ordered_by, merge_sorting, order_after, order_of, sides, sides_held, sorting_unless}
 use Rattle.joindp.specs.Best.{Problem, estimates}
-use Rattle.joindp.specs.Cost.{access_cost, entry_size, join_cost, last_sorting, size}
+use Rattle.joindp.specs.Cost.{access_cost, entry_size, join_cost, last_sorting, size, whole_size}
 use Rattle.joindp.specs.Following.{equates_with, may_join_by, span}
 use Rattle.joindp.specs.Search.{After, IsKept, IsSmall, asks_for, entry_count, is_live, is_order_of, is_wanted, live_order, search, set_of}
 use Rattle.joindp.specs.Walks.{IsBestFrom, IsNoWorse, IsPath, Plan, path_cost}
@@ -68,7 +68,7 @@ module _ (p : Problem) (id : ColumnId) where
       where
         go : (w : Option ColumnId) → is_wanted w (Some id) ≡ false → last_sorting (estimates p) (Some id) w ≡ last_sorting (estimates p) None w
         go None e = refl
-        go (Some w) e = ap (λ b. sorting_unless b (size (estimates p) (λ i. nat_lt i (length p.statistics)))) e
+        go (Some w) e = ap (λ b. sorting_unless b (whole_size (estimates p))) e
 
     module _ (i : ℕ) (new : placed i ≡ false) where
       -- of the two columns of an equality it is not the one that a merge sorts by

@@ -18,7 +18,7 @@ use Rattle.std.proofs.lemmas.Nat.{pow_pos}
 use Rattle.stats.proofs.EntrySets.{all_bits_set, bits_of_all, set_within}
 use Rattle.trailcheck.specs.Admissible.{is_some_and, are_across, equates, condition_at, is_connected, is_next, is_allowed_access, is_allowed_method, is_allowed_step}
 use Rattle.trailcheck.specs.Entries.{is_among}
-use Rattle.trailcheck.specs.Settings.{Setting}
+use Rattle.trailcheck.specs.Settings.{Setting, inner_count}
 use Rattle.trailcheck.specs.Shapes.{entry_index}
 use Rattle.trailcheck.proofs.Placed.{among_more}
 use Rattle.joindp.specs.Following.{span, equates_with, may_join_by, may_be_next, may_follow}
@@ -44,14 +44,14 @@ regrouped : (a b c : Bool) → (a && b) && c ≡ a && (b && c)
 regrouped true b c = refl
 regrouped false b c = refl
 
-same_order : (at : Setting) (placed : List ℕ) (s : CodeStep) → is_next at placed s && is_connected at placed (entry_index s) ≡ (nat_le 1 s.entry && nat_le s.entry (length at.frame)) && may_be_next at (is_among placed) (entry_index s)
-same_order at placed s = regrouped (nat_le 1 s.entry && nat_le s.entry (length at.frame)) (not (is_among placed (entry_index s))) (is_connected at placed (entry_index s))
+same_order : (at : Setting) (placed : List ℕ) (s : CodeStep) → is_next at placed s && is_connected at placed (entry_index s) ≡ (nat_le 1 s.entry && nat_le s.entry (inner_count at)) && may_be_next at (is_among placed) (entry_index s)
+same_order at placed s = regrouped (nat_le 1 s.entry && nat_le s.entry (inner_count at)) (not (is_among placed (entry_index s))) (is_connected at placed (entry_index s))
 
 -- the same steps may follow a list and its members
 same_steps : (at : Setting) (placed : List ℕ) (s : CodeStep) → is_allowed_step at placed s ≡ may_follow at (is_among placed) s
 same_steps at placed s =
     ap (λ b. b && (is_allowed_access at (entry_index s) s.access && is_allowed_method at placed (entry_index s) s.method)) (same_order at placed s)
-    ∙ ap (λ b. ((nat_le 1 s.entry && nat_le s.entry (length at.frame)) && may_be_next at (is_among placed) (entry_index s)) && (is_allowed_access at (entry_index s) s.access && b)) (same_method at placed (entry_index s) s.method)
+    ∙ ap (λ b. ((nat_le 1 s.entry && nat_le s.entry (inner_count at)) && may_be_next at (is_among placed) (entry_index s)) && (is_allowed_access at (entry_index s) s.access && b)) (same_method at placed (entry_index s) s.method)
 
 pub same_steps_of : (at : Setting) (placed : List ℕ) (entries : Entries) → ((i : ℕ) → is_among placed i ≡ entries i) → (s : CodeStep) → is_allowed_step at placed s ≡ may_follow at entries s
 same_steps_of at placed entries same s = same_steps at placed s ∙ ap (λ (e : Entries). may_follow at e s) (fun_ext same)

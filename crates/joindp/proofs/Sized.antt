@@ -1,5 +1,5 @@
 -- One step of the search: its cost, and the set after it.
-use Rattle.std.proofs.Common.{◌≡◌, ◌∙◌, sym, ap, ap₂, subst, ℕ, ◌+◌, ◌^◌, ◌<◌, ◌≤◌, true, List, Option, Some, None, slice_index_or, length, map, arith}
+use Rattle.std.proofs.Common.{◌≡◌, ◌∙◌, sym, ap, ap₂, subst, ℕ, ◌+◌, ◌-◌, ◌^◌, ◌<◌, ◌≤◌, true, List, Option, Some, None, slice_index_or, length, map, arith}
 use mathlib.Core.Path.{fun_ext}
 use Rattle.std.proofs.lemmas.List.{length-map}
 use Rattle.std.proofs.Math.Nat.{pow-le-pow_right}
@@ -17,9 +17,21 @@ use Rattle.joindp.specs.Walks.{Plan}
 use Rattle.joindp.proofs.NewSteps.{is_new}
 use Rattle.joindp.proofs.OneBit.{lone_bit}
 
--- the guards are as many as the entries
-pub few_of : {X Y : Type 0} (f : X → Y) (xs : List X) → length xs ≤ 12 → length (map f xs) ≤ 12
-few_of f xs h = let l = length-map xs f in omega (arith, l)
+-- the entries that are not left joined are no more than the guards
+pub few_of : {X Y : Type 0} (n : ℕ) (f : X → Y) (xs : List X) → length xs ≤ 12 → length (map f xs) - n ≤ 12
+few_of n f xs h = let l = length-map xs f in omega (arith, l)
+
+-- all entries are few
+pub few_all : {X Y : Type 0} (f : X → Y) (xs : List X) (i n : ℕ) → i ≡ length (map f xs) - n → n ≤ length xs → length xs ≤ 12 → i + n ≤ 12
+few_all f xs i n e h few = let l = length-map xs f in omega (arith, l, e, h, few)
+
+-- the left joined entries are no more than the guards
+pub fewer_of : {X Y : Type 0} {n : ℕ} (f : X → Y) (xs : List X) → n ≤ length xs → n ≤ length (map f xs)
+fewer_of f xs h = let l = length-map xs f in omega (arith, l, h)
+
+-- the first left joined entry is that after the others
+pub first_of : {X Y Z W : Type 0} (n : ℕ) (f : X → Y) (g : Z → W) (xs : List X) (zs : List Z) → length xs ≡ length zs → length (map f xs) - n ≡ length (map g zs) - n
+first_of n f g xs zs e = let l = length-map xs f in let m = length-map zs g in omega (arith, l, m, e)
 
 -- at most 12 entries have at most 4096 sets
 pub few_sets : (p : Problem) → entry_count p ≤ 12 → 2 ^ entry_count p ≤ 4096

@@ -18,7 +18,7 @@ pub record Problem : Type 0 where
 
 -- costs are estimated from these alone
 abbrev pub estimates : Problem → Estimates
-estimates p = record { statistics = p.statistics; conditions = p.setting.conditions; wanted = p.wanted }
+estimates p = record { statistics = p.statistics; conditions = p.setting.conditions; lefts = p.setting.lefts; wanted = p.wanted }
 
 -- the order of plans: by cost, then by code
 abbrev pub plan_cmp : (cost : ℕ) → Code → (cost : ℕ) → Code → Ordering
@@ -33,5 +33,5 @@ IsLeast p c code = (other : Code) → is_admissible p.setting other ≡ true →
 -- guards play no part in which codes a plan may have, nor in what they cost
 abbrev pub GuardsPlayNoPart : Type 0
 GuardsPlayNoPart =
-    (p q : Problem) (code : Code) → length p.setting.frame ≡ length q.setting.frame → p.setting.indexed ≡ q.setting.indexed → p.setting.conditions ≡ q.setting.conditions → p.statistics ≡ q.statistics → p.wanted ≡ q.wanted
+    (p q : Problem) (code : Code) → length p.setting.frame ≡ length q.setting.frame → p.setting.indexed ≡ q.setting.indexed → p.setting.conditions ≡ q.setting.conditions → p.setting.lefts ≡ q.setting.lefts → p.statistics ≡ q.statistics → p.wanted ≡ q.wanted
     → (is_admissible p.setting code ≡ is_admissible q.setting code) × (cost (estimates p) code ≡ cost (estimates q) code)

@@ -15,6 +15,7 @@ use Rattle.joins.specs.Orders.{is_ordered_by, order_of, sides}
 use Rattle.joindp.specs.Best.{Problem, estimates}
 use Rattle.joindp.specs.Cost.{access_cost}
 use Rattle.joindp.specs.Following.{accesses, all_numbers, is_equality, may_be_next, step_of}
+use Rattle.trailcheck.specs.Settings.{inner_count}
 
 -- the rows come in the order of the column, if one is given
 abbrev pub comes_by : (entry : ℕ) → (column : Option ColumnId) → Access → Bool
@@ -82,4 +83,4 @@ module _ (p : Problem) where
   few_steps_to placed entry = few_of entry (accesses p.setting entry) (filter (is_equality p.setting placed entry) (all_numbers p.setting))
 
   abbrev pub few_steps : Entries → List CodeStep
-  few_steps placed = flat_map (few_steps_to placed) (filter (may_be_next p.setting placed) (range_with_len 0 (length p.setting.frame)))
+  few_steps placed = flat_map (few_steps_to placed) (filter (may_be_next p.setting placed) (range_with_len 0 (inner_count p.setting)))

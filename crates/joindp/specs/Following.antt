@@ -12,7 +12,7 @@ use Rattle.expr.specs.Columns.{columns}
 use Rattle.predicates.specs.Equalities.{column_sides}
 use Rattle.stats.specs.Card.{Entries}
 use Rattle.trailcheck.specs.Admissible.{bounds, condition_at, is_allowed_access, is_some_and}
-use Rattle.trailcheck.specs.Settings.{Setting}
+use Rattle.trailcheck.specs.Settings.{Setting, inner_count}
 use Rattle.trailcheck.specs.Shapes.{entry_index}
 
 -- ---- tests over a set
@@ -61,7 +61,7 @@ module _ (at : Setting) where
 
   -- some entry is joined to the set and not of it
   abbrev pub some_joined : Entries → Bool
-  some_joined placed = list_any (λ entry. not (placed entry) && is_joined_to placed entry) (range_with_len 0 (length at.frame))
+  some_joined placed = list_any (λ entry. not (placed entry) && is_joined_to placed entry) (range_with_len 0 (inner_count at))
 
   -- the entry may be the next one: it is joined to the set, or none is
   abbrev pub may_be_next : Entries → (entry : ℕ) → Bool
@@ -70,7 +70,7 @@ module _ (at : Setting) where
   -- the step may follow those that placed the set
   abbrev pub may_follow : Entries → CodeStep → Bool
   may_follow placed s =
-      ((nat_le 1 s.entry && nat_le s.entry (length at.frame)) && may_be_next placed (entry_index s)) && (is_allowed_access at (entry_index s) s.access && may_join_by placed (entry_index s) s.method)
+      ((nat_le 1 s.entry && nat_le s.entry (inner_count at)) && may_be_next placed (entry_index s)) && (is_allowed_access at (entry_index s) s.access && may_join_by placed (entry_index s) s.method)
 
   -- ---- all of them, as a list
 
@@ -90,4 +90,4 @@ module _ (at : Setting) where
 
   -- each entry that may be next after none, read in each way
   abbrev pub first_steps : List CodeStep
-  first_steps = flat_map (λ entry. map (first_step entry) (accesses entry)) (filter (may_be_next (λ entry. false)) (range_with_len 0 (length at.frame)))
+  first_steps = flat_map (λ entry. map (first_step entry) (accesses entry)) (filter (may_be_next (λ entry. false)) (range_with_len 0 (inner_count at)))

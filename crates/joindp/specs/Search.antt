@@ -8,6 +8,7 @@ use Rattle.expr.specs.declared.code.CodeStep.{CodeStep}
 use Rattle.expr.specs.declared.code.Access.{Access}
 use Rattle.predicates.specs.Equalities.{column_sides}
 use Rattle.stats.specs.Card.{Entries}
+use Rattle.trailcheck.specs.Settings.{inner_count}
 use Rattle.trailcheck.specs.Shapes.{entry_index}
 use Rattle.joindp.specs.declared.best.Best.{Best}
 use Rattle.joindp.specs.Best.{Problem, estimates}
@@ -74,7 +75,7 @@ HasSides orders (Some (a, b)) = IsListed orders (Some a) × IsListed orders (Som
 
 module _ (p : Problem) where
   abbrev pub entry_count : ℕ
-  entry_count = length p.setting.frame
+  entry_count = inner_count p.setting
 
   abbrev pub is_done : State → Bool
   is_done Start = entry_count == 0

@@ -1,7 +1,7 @@
 -- The plans of a search: steps through states, what they cost in all, and which of them are the best.
-use Rattle.std.specs.Prelude.{◌≡◌, ℕ, ◌+◌, ◌<◌, Bool, true, List, [], ◌∷◌, flat_map, Option, Some, None, ◌⊎◌}
+use Rattle.std.specs.Prelude.{◌≡◌, ℕ, ◌+◌, Bool, true, List, [], ◌∷◌, Option, Some, None, ◌⊎◌}
 use Rattle.expr.specs.declared.code.CodeStep.{CodeStep}
-use Rattle.expr.specs.Codes.{step_numbers}
+pub use Rattle.left_tails.specs.Plans.{IsNoLater, IsNoWorse, Plan, numbers}
 
 -- a search: in which states it is done, which steps may come next, what each costs and where it leads, and what the end costs
 pub record Walk : Type 1 where
@@ -11,23 +11,6 @@ pub record Walk : Type 1 where
   pub step_cost : State → CodeStep → ℕ
   pub next : State → CodeStep → State
   pub last_cost : State → ℕ
-
--- the numbers come first from left to right, or are the same
-abbrev pub IsNoLater : List ℕ → List ℕ → Type 0
-IsNoLater [] ys = Unit {0}
-IsNoLater (x ∷ xs) [] = ⊥
-IsNoLater (x ∷ xs) (y ∷ ys) = (x < y) ⊎ ((x ≡ y) × IsNoLater xs ys)
-
--- a cost and steps
-abbrev pub Plan : Type 0
-Plan = ℕ × List CodeStep
-
-abbrev pub numbers : List CodeStep → List ℕ
-numbers steps = flat_map step_numbers steps
-
--- it costs less, or as much and its numbers are no later
-abbrev pub IsNoWorse : Plan → Plan → Type 0
-IsNoWorse p q = (p.0 < q.0) ⊎ ((p.0 ≡ q.0) × IsNoLater (numbers p.1) (numbers q.1))
 
 -- a step before the rest of a plan
 abbrev pub with_first : ℕ → CodeStep → Option Plan → Option Plan

@@ -15,7 +15,7 @@ use memory::{Heap, Items};
 use predicates::column_sides;
 use stats::{EntrySet, Selection};
 use std::alloc::AllocError;
-use trailcheck::{bounds, condition_at};
+use trailcheck::{bounds, condition_at, inner_count};
 
 // ---- which entries may be next
 
@@ -73,7 +73,7 @@ fn is_waiting<A: Heap>(problem: &Problem<'_, A>, placed: EntrySet, entry: usize)
 pub(crate) fn some_joined<A: Heap>(problem: &Problem<'_, A>, placed: EntrySet) -> bool
     ensures { result ≡ spec.some_joined (problem_of problem.now).setting (members placed) }
 {
-    let count = problem.setting.frame.len();
+    let count = inner_count(problem.setting);
     for entry in 0..count {
         if is_waiting(problem, placed, entry) {
             return true;

@@ -24,6 +24,7 @@ pub struct Problem<'p, A: Heap> {
     pub(crate) selections: Items<Selection<A>, A>,
     ghost each: { length statistics.now ≡ length setting.now.frame },
     ghost few: { length setting.now.frame ≤ 12 },
+    ghost among: { length setting.now.lefts ≤ length setting.now.frame },
     ghost prepared: { selections_of selections ≡ card.selections (map (λ s. stats_of s.now) statistics.now) setting.now.conditions },
     ghost parts: { All (λ s. s.factor ≤ million) selections },
 }
@@ -43,6 +44,7 @@ impl<'p, A: Heap> Problem<'p, A> {
     ) -> Result<Problem<'p, A>, AllocError>
         requires each { length statistics.now ≡ length setting.now.frame }
         requires few { length setting.now.frame ≤ 12 }
+        requires among { length setting.now.lefts ≤ length setting.now.frame }
         ensures { IfOk result (λ p. problem_of p ≡ record { setting = setting_of setting.now; statistics = map (λ s. stats_of s.now) statistics.now; wanted = wanted }) }
     {
         let selections = selections(alloc, statistics, setting.conditions.as_slice())?;

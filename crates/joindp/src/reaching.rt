@@ -13,6 +13,7 @@ use expr::ColumnId;
 use memory::{Heap, Items};
 use stats::EntrySet;
 use std::alloc::AllocError;
+use trailcheck::inner_count;
 
 /// The bits of the set of one entry.
 pub(crate) fn bit_of(entry: usize) -> usize
@@ -81,7 +82,7 @@ fn next_entries<A: Heap>(problem: &Problem<'_, A>, placed: EntrySet) -> EntrySet
 {
     let some = some_joined(problem, placed);
     let mut next = EntrySet::none();
-    let count = problem.setting.frame.len();
+    let count = inner_count(problem.setting);
     for entry in 0..count {
         next = with_next(next, entry, may_be_next(problem, placed, entry, some));
     }
@@ -93,7 +94,7 @@ fn next_bits<A: Heap>(problem: &Problem<'_, A>, nexts: &[u64], set: usize) -> u6
     requires { set ≤ length nexts.now }
     ensures { spec.is_reached (entry_count (problem_of problem.now)) nexts.now set ≡ true → (i : ℕ) → set_of result i ≡ (nat_lt i (entry_count (problem_of problem.now)) && following.may_be_next (problem_of problem.now).setting (set_of set) i) }
 {
-    if !is_reached(nexts, set, problem.setting.frame.len()) {
+    if !is_reached(nexts, set, inner_count(problem.setting)) {
         return 0;
     }
     next_entries(problem, EntrySet { bits: set as u64 }).bits
@@ -107,7 +108,7 @@ pub(crate) fn nexts<A: Heap>(
     ensures { IfOk result (λ nexts. AreNexts (problem_of problem.now) nexts) }
 {
     let mut nexts = Items::new(alloc);
-    let sets = bit_of(problem.setting.frame.len());
+    let sets = bit_of(inner_count(problem.setting));
     for set in 0..sets {
         let next = next_bits(problem, nexts.as_slice(), set);
         nexts.push(next)?;

@@ -1,8 +1,10 @@
 //! The search for the least code.
 
-ghost use Rattle.std.specs.Prelude.{◌≡◌, ◌+◌, ◌-◌, ◌*◌, ◌<◌, ◌≤◌, ◌^◌, [], ◌∷◌, IfOk, Some, false, length, slice_get, true};
+ghost use Rattle.std.specs.Prelude.{◌≡◌, ◌+◌, ◌-◌, ◌*◌, ◌<◌, ◌≤◌, ◌^◌, [], ◌∷◌, ◌++◌, IfOk, List, Some, false, length, slice_get, true};
+ghost use Rattle.expr.specs.declared.code.CodeStep.{CodeStep};
 ghost use Rattle.expr.specs.View.{code_of};
-ghost use Rattle.trailcheck.specs.Admissible.{is_admissible};
+ghost use Rattle.trailcheck.specs.Admissible.{are_left_steps, is_admissible};
+ghost use Rattle.trailcheck.specs.Settings.{inner_count};
 ghost use Rattle.joindp.specs.Best.{IsLeast, estimates};
 ghost use Rattle.joindp.specs.Cost as cost_spec;
 ghost use Rattle.joins.specs.Orders.{Order};
@@ -17,7 +19,7 @@ ghost use Rattle.joindp.specs.Walks.{IsBestFrom, IsNoLater, IsNoWorse, IsPick, n
 
 use crate::best::{Best, Pick};
 use crate::candidates::{Candidate, candidates, cost_with, index_after};
-use crate::costing::{access_cost, last_sorting, size};
+use crate::costing::{access_cost, cost, inner_size, last_sorting, size};
 use crate::following::{accesses, first_steps};
 use crate::inputs::Inputs;
 use crate::orders::{is_live, order_index, orders};
@@ -25,11 +27,12 @@ use crate::problem::Problem;
 use crate::reaching::{bit_of, is_order_of, is_reached, nexts};
 use expr::{Access, Code, CodeStep, ColumnId};
 use joins::order_of;
+use left_tails::best_tail;
 use memory::{Heap, Items};
 use stats::EntrySet;
 use std::alloc::AllocError;
 use std::cmp::Ordering;
-use trailcheck::{entry_index, some_never_true};
+use trailcheck::{entry_index, inner_count, some_never_true};
 
 // ---- the better of two plans
 
@@ -296,7 +299,7 @@ fn row_of<A: Heap>(
     requires within { set < 2 ^ entry_count (problem_of inputs.now.problem.now) }
     ensures { IfOk result (λ row. is_reached (entry_count (problem_of inputs.now.problem.now)) inputs.now.nexts.now set ≡ true → IsRow (problem_of inputs.now.problem.now) inputs.now.orders.now set row.items) }
 {
-    if !is_reached(inputs.nexts, set, inputs.problem.setting.frame.len()) {
+    if !is_reached(inputs.nexts, set, inner_count(inputs.problem.setting)) {
         return Ok(Vec::new(alloc));
     }
     let candidates = candidates(alloc, inputs, set)?;
@@ -323,7 +326,7 @@ fn sizes<A: Heap>(alloc: A, problem: &Problem<'_, A>) -> Result<Items<u64, A>, A
     ensures { IfOk result (λ sizes. AreSizes (problem_of problem.now) sizes) }
 {
     let mut sizes = Items::new(alloc);
-    let count = bit_of(problem.setting.frame.len()) as u64;
+    let count = bit_of(inner_count(problem.setting)) as u64;
     for bits in 0..count {
         sizes.push(size(problem, EntrySet { bits }))?;
     }
@@ -338,7 +341,7 @@ fn all_accesses<A: Heap>(
     ensures { IfOk result (λ lists. AreAccesses (problem_of problem.now) lists) }
 {
     let mut lists = Items::new(alloc);
-    let count = problem.setting.frame.len();
+    let count = inner_count(problem.setting);
     for entry in 0..count {
         lists.push(accesses(alloc, problem, entry)?)?;
     }
@@ -384,6 +387,38 @@ fn best_steps<A: Heap>(alloc: A, problem: &Problem<'_, A>) -> Result<Option<Best
     best_plan(alloc, &inputs)
 }
 
+// The best steps of the left joined entries.
+fn best_left_steps<A: Heap>(
+    alloc: A,
+    problem: &Problem<'_, A>,
+) -> Result<Items<CodeStep, A>, AllocError>
+    ensures admissible { IfOk result (λ tail. are_left_steps (inner_count (problem_of problem.now).setting) (problem_of problem.now).setting.lefts tail ≡ true) }
+    ensures least { IfOk result (λ tail. (other : List CodeStep) → are_left_steps (inner_count (problem_of problem.now).setting) (problem_of problem.now).setting.lefts other ≡ true → IsNoWorse (cost_spec.left_cost (estimates (problem_of problem.now)) tail, tail) (cost_spec.left_cost (estimates (problem_of problem.now)) other, other)) }
+{
+    let tail = best_tail(
+        alloc,
+        problem.statistics,
+        problem.selections.as_slice(),
+        inner_size(problem),
+        inner_count(problem.setting),
+        problem.setting.lefts.as_slice(),
+    )?;
+    Ok(tail)
+}
+
+// Some steps, and then others.
+fn with_tail<A: Heap>(
+    alloc: A,
+    steps: &[CodeStep],
+    tail: &[CodeStep],
+) -> Result<Items<CodeStep, A>, AllocError>
+    ensures { IfOk result (λ all. all ≡ steps.now ++ tail.now) }
+{
+    let mut all = Vec::from_slice(alloc, steps)?;
+    all.extend_from_slice(tail)?;
+    Ok(Items::from(all))
+}
+
 /// The code that a plan may have and that is least by its cost and then by its numbers, and its cost (Selinger et al. 1979,
 /// section 5). It keeps the best rest of a code from each set of placed entries and each order that their combinations may come in
 /// and that somebody may ask for: of n entries and k orders (one more than the columns that are equated or wanted), at most 2^n
@@ -397,5 +432,9 @@ pub fn search<A: Heap>(alloc: A, problem: &Problem<'_, A>) -> Result<(Code<A>, u
         return Ok((Code::Empty, 0));
     }
     let best = best_steps(alloc, problem)?.unwrap();
-    Ok((Code::Steps(best.steps), best.cost))
+    let tail = best_left_steps(alloc, problem)?;
+    let steps = with_tail(alloc, best.steps.as_slice(), tail.as_slice())?;
+    let code = Code::Steps(steps);
+    let total = cost(problem, &code);
+    Ok((code, total))
 }

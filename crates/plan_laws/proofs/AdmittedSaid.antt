@@ -1,8 +1,9 @@
 -- The movable conjuncts of an admitted query have texts that are read back, and its entries have names.
-use Rattle.std.proofs.Common.{◌≡◌, ◌-◌, ℕ, zero, suc, Bool, true, false, cond, List, [], ◌∷◌, length, find, Option, Some, Result, Ok, Err, sym, ap, subst}
+use Rattle.std.specs.Prelude.{option_to_list}
+use Rattle.std.proofs.Common.{◌≡◌, ◌-◌, ℕ, zero, suc, Bool, true, false, cond, List, [], ◌∷◌, drop, filter, length, find, Option, Some, Result, Ok, Err, sym, ap, subst}
 use Rattle.std.specs.List.{All, flat_map, slice_get}
 use Rattle.std.specs.Str.{IsUtf8, bytes_eq}
-use Rattle.std.proofs.lemmas.List.Elements.{All-append, All-cons, All-head, All-nil, All-tail, All-take}
+use Rattle.std.proofs.lemmas.List.Elements.{All-append, All-cons, All-drop, All-head, All-nil, All-tail, All-take}
 use Rattle.memory.proofs.Cases.{none_is_not, some_is}
 use Rattle.value.specs.Columns.{Column}
 use Rattle.value.specs.Names.{Name}
@@ -10,7 +11,9 @@ use Rattle.row_ast.specs.Ast as ast
 use Rattle.row_objects.specs.Objects.{Table}
 use Rattle.expr.specs.declared.bound.ColumnId.{ColumnId}
 use Rattle.expr.specs.Bound.{BoundExpr}
-use Rattle.expr.specs.Conjuncts.{conjuncts, conjuncts_in, inner_ons, movable_conjuncts}
+use Rattle.expr.specs.Conjuncts.{conjuncts, conjuncts_in, inner_ons, left_ons, movable_conjuncts}
+use Rattle.expr.specs.Movable.{movable}
+use Rattle.row_terms.specs.Written.{left_conditions}
 use Rattle.syntax.specs.Parsing.{parsed_query}
 use Rattle.syntax.proofs.TextAnswer.{query_determined}
 use Rattle.scope.specs.declared.error.BindError.{BindError}
@@ -35,7 +38,8 @@ use Rattle.plan_laws.proofs.Rules.{Each, If}
 use Rattle.plan_laws.specs.Said.{IsSaid}
 use Rattle.plan_laws.proofs.GrownQueries.{IsGrownCondition, IsGrownQuery, queries_grown}
 use Rattle.plan_laws.proofs.GrownEntries.{IsGrownEntry, query_entries}
-use Rattle.plan_laws.proofs.BoundConditions.{IsSaidIfMovable, condition_said, each_of, movable_said, ons_said}
+use Rattle.plan_laws.proofs.BoundConditions.{IsSaidIfMovable, condition_said, each_of, movable_said, ons_said, whole_ons_said}
+use Rattle.plan_laws.proofs.PlanningSaid.{all_said_without}
 
 -- ---- lists
 
@@ -127,3 +131,18 @@ admitted_said cat role text b fit names u is =
     let inner = All-take (λ (o : Option BoundExpr). All (IsSaidIfMovable es) (conjuncts_in o)) (length b.query.ons - b.query.left_count) b.query.ons ons in
     let where_ = condition_said es found (everywhere es) q.filter b.query.filter g.filter parts.filter in
     movable_said es (conjuncts b.query) (All-append (IsSaidIfMovable es) (flat_map conjuncts_in (inner_ons b.query)) (conjuncts_in b.query.filter) (each_of es conjuncts_in (inner_ons b.query) inner) where_)
+
+-- and so do the ONs of its left joined entries
+pub admitted_lefts_said : (cat : Catalog) (role : Name) (text : List ℕ) (b : Bound) → IsWellFormed cat → AreNames cat → IsUtf8 text → admitted cat role text ≡ Ok b → All (IsSaid b.entries) (left_conditions b.query)
+admitted_lefts_said cat role text b fit names u is =
+    let it = read_and_bound cat role text b is in
+    let q = it.0 in
+    let es = b.entries in
+    let g = grown text q u it.1 in
+    let parts = (is_made cat q b it.2).parts in
+    let here = query_entries cat q b g it.2 in
+    let found = column_named es (aliases_of es here) (entries_named cat es names (binds_tables cat q b it.2)) in
+    let ons = whole_ons_said es found 0 es b.query.ons (each_weaker IsGrownEntry HasOn (λ e k. k.on) es here) parts.ons in
+    let n = length b.query.ons - b.query.left_count in
+    let lefts = All-drop (λ (o : Option BoundExpr). All (IsSaidIfMovable es) (option_to_list o)) n b.query.ons ons in
+    all_said_without es (filter movable (left_ons b.query)) (movable_said es (left_ons b.query) (each_of es option_to_list (drop n b.query.ons) lefts))

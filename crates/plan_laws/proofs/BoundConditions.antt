@@ -1,6 +1,7 @@
 -- The movable conjuncts of the conditions of a query, which the grammar made, have texts.
 use Rattle.std.proofs.Common.{◌≡◌, ◌≤◌, ℕ, ◌+◌, Bool, true, false, cond, List, [], ◌∷◌, filter, Option, Some, None, Ok, refl, sym, ap, subst, ◌∙◌, arith}
 use Rattle.std.specs.List.{All, flat_map}
+use Rattle.std.specs.Prelude.{option_to_list}
 use Rattle.std.proofs.lemmas.List.Elements.{All-append, All-cons, All-head, All-nil, All-tail}
 use Rattle.memory.proofs.Cases.{ok_is}
 use Rattle.row_ast.specs.Ast as ast
@@ -80,10 +81,27 @@ module _ (entries : List Entry) where
         let step = given (λ e. Ok (Some e)) x (bound_expr entries scope c.predicate) is in
         subst (λ (x : Option BoundExpr). All IsSaidIfMovable (conjuncts_in x)) (ok_is (Some step.0) x step.2) (conjuncts_said scope c.predicate step.0 step.1 g.grown g.shallow)
 
+    -- the condition itself
+    whole_said : (scope : Scope) (o : Option ast.Condition) (x : Option BoundExpr) → If IsGrownCondition o → bound_condition entries scope o ≡ Ok x → All IsSaidIfMovable (option_to_list x)
+    whole_said scope None x g is = subst (λ (x : Option BoundExpr). All IsSaidIfMovable (option_to_list x)) (ok_is None x is) (All-nil IsSaidIfMovable)
+    whole_said scope (Some c) x g is =
+        let step = given (λ e. Ok (Some e)) x (bound_expr entries scope c.predicate) is in
+        subst (λ (x : Option BoundExpr). All IsSaidIfMovable (option_to_list x)) (ok_is (Some step.0) x step.2)
+        (All-cons IsSaidIfMovable step.0 [] (of_text c.predicate step.0 (expr_said entries scope (found scope) c.predicate step.0 step.1) g.grown g.shallow) (All-nil IsSaidIfMovable))
+
+    -- what is said of the parts of each condition is said of those of the ON of each entry
+    module _ (parts : Option BoundExpr → List BoundExpr) (said : (scope : Scope) (o : Option ast.Condition) (x : Option BoundExpr) → If IsGrownCondition o → bound_condition entries scope o ≡ Ok x → All IsSaidIfMovable (parts x)) where
+      each_on_said : (n : ℕ) (es : List Entry) (ons : List (Option BoundExpr)) → Each (λ e. If IsGrownCondition e.on) es → bound_ons entries n es ≡ Ok ons → All (λ o. All IsSaidIfMovable (parts o)) ons
+      each_on_said n [] ons g is = let P : Option BoundExpr → Type 0 = λ o. All IsSaidIfMovable (parts o) in subst (All P) (ok_is [] ons is) (All-nil P)
+      each_on_said n (e ∷ es) ons g is =
+          let P : Option BoundExpr → Type 0 = λ o. All IsSaidIfMovable (parts o) in
+          let step = first_given (bound_condition entries (on_scope n e) e.on) (bound_ons entries (n + 1) es) ons is in
+          subst (All P) step.4 (All-cons P step.0 step.1 (said (on_scope n e) e.on step.0 g.0 step.2) (each_on_said (n + 1) es step.1 g.1 step.3))
+
     -- each conjunct of the ON of each entry
     pub ons_said : (n : ℕ) (es : List Entry) (ons : List (Option BoundExpr)) → Each (λ e. If IsGrownCondition e.on) es → bound_ons entries n es ≡ Ok ons → All (λ o. All IsSaidIfMovable (conjuncts_in o)) ons
-    ons_said n [] ons g is = let P : Option BoundExpr → Type 0 = λ o. All IsSaidIfMovable (conjuncts_in o) in subst (All P) (ok_is [] ons is) (All-nil P)
-    ons_said n (e ∷ es) ons g is =
-        let P : Option BoundExpr → Type 0 = λ o. All IsSaidIfMovable (conjuncts_in o) in
-        let step = first_given (bound_condition entries (on_scope n e) e.on) (bound_ons entries (n + 1) es) ons is in
-        subst (All P) step.4 (All-cons P step.0 step.1 (condition_said (on_scope n e) e.on step.0 g.0 step.2) (ons_said (n + 1) es step.1 g.1 step.3))
+    ons_said = each_on_said conjuncts_in condition_said
+
+    -- and each ON
+    pub whole_ons_said : (n : ℕ) (es : List Entry) (ons : List (Option BoundExpr)) → Each (λ e. If IsGrownCondition e.on) es → bound_ons entries n es ≡ Ok ons → All (λ o. All IsSaidIfMovable (option_to_list o)) ons
+    whole_ons_said = each_on_said option_to_list whole_said

@@ -1,11 +1,12 @@
--- What holds of each column that a query names holds of those of its movable conjuncts.
-use Rattle.std.proofs.Common.{ℕ, zero, suc, ◌-◌, Bool, true, false, List, [], ◌∷◌, ◌++◌, length, take, filter, Option, Some, None, cond}
+-- What holds of each column that a query names holds of those of its movable conjuncts, and of the ONs of its left joined entries.
+use Rattle.std.proofs.Common.{ℕ, zero, suc, ◌-◌, Bool, true, false, List, [], ◌∷◌, ◌++◌, length, take, drop, filter, Option, Some, None, cond}
+use Rattle.std.specs.Prelude.{option_to_list}
 use Rattle.std.specs.List.{AllByRecursion, flat_map}
 use Rattle.expr.specs.declared.bound.ColumnId.{ColumnId}
 use Rattle.expr.specs.Bound.{BoundExpr, BoundExprs, And, no_expr, one_expr}
 use Rattle.expr.specs.BoundQuery.{BoundQuery}
 use Rattle.expr.specs.Columns.{all_columns, columns}
-use Rattle.expr.specs.Conjuncts.{conjuncts, conjuncts_in, conjuncts_of, inner_ons, members, movable_conjuncts}
+use Rattle.expr.specs.Conjuncts.{conjuncts, conjuncts_in, conjuncts_of, inner_ons, left_ons, members, movable_conjuncts}
 use Rattle.expr.specs.Movable.{movable}
 use Rattle.expr.specs.NamedColumns.{condition_columns, item_columns, named_columns}
 
@@ -58,6 +59,22 @@ module _ (Q : ColumnId → Type 0) where
   of_ons (suc n) (o ∷ ons) h =
       of_both OfColumns (conjuncts_in o) (flat_map conjuncts_in (take n ons)) (of_optional o (left_of Q (condition_columns o) (flat_map condition_columns ons) h))
       (of_ons n ons (right_of Q (condition_columns o) (flat_map condition_columns ons) h))
+
+  -- of those after the first ones
+  of_last_ons : (n : ℕ) (ons : List (Option BoundExpr)) → AllByRecursion Q (flat_map condition_columns ons) → AllByRecursion OfColumns (flat_map option_to_list (drop n ons))
+  of_last_ons zero [] h = tt
+  of_last_ons zero (None ∷ ons) h = of_last_ons zero ons h
+  of_last_ons zero (Some e ∷ ons) h = (left_of Q (columns e) (flat_map condition_columns ons) h, of_last_ons zero ons (right_of Q (columns e) (flat_map condition_columns ons) h))
+  of_last_ons (suc n) [] h = tt
+  of_last_ons (suc n) (o ∷ ons) h = of_last_ons n ons (right_of Q (condition_columns o) (flat_map condition_columns ons) h)
+
+  pub of_lefts : (q : BoundQuery) → AllByRecursion Q (named_columns q) → AllByRecursion OfColumns (filter movable (left_ons q))
+  of_lefts q h =
+      let conditions : List ColumnId = flat_map condition_columns q.ons ++ condition_columns q.filter in
+      let rest : List ColumnId = q.group_by ++ condition_columns q.having in
+      let after = right_of Q (flat_map item_columns q.items) (conditions ++ rest) h in
+      let mine = left_of Q conditions rest after in
+      left_by OfColumns movable (left_ons q) (of_last_ons (length q.ons - q.left_count) q.ons (left_of Q (flat_map condition_columns q.ons) (condition_columns q.filter) mine))
 
   pub of_conjuncts : (q : BoundQuery) → AllByRecursion Q (named_columns q) → AllByRecursion OfColumns (movable_conjuncts q)
   of_conjuncts q h =

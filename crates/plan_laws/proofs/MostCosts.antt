@@ -1,7 +1,8 @@
 -- The most that a code can cost, where no table has more rows than 64 bits count.
-use Rattle.std.proofs.Common.{◌≡◌, refl, ℕ, ◌+◌, ◌*◌, ◌^◌, ◌<◌, ◌≤◌, ◌==◌, nat_lt, Bool, true, false, List, [], ◌∷◌, ◌++◌, length, Option, Some, None, arith}
+use Rattle.std.proofs.Common.{◌≡◌, refl, ℕ, suc, ◌+◌, ◌*◌, ◌^◌, ◌<◌, ◌≤◌, ◌==◌, max, min, nat_lt, Bool, true, false, List, [], ◌∷◌, ◌++◌, length, take, drop, Option, Some, None, arith}
 use Rattle.std.specs.Int.Digits.{digits_of}
 use Rattle.std.proofs.lemmas.Int.Digits.{length-digits_of-le}
+use Rattle.std.proofs.lemmas.List.{length-drop, length-take}
 use Rattle.std.proofs.lemmas.Nat.{mul-le}
 use Rattle.expr.specs.declared.bound.ColumnId.{ColumnId}
 use Rattle.expr.specs.declared.code.Access.{Access}
@@ -12,14 +13,15 @@ use Rattle.expr.specs.declared.code.CodeStep.{CodeStep}
 use Rattle.expr.specs.Bound.{BoundExpr}
 use Rattle.expr.specs.Codes.{Code, Empty, Steps}
 use Rattle.predicates.specs.Numbered.{numbered}
-use Rattle.stats.specs.Card.{Entries, most_rows, rows_at}
-use Rattle.stats.specs.Factors.{million}
-use Rattle.plan_laws.proofs.MostRows.{card_within, factor_within, reduced_within}
+use Rattle.stats.specs.Card.{Entries, most_rows, reduced, rows_at, selections}
+use Rattle.stats.specs.Factors.{factor, million}
+use Rattle.left_tails.specs.Tails.{is_completed, left_join_cost, left_times, size_with_left, size_with_lefts, tail_cost}
+use Rattle.plan_laws.proofs.MostRows.{card_within, factor_within, reduced_all, reduced_within}
 use Rattle.trailcheck.specs.Entries.{is_among}
 use Rattle.trailcheck.specs.Shapes.{entry_index}
 use Rattle.joins.specs.Orders.{Order, is_ordered_by, merge_sorting, order_after, order_of, sides, sorting_unless}
 use Rattle.joins.specs.Steps.{sort_steps}
-use Rattle.joindp.specs.Cost.{Estimates, access_cost, cost, cost_after, entry_size, factor_held, join_cost, last_sorting, size, step_cost, steps_cost}
+use Rattle.joindp.specs.Cost.{Estimates, access_cost, cost, cost_after, entry_size, factor_held, first_left, inner_size, join_cost, last_sorting, size, step_cost, steps_cost, whole_size}
 
 -- ---- sorts of at most so many rows
 
@@ -72,9 +74,45 @@ module _ (at : Estimates) where
         let r = reading_within (entry_index s) s.access in
         omega (arith, j, r)
 
+    -- ---- left joined entries
+
+    times_left : (v rows f : ℕ) → v ≤ most_rows → f ≤ million → left_times v rows f ≤ most_rows
+    times_left v rows f h l = go (v * rows)
+      where
+        go : (n : ℕ) → max v (reduced (min n most_rows) f) ≤ most_rows
+        go n = let r = reduced_within (min n most_rows) f most_rows l (omega arith) (omega arith) in omega (arith, h, r)
+
+    left_within : (v i : ℕ) (on : BoundExpr) → v ≤ most_rows → size_with_left at.statistics (selections at.statistics at.conditions) v i on ≤ most_rows
+    left_within v i on h =
+        reduced_all at.statistics (left_times v (rows_at at.statistics i) (factor at.statistics on)) (is_completed i) at.conditions
+        (times_left v (rows_at at.statistics i) (factor at.statistics on) h (factor_within at.statistics on))
+
+    lefts_within : (v i : ℕ) (ons : List BoundExpr) → v ≤ most_rows → size_with_lefts at.statistics (selections at.statistics at.conditions) v i ons ≤ most_rows
+    lefts_within v i [] h = h
+    lefts_within v i (on ∷ ons) h = lefts_within (size_with_left at.statistics (selections at.statistics at.conditions) v i on) (suc i) ons (left_within v i on h)
+
+    left_join_within : (v i : ℕ) (m : Method) → v ≤ most_rows → left_join_cost at.statistics v i m ≤ 2 ^ 105
+    left_join_within v i Nested h =
+        let r = few i in
+        let p = mul-le v (max 1 (rows_at at.statistics i)) most_rows (2 ^ 64) h (omega (arith, r)) in
+        omega (arith, p)
+    left_join_within v i (Hash conjunct) h = let r = few i in omega (arith, r, h)
+    left_join_within v i (Merge conjunct) h = omega arith
+
+    tail_within : (v i : ℕ) (ons : List BoundExpr) (ss : List CodeStep) → v ≤ most_rows → tail_cost at.statistics (selections at.statistics at.conditions) v i ons ss ≤ length ss * 2 ^ 106
+    tail_within v i [] ss h = omega arith
+    tail_within v i (on ∷ ons) [] h = omega arith
+    tail_within v i (on ∷ ons) (s ∷ ss) h =
+        let one = left_join_within v i s.method h in
+        let r = few i in
+        let rest = tail_within (size_with_left at.statistics (selections at.statistics at.conditions) v i on) (suc i) ons ss (left_within v i on h) in
+        omega (arith, one, r, rest)
+
+    -- ---- all of it
+
     last_within : (order : Order) (wanted : Option ColumnId) → last_sorting at order wanted ≤ 2 ^ 46
     last_within order None = omega arith
-    last_within order (Some id) = sorting_within (is_ordered_by order id) (size at (λ i. nat_lt i (length at.statistics))) (size_within (λ i. nat_lt i (length at.statistics)))
+    last_within order (Some id) = sorting_within (is_ordered_by order id) (whole_size at) (lefts_within (inner_size at) (first_left at) at.lefts (size_within (λ i. nat_lt i (first_left at))))
 
     after_within : (placed : List ℕ) (order : Order) (ss : List CodeStep) → cost_after at placed order ss ≤ length ss * 2 ^ 81 + 2 ^ 46
     after_within placed order [] = let l = last_within order at.wanted in omega (arith, l)
@@ -93,4 +131,10 @@ module _ (at : Estimates) where
     -- the cost of a code of few steps is of 128 bits
     pub cost_small : (code : Code) → ((ss : List CodeStep) → code ≡ Steps ss → length ss ≤ 12) → cost at code < 2 ^ 128
     cost_small Empty few = omega arith
-    cost_small (Steps ss) few = let n = few ss refl in let c = steps_within ss in omega (arith, n, c)
+    cost_small (Steps ss) few =
+        let n = few ss refl in
+        let c = steps_within (take (first_left at) ss) in
+        let t = tail_within (inner_size at) (first_left at) at.lefts (drop (first_left at) ss) (size_within (λ i. nat_lt i (first_left at))) in
+        let a = length-take (first_left at) ss in
+        let b = length-drop (first_left at) ss in
+        omega (arith, n, c, t, a, b)

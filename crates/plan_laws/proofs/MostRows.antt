@@ -9,7 +9,7 @@ use Rattle.value.specs.declared.operators.Comparison as operators
 use Rattle.value.specs.declared.operators.Comparison.TheVariants.{Equal, NotEqual, Less, LessOrEqual, Greater, GreaterOrEqual}
 use Rattle.expr.specs.Bound.{BoundExpr, BoundExprs, no_expr, one_expr, Column, Literal, CurrentUser, Negate, Arithmetic, Comparison, Between, In, IsNull, Not, And, Or, Cast, Case, CountStar, Call}
 use Rattle.stats.specs.declared.statistics.Bounds.{Bounds}
-use Rattle.stats.specs.Card.{Entries, all_rows, card, is_about, most_rows, reduced, rows_at, selection, selections, times}
+use Rattle.stats.specs.Card.{Entries, Selection, all_rows, card, is_about, most_rows, reduced, rows_at, selection, selections, times}
 use Rattle.stats.specs.Factors.{million, third, one_of, from_zero, part, part_or, negated_if, stats_at, distinct_at, equality, less_than, comparison, range, membership, factor, all_factor, any_factor}
 use Rattle.stats.specs.Statistics.{Stats}
 
@@ -134,14 +134,14 @@ module _ (of : List Stats) where
   rows_within v [] h = h
   rows_within v (r ∷ rs) h = rows_within (times v r) rs (times_within v r)
 
-  reduced_all : (v : ℕ) (entries : Entries) (es : List BoundExpr) → v ≤ most_rows → fold reduced v (map (λ s. s.factor) (filter (is_about entries) (selections of es))) ≤ most_rows
-  reduced_all v entries [] h = h
-  reduced_all v entries (e ∷ es) h = go (is_about entries (selection of e)) (λ w. reduced_all w entries es)
+  pub reduced_all : (v : ℕ) (test : Selection → Bool) (es : List BoundExpr) → v ≤ most_rows → fold reduced v (map (λ s. s.factor) (filter test (selections of es))) ≤ most_rows
+  reduced_all v test [] h = h
+  reduced_all v test (e ∷ es) h = go (test (selection of e)) (λ w. reduced_all w test es)
     where
-      go : (b : Bool) → ((w : ℕ) → w ≤ most_rows → fold reduced w (map (λ s. s.factor) (filter (is_about entries) (selections of es))) ≤ most_rows)
-          → fold reduced v (map (λ s. s.factor) (if b then selection of e ∷ filter (is_about entries) (selections of es) else filter (is_about entries) (selections of es))) ≤ most_rows
+      go : (b : Bool) → ((w : ℕ) → w ≤ most_rows → fold reduced w (map (λ s. s.factor) (filter test (selections of es))) ≤ most_rows)
+          → fold reduced v (map (λ s. s.factor) (if b then selection of e ∷ filter (test) (selections of es) else filter (test) (selections of es))) ≤ most_rows
       go true rest = rest (reduced v (factor of e)) (reduced_within v (factor of e) most_rows (factor_within e) h (omega arith))
       go false rest = rest v h
 
   pub card_within : (entries : Entries) (es : List BoundExpr) → card of (selections of es) entries ≤ most_rows
-  card_within entries es = reduced_all (all_rows of entries) entries es (rows_within 1 (map (rows_at of) (filter entries (range_with_len 0 (length of)))) (omega arith))
+  card_within entries es = reduced_all (all_rows of entries) (is_about entries) es (rows_within 1 (map (rows_at of) (filter entries (range_with_len 0 (length of)))) (omega arith))

@@ -49,7 +49,7 @@ module _ (entries : List Entry) (P : ColumnId → Type 0) (Q : Datum → Type 0)
     pub plain : IsPlain P Q e
     pub shallow : levels (named entries e) ≤ n
 
-  without_kept : (e : BoundExpr) → IsKept e → IsKept (without_offsets e)
+  pub without_kept : (e : BoundExpr) → IsKept e → IsKept (without_offsets e)
   without_kept e h = record { plain = without_offsets_plain P Q e h.plain; shallow = through _ _ _ (without_offsets_levels entries e) h.shallow }
 
   simplified_kept : (e : BoundExpr) → IsKept e → IsKept (simplified e)

@@ -1,18 +1,19 @@
 -- The conditions that a query is planned with have texts that are read back, where those that it is written with have.
-use Rattle.std.proofs.Common.{◌≤◌, List, [], ◌∷◌, arith}
+use Rattle.std.proofs.Common.{◌≤◌, List, [], ◌∷◌, map, arith}
 use Rattle.std.specs.List.{All}
-use Rattle.std.proofs.lemmas.List.Elements.{All-nil, All-cons, All-weaker}
+use Rattle.std.proofs.lemmas.List.Elements.{All-nil, All-cons, All-map, All-weaker}
 use Rattle.expr.specs.declared.bound.ColumnId.{ColumnId}
 use Rattle.expr.specs.Bound.{BoundExpr}
 use Rattle.expr.specs.BoundQuery.{BoundQuery}
 use Rattle.expr.specs.Columns.{columns}
 use Rattle.expr.specs.Conjuncts.{movable_conjuncts}
+use Rattle.predicates.specs.Offsets.{without_offsets}
 use Rattle.scope.specs.Entry.{Entry}
 use Rattle.expr_texts.specs.Filters.{filter_levels}
 use Rattle.algebra.specs.PlanningList.{planning_list}
 use Rattle.plan_laws.specs.Said.{IsSaid}
 use Rattle.plan_laws.proofs.SaidPlain.{IsValue, IsColumnSaid, to_plain, written_back, utf8_back, columns_back}
-use Rattle.plan_laws.proofs.PlainLists.{IsKept, planning_plain}
+use Rattle.plan_laws.proofs.PlainLists.{IsKept, planning_plain, without_kept}
 
 module _ (entries : List Entry) where
   -- said, and with a fact that is known of each column
@@ -44,3 +45,13 @@ module _ (entries : List Entry) where
   planning_said q h =
       All-weaker (IsSaidOf (λ id. Unit {0})) (IsSaid entries) (λ e s. s.0) (planning_list q)
       (planning_said_of (λ id. Unit {0}) q (All-weaker (IsSaid entries) (IsSaidOf (λ id. Unit {0})) (λ e s. (s, nothing_known (columns e))) (movable_conjuncts q) h))
+
+  -- ---- without offsets
+
+  said_without : (e : BoundExpr) → IsSaid entries e → IsSaid entries (without_offsets e)
+  said_without e s =
+      (back (λ id. Unit {0}) (without_offsets e)
+      (without_kept entries (IsColumnSaid entries (λ id. Unit {0})) IsValue (tt, tt) (λ b. (tt, tt)) filter_levels e (forth (λ id. Unit {0}) e (s, nothing_known (columns e))))).0
+
+  pub all_said_without : (es : List BoundExpr) → All (IsSaid entries) es → All (IsSaid entries) (map without_offsets es)
+  all_said_without es h = All-map (IsSaid entries) without_offsets es (All-weaker (IsSaid entries) (λ e. IsSaid entries (without_offsets e)) said_without es h)

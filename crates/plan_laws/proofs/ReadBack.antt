@@ -53,7 +53,7 @@ module _ (entries : List Entry) (Q : ColumnId → Type 0) where
     else_bare (bound.Value e) h = ap ast.Value (named_bare e h)
 
   module _ (back : NamesBindBack) where
-    filter_is : (c : BoundExpr) → AreFound entries c → IsBare Q c → is_filter entries (without_offsets (named entries c)) c ≡ true
+    pub filter_is : (c : BoundExpr) → AreFound entries c → IsBare Q c → is_filter entries (without_offsets (named entries c)) c ≡ true
     filter_is c found bare =
         ap (λ f. is_filter entries f c) (named_bare c bare)
         ∙ ap (λ (r : Result BoundExpr BindError). is_condition r c) (back entries c found)

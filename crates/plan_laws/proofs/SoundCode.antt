@@ -1,7 +1,9 @@
 -- The text of an admissible code: entries and columns by their names, and numbers of 64 bits.
-use Rattle.std.proofs.Common.{◌≡◌, ℕ, zero, suc, ◌<◌, ◌≤◌, ◌^◌, ◌==◌, nat_le, Bool, true, false, not, ◌&&◌, List, [], ◌∷◌, ◌++◌, length, Option, Some, None, refl, subst, arith}
-use Rattle.std.specs.List.{slice_get}
-use Rattle.std.proofs.lemmas.Bool.{and_parts, eqb-true, leb-true}
+use Rattle.std.proofs.Common.{◌≡◌, ◌∙◌, ℕ, zero, suc, ◌+◌, ◌<◌, ◌≤◌, ◌^◌, ◌==◌, nat_le, nat_lt, Bool, true, false, not, ◌&&◌, List, [], ◌∷◌, ◌++◌, map, length, Option, Some, None, refl, sym, ap, subst, arith}
+use Rattle.std.specs.List.{AllByRecursion, range_with_len, slice_get}
+use Rattle.std.proofs.lemmas.Bool.{and_parts, both_ways, eqb-true, leb-true}
+use Rattle.std.proofs.lemmas.Bool.Decides.{nat_tests}
+use Rattle.std.proofs.lemmas.List.{length-take, map-append, take-append-drop}
 use Rattle.expr.specs.declared.bound.ColumnId.{ColumnId}
 use Rattle.expr.specs.declared.code.Access.{Access}
 use Rattle.expr.specs.declared.code.Access.TheVariants.{Full, Index, Range}
@@ -10,13 +12,17 @@ use Rattle.expr.specs.declared.code.Method.TheVariants.{Nested, Hash, Merge}
 use Rattle.expr.specs.declared.code.CodeStep.{CodeStep}
 use Rattle.expr.specs.Bound.{BoundExpr}
 use Rattle.expr.specs.Codes.{Code, Empty, Steps}
+use Rattle.expr.specs.Conjuncts.{conjuncts_of}
 use Rattle.predicates.specs.Equalities.{column_sides}
 use Rattle.predicates.specs.Numbered.{numbered}
-use Rattle.trailcheck.specs.Admissible.{are_across, are_allowed_steps, bounds, condition_at, equates, is_admissible, is_allowed_access, is_allowed_method, is_allowed_step, is_connected, is_indexed, is_next, is_refuted, is_some_and}
+use Rattle.trailcheck.specs.Admissible.{are_across, are_allowed_steps, are_left_steps, bounds, condition_at, equates, is_admissible, is_allowed_access, is_allowed_method, is_allowed_step, is_connected, is_full, is_indexed, is_left_method, is_left_step, is_next, is_refuted, is_some_and}
 use Rattle.trailcheck.specs.Entries.{is_among}
-use Rattle.trailcheck.specs.Settings.{Setting}
-use Rattle.trailcheck.specs.Shapes.{entry_index}
+use Rattle.trailcheck.specs.Settings.{Setting, inner_count}
+use Rattle.trailcheck.specs.Shapes.{entry_index, inner_steps, left_steps}
+use Rattle.plan_texts.specs.Plans as plan_texts
 use Rattle.plan_texts.specs.Plans.{PlanEntry}
+use Rattle.plan_texts.specs.declared.plan.PlanStep.{PlanStep}
+use Rattle.bound_plans.specs.LeftJoins.{marked_code, marked_step}
 use Rattle.plan_texts.specs.Reading.{AreAll, HasColumn, HasEntry, IsAccess, IsCode, IsFirst, IsJoin, IsMethod, IsScan}
 
 -- a number with a condition is one of them
@@ -42,13 +48,26 @@ none_equates : (entry : ℕ) (o : Option BoundExpr) → is_some_and (equates [] 
 none_equates entry None h = cc
 none_equates entry (Some e) h = none_across entry (column_sides e) h
 
+-- what is known of the steps of an admissible code
+module _ (at : Setting) (ss : List CodeStep) (h : is_admissible at (Steps ss) ≡ true) where
+  abbrev steps_allowed : Bool
+  steps_allowed = are_allowed_steps at [] (inner_steps at ss)
+
+  abbrev lefts_allowed : Bool
+  lefts_allowed = are_left_steps (inner_count at) at.lefts (left_steps at ss)
+
+  both_allowed : (length ss == length at.frame) && (steps_allowed && lefts_allowed) ≡ true
+  both_allowed = (and_parts (not (is_refuted at)) ((length ss == length at.frame) && (steps_allowed && lefts_allowed)) h).1
+
+  steps_many : length ss ≡ length at.frame
+  steps_many = eqb-true (length ss) (length at.frame) (and_parts (length ss == length at.frame) (steps_allowed && lefts_allowed) both_allowed).0
+
+  steps_are : (steps_allowed ≡ true) × (lefts_allowed ≡ true)
+  steps_are = and_parts steps_allowed lefts_allowed (and_parts (length ss == length at.frame) (steps_allowed && lefts_allowed) both_allowed).1
+
 -- a code has as many steps as there are entries
 pub as_many_steps : (at : Setting) (code : Code) → is_admissible at code ≡ true → (ss : List CodeStep) → code ≡ Steps ss → length ss ≤ length at.frame
-as_many_steps at code h ss is =
-    let steps : is_admissible at (Steps ss) ≡ true = subst (λ c. is_admissible at c ≡ true) is h in
-    let rest = (and_parts (not (is_refuted at)) ((length ss == length at.frame) && are_allowed_steps at [] ss) steps).1 in
-    let many = eqb-true (length ss) (length at.frame) (and_parts (length ss == length at.frame) (are_allowed_steps at [] ss) rest).0 in
-    omega (arith, many)
+as_many_steps at code h ss is = let many = steps_many at ss (subst (λ c. is_admissible at c ≡ true) is h) in omega (arith, many)
 
 module _ (at : Setting) (entries : List PlanEntry) (few : length at.conditions < 2 ^ 64) (named : (i : ℕ) → i < length at.frame → HasEntry entries (suc i))
     (found : (i column : ℕ) → i < length at.frame → is_indexed at i column ≡ true → HasColumn entries (suc i) column) where
@@ -77,12 +96,12 @@ module _ (at : Setting) (entries : List PlanEntry) (few : length at.conditions <
     ways : (is_allowed_access at (entry_index s) s.access ≡ true) × (is_allowed_method at placed (entry_index s) s.method ≡ true)
     ways = and_parts (is_allowed_access at (entry_index s) s.access) (is_allowed_method at placed (entry_index s) s.method) places.1
 
-    within : (1 ≤ s.entry) × (s.entry ≤ length at.frame)
+    within : (1 ≤ s.entry) × (s.entry ≤ inner_count at)
     within =
         let next = and_parts (is_next at placed s) (is_connected at placed (entry_index s)) places.0 in
-        let place = and_parts (nat_le 1 s.entry && nat_le s.entry (length at.frame)) (not (is_among placed (entry_index s))) next.0 in
-        let range = and_parts (nat_le 1 s.entry) (nat_le s.entry (length at.frame)) place.0 in
-        (leb-true 1 s.entry range.0, leb-true s.entry (length at.frame) range.1)
+        let place = and_parts (nat_le 1 s.entry && nat_le s.entry (inner_count at)) (not (is_among placed (entry_index s))) next.0 in
+        let range = and_parts (nat_le 1 s.entry) (nat_le s.entry (inner_count at)) place.0 in
+        (leb-true 1 s.entry range.0, leb-true s.entry (inner_count at) range.1)
 
     scan_sound : IsScan entries s
     scan_sound =
@@ -91,26 +110,75 @@ module _ (at : Setting) (entries : List PlanEntry) (few : length at.conditions <
         let l : entry_index s < length at.frame = omega (arith, w.0, w.1) in
         (subst (HasEntry entries) own (named (entry_index s) l), subst (λ n. IsAccess entries n s.access) own (access_sound (entry_index s) s.access l ways.0))
 
-    join_sound : IsJoin entries s
+    -- its method and its scan have a text
+    join_sound : IsMethod entries s.method × IsScan entries s
     join_sound = (method_sound placed (entry_index s) s.method ways.1, scan_sound)
 
-  first_sound : (s : CodeStep) → is_allowed_step at [] s ≡ true → IsFirst entries s
-  first_sound s h = (first_nested (entry_index s) s.method (ways [] s h).1, scan_sound [] s h)
+    -- it has no word
+    no_word : nat_lt (inner_count at) s.entry ≡ false
+    no_word = let w = within.1 in grind (arith, nat_tests, w)
 
-  joins_sound : (placed : List ℕ) (ss : List CodeStep) → are_allowed_steps at placed ss ≡ true → AreAll (IsJoin entries) ss
+  -- ---- with the words of left joins
+
+  abbrev marked : CodeStep → PlanStep
+  marked s = marked_step (inner_count at) s
+
+  first_sound : (s : CodeStep) → is_allowed_step at [] s ≡ true → IsFirst entries (marked s)
+  first_sound s h = (no_word [] s h, first_nested (entry_index s) s.method (ways [] s h).1, scan_sound [] s h)
+
+  marked_sound : (placed : List ℕ) (s : CodeStep) → is_allowed_step at placed s ≡ true → IsJoin entries (marked s)
+  marked_sound placed s h = (λ is. absurd (both_ways (nat_lt (inner_count at) s.entry) (no_word placed s h) is), (join_sound placed s h).0, (join_sound placed s h).1)
+
+  joins_sound : (placed : List ℕ) (ss : List CodeStep) → are_allowed_steps at placed ss ≡ true → AreAll (IsJoin entries) (map marked ss)
   joins_sound placed [] h = tt
   joins_sound placed (s ∷ ss) h =
       let parts = and_parts (is_allowed_step at placed s) (are_allowed_steps at (placed ++ entry_index s ∷ []) ss) h in
-      (join_sound placed s parts.0, joins_sound (placed ++ entry_index s ∷ []) ss parts.1)
+      (marked_sound placed s parts.0, joins_sound (placed ++ entry_index s ∷ []) ss parts.1)
 
-  pub code_sound : 0 < length at.frame → (code : Code) → is_admissible at code ≡ true → IsCode entries code
-  code_sound some Empty h = tt
-  code_sound some (Steps []) h =
-      let rest = (and_parts (not (is_refuted at)) ((0 == length at.frame) && true) h).1 in
-      let none = eqb-true 0 (length at.frame) (and_parts (0 == length at.frame) true rest).0 in
-      absurd (omega (arith, none, some))
-  code_sound some (Steps (s ∷ ss)) h =
-      let rest = (and_parts (not (is_refuted at)) ((length (s ∷ ss) == length at.frame) && are_allowed_steps at [] (s ∷ ss)) h).1 in
-      let allowed = (and_parts (length (s ∷ ss) == length at.frame) (are_allowed_steps at [] (s ∷ ss)) rest).1 in
-      let parts = and_parts (is_allowed_step at [] s) (are_allowed_steps at ([] ++ entry_index s ∷ []) ss) allowed in
-      (first_sound s parts.0, joins_sound ([] ++ entry_index s ∷ []) ss parts.1)
+  full_is : (a : Access) → is_full a ≡ true → a ≡ Full
+  full_is Full h = refl
+  full_is (Index column) h = absurd (cc)
+  full_is (Range column bound) h = absurd (cc)
+
+  left_method : (i : ℕ) (on : BoundExpr) (m : Method) → length (conjuncts_of on) < 2 ^ 64 → is_left_method i on m ≡ true → IsMethod entries m × ((k : ℕ) → m ≡ Merge k → ⊥)
+  left_method i on Nested l h = (tt, λ k e. cc)
+  left_method i on (Hash k) l h = (let n = number_within (equates (range_with_len 0 i) i) (conjuncts_of on) k h in omega (arith, n, l), λ j e. cc)
+  left_method i on (Merge k) l h = absurd (cc)
+
+  left_sound : (i : ℕ) (on : BoundExpr) (s : CodeStep) → i < length at.frame → length (conjuncts_of on) < 2 ^ 64 → is_left_step i on s ≡ true → IsJoin entries (marked s)
+  left_sound i on s l few_members h =
+      let parts = and_parts (s.entry == suc i) (is_full s.access && is_left_method i on s.method) h in
+      let ways = and_parts (is_full s.access) (is_left_method i on s.method) parts.1 in
+      let own : suc i ≡ s.entry = sym (eqb-true s.entry (suc i) parts.0) in
+      let full = full_is s.access ways.0 in
+      let method = left_method i on s.method few_members ways.1 in
+      (λ is. record { full = full; no_merge = method.1 }, method.0, (subst (HasEntry entries) own (named i l), subst (λ a. IsAccess entries s.entry a) (sym full) tt))
+
+  lefts_sound : (i : ℕ) (ons : List BoundExpr) (ss : List CodeStep) → i + length ons ≤ length at.frame → AllByRecursion (λ on. length (conjuncts_of on) < 2 ^ 64) ons → are_left_steps i ons ss ≡ true → AreAll (IsJoin entries) (map marked ss)
+  lefts_sound i [] [] l few_members h = tt
+  lefts_sound i [] (s ∷ ss) l few_members h = absurd (cc)
+  lefts_sound i (on ∷ ons) [] l few_members h = absurd (cc)
+  lefts_sound i (on ∷ ons) (s ∷ ss) l few_members h =
+      let parts = and_parts (is_left_step i on s) (are_left_steps (suc i) ons ss) h in
+      (left_sound i on s (omega (arith, l)) few_members.0 parts.0, lefts_sound (suc i) ons ss (omega (arith, l)) few_members.1 parts.1)
+
+  all_and : (xs ys : List PlanStep) → AreAll (IsJoin entries) xs → AreAll (IsJoin entries) ys → AreAll (IsJoin entries) (xs ++ ys)
+  all_and [] ys h k = k
+  all_and (x ∷ xs) ys h k = (h.0, all_and xs ys h.1 k)
+
+  -- the first ones and those of left joins
+  whole_sound : (inner lefts : List CodeStep) → 0 < length inner → are_allowed_steps at [] inner ≡ true → AreAll (IsJoin entries) (map marked lefts) → IsCode entries (plan_texts.Steps (map marked inner ++ map marked lefts))
+  whole_sound [] lefts some h k = absurd (omega (arith, some))
+  whole_sound (s ∷ ss) lefts some h k =
+      let parts = and_parts (is_allowed_step at [] s) (are_allowed_steps at ([] ++ entry_index s ∷ []) ss) h in
+      (first_sound s parts.0, all_and (map marked ss) (map marked lefts) (joins_sound ([] ++ entry_index s ∷ []) ss parts.1) k)
+
+  pub code_sound : length at.lefts < length at.frame → AllByRecursion (λ on. length (conjuncts_of on) < 2 ^ 64) at.lefts → (code : Code) → is_admissible at code ≡ true → IsCode entries (marked_code (inner_count at) code)
+  code_sound among few_members Empty h = tt
+  code_sound among few_members (Steps ss) h =
+      let many = steps_many at ss h in
+      let are = steps_are at ss h in
+      let some : 0 < length (inner_steps at ss) = let t = length-take (inner_count at) ss in omega (arith, t, many, among) in
+      let lefts = lefts_sound (inner_count at) at.lefts (left_steps at ss) (omega (arith, among)) few_members are.1 in
+      subst (λ l. IsCode entries (plan_texts.Steps l)) (sym (map-append marked (inner_steps at ss) (left_steps at ss)) ∙ ap (map marked) (take-append-drop (inner_count at) ss))
+      (whole_sound (inner_steps at ss) (left_steps at ss) some are.0 lefts)

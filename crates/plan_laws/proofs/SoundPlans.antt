@@ -1,6 +1,7 @@
 -- The plan with an admissible code has a text, its filters are the planning list, and the checker accepts its trail.
-use Rattle.std.proofs.Common.{◌≡◌, ◌<◌, ◌≤◌, ◌^◌, ℕ, suc, true, List, [], ◌∷◌, ◌++◌, map, length, Option, Some, None, option_map, refl, sym, ap, subst, ◌∙◌, arith}
+use Rattle.std.proofs.Common.{◌≡◌, ◌<◌, ◌≤◌, ◌^◌, ℕ, suc, ◌+◌, ◌-◌, true, ◌&&◌, List, [], ◌∷◌, ◌++◌, map, filter, length, Option, Some, None, option_map, refl, sym, ap, ap₂, subst, ◌∙◌, arith}
 use Rattle.std.specs.List.{All, AllByRecursion, slice_get}
+use Rattle.std.proofs.lemmas.Bool.{eq-eqb}
 use Rattle.std.proofs.lemmas.List.{length-map}
 use Rattle.std.proofs.lemmas.List.Elements.{All-from_recursion}
 use Rattle.std.proofs.lemmas.Option.{slice_get_within}
@@ -10,19 +11,22 @@ use Rattle.expr.specs.Bound.{BoundExpr}
 use Rattle.expr.specs.BoundQuery.{BoundQuery}
 use Rattle.expr.specs.Codes.{Code}
 use Rattle.expr.specs.Columns.{columns}
-use Rattle.expr.specs.Conjuncts.{left_ons, movable_conjuncts}
+use Rattle.expr.specs.Conjuncts.{conjuncts_of, left_ons, movable_conjuncts}
+use Rattle.expr.specs.Movable.{movable}
 use Rattle.expr.specs.NamedColumns.{named_columns}
 use Rattle.expr.specs.declared.bound.ColumnId.{ColumnId}
-use Rattle.plan_laws.proofs.EachColumn.{of_conjuncts}
-use Rattle.plan_laws.proofs.Bare.{IsBare, columns_bare}
+use Rattle.plan_laws.proofs.EachColumn.{OfColumns, of_conjuncts, of_lefts}
+use Rattle.plan_laws.proofs.Bare.{IsBare, columns_bare, without_bare}
 use Rattle.scope.specs.Entry.{Entry}
 use Rattle.stats.specs.Card.{rows_at}
 use Rattle.stats.specs.Statistics.{Stats}
 use Rattle.algebra.specs.PlanningList.{planning_list}
 use Rattle.algebra.specs.Steps.{Step}
 use Rattle.plan_laws.proofs.PlannedEach.{planning_bare}
-use Rattle.row_terms.specs.Written.{written}
+use Rattle.predicates.specs.Offsets.{without_offsets as bare_offsets}
+use Rattle.row_terms.specs.Written.{left_conditions, written}
 use Rattle.trailcheck.specs.Admissible.{is_admissible, is_indexed}
+use Rattle.trailcheck.specs.Settings as settings
 use Rattle.trailcheck.specs.Settings.{Setting}
 use Rattle.trailcheck.specs.Verdicts.{verdict}
 use Rattle.trailcheck.specs.declared.verdict.Verdict.TheVariants.{Accepted}
@@ -40,13 +44,14 @@ use Rattle.plan_laws.proofs.WantedNamed.{last_is_wanted, wanted_named}
 use Rattle.expr_texts.specs.Trees.{without_offsets}
 use Rattle.plan_texts.specs.declared.plan.SortColumn.{SortColumn}
 use Rattle.plan_texts.specs.Plans.{Plan, PlanEntry}
-use Rattle.plan_texts.specs.Reading.{AreAll, HasColumn, HasEntry, IsCode, IsFilter, IsPlan, IsSort, IsSound, IsStep}
+use Rattle.plan_texts.specs.Reading.{AreAll, HasColumn, HasEntry, IsCode, IsFilter, IsPlan, IsSort, IsSound, IsStep, on_without_offsets, plan_without_offsets}
 use Rattle.bound_plans.specs.Entries.{plan_entries}
 use Rattle.bound_plans.specs.Filters.{are_filters}
+use Rattle.bound_plans.specs.LeftJoins.{MarksAreRight, are_conditions, are_marked, are_numbered, are_ons, inner_count, is_of_query, marked_code, named_ons, named_ons_from}
 use Rattle.bound_plans.specs.Found.{AreFound, ColumnsAreFound, IsColumn, NamesBindBack, Unmistakable}
 use Rattle.bound_plans.specs.Named.{named}
 use Rattle.plan_laws.proofs.OwnNames.{present}
-use Rattle.plan_laws.proofs.ReadBack.{filters_are}
+use Rattle.plan_laws.proofs.ReadBack.{filter_is, filters_are}
 use Rattle.plan_laws.proofs.SoundCode.{as_many_steps, code_sound}
 
 -- ---- the trail
@@ -62,10 +67,18 @@ steps_sound : (ss : List Step) → AreSmall ss → AreAll IsStep ss
 steps_sound [] h = tt
 steps_sound (s ∷ ss) h = (step_sound s h.0, steps_sound ss h.1)
 
+-- ---- the ONs
+
+numbers_are : (entries : List Entry) (number : ℕ) (cs : List BoundExpr) → are_numbered number (map on_without_offsets (named_ons_from entries number cs)) ≡ true
+numbers_are entries number [] = refl
+numbers_are entries number (c ∷ cs) = ap₂ ◌&&◌ (eq-eqb number number refl) (numbers_are entries (suc number) cs)
+
 -- ---- what the plans of a query are made from
 
 pub record Facts (entries : List Entry) (q : BoundQuery) (at : Setting) : Type 0 where
-  pub inner : left_ons q ≡ []
+  pub lefts : at.lefts ≡ left_conditions q
+  pub among : length at.lefts < length at.frame
+  pub few_members : AllByRecursion (λ on. length (conjuncts_of on) < 2 ^ 64) at.lefts
   pub listed : at.conditions ≡ planning_list q
   pub each : length at.frame ≡ length entries
   pub some : 0 < length entries
@@ -97,15 +110,39 @@ module _ (entries : List Entry) (q : BoundQuery) (at : Setting) (facts : Facts e
   found_each found [] h = tt
   found_each found (c ∷ cs) h = (found entries c facts.differ (All-from_recursion (IsColumn entries) (columns c) (columns_bare (IsColumn entries) c h.0)), found_each found cs h.1)
 
-  -- the filters that are read are the conditions
-  pub filters_right : NamesBindBack → ColumnsAreFound → are_filters entries (map without_offsets (map (named entries) at.conditions)) at.conditions ≡ true
-  filters_right back found = filters_are entries (IsColumn entries) back at.conditions (found_each found at.conditions bare) bare
+  lefts_bare : AllByRecursion (IsBare (IsColumn entries)) at.lefts
+  lefts_bare = subst (λ cs. AllByRecursion (IsBare (IsColumn entries)) cs) (sym facts.lefts) (bare_each (filter movable (left_ons q)) (of_lefts (IsColumn entries) q facts.query))
+    where
+      bare_each : (es : List BoundExpr) → AllByRecursion (OfColumns (IsColumn entries)) es → AllByRecursion (IsBare (IsColumn entries)) (map bare_offsets es)
+      bare_each [] h = tt
+      bare_each (e ∷ es) h = (without_bare (IsColumn entries) e h.0, bare_each es h.1)
+
+  -- the entries before the left joined ones
+  abbrev pub inner : ℕ
+  inner = inner_count entries at.lefts
+
+  as_many_inner : inner_count entries at.lefts ≡ settings.inner_count at
+  as_many_inner = ap (λ n. n - length at.lefts) (sym facts.each)
+
+  ons_right : NamesBindBack → ColumnsAreFound → are_ons entries (map on_without_offsets (named_ons entries at.lefts)) at.lefts ≡ true
+  ons_right back found = ap₂ ◌&&◌ (numbers_are entries (suc inner) at.lefts) (conditions_are (suc inner) at.lefts (found_each found at.lefts lefts_bare) lefts_bare)
+    where
+      conditions_are : (number : ℕ) (cs : List BoundExpr) → AllByRecursion (AreFound entries) cs → AllByRecursion (IsBare (IsColumn entries)) cs → are_conditions entries (map on_without_offsets (named_ons_from entries number cs)) cs ≡ true
+      conditions_are number [] h k = refl
+      conditions_are number (c ∷ cs) h k = ap₂ ◌&&◌ (filter_is entries (IsColumn entries) back c h.0 k.0) (conditions_are (suc number) cs h.1 k.1)
+
+  -- what is read of filters, ONs and words is that of the query
+  pub is_right : NamesBindBack → ColumnsAreFound → MarksAreRight → (p : Plan) (code : Code) → p.filters ≡ map (named entries) at.conditions → p.ons ≡ named_ons entries at.lefts → p.code ≡ marked_code inner code → is_of_query entries at.conditions at.lefts (plan_without_offsets p) ≡ true
+  is_right back found marks p code of_filters of_ons of_code =
+      ap₂ ◌&&◌
+      (ap (λ fs. are_filters entries (map without_offsets fs) at.conditions) of_filters ∙ filters_are entries (IsColumn entries) back at.conditions (found_each found at.conditions bare) bare)
+      (ap₂ ◌&&◌ (ap (λ os. are_ons entries (map on_without_offsets os) at.lefts) of_ons ∙ ons_right back found) (ap (are_marked inner) of_code ∙ (marks inner code).0))
 
   -- ---- the verdict
 
   pub trail_accepted : PlansAreAccepted → (code : Code) → is_admissible at code ≡ true → verdict at (written (length entries) q) (simplifying q ++ placing at code) code ≡ Accepted
   trail_accepted accept code admissible =
-      ap (λ n. verdict at (written n q) (simplifying q ++ placing at code) code) (sym facts.each) ∙ accept at q code facts.inner facts.listed few_entries facts.few_conjuncts admissible
+      ap (λ n. verdict at (written n q) (simplifying q ++ placing at code) code) (sym facts.each) ∙ accept at q code facts.lefts (let a = facts.among in omega (arith, a)) facts.listed few_entries facts.few_conjuncts admissible
 
   -- ---- the plan
 
@@ -135,35 +172,49 @@ module _ (entries : List Entry) (q : BoundQuery) (at : Setting) (facts : Facts e
       plan_with code = record {
         cost = cost (estimates problem_with) code;
         filters = map (named entries) at.conditions;
-        code = code;
+        ons = named_ons entries at.lefts;
+        code = marked_code inner code;
         sort = option_map numbered (last_sort problem_with code);
         trail = simplifying q ++ placing at code;
       }
 
       module _ (code : Code) (admissible : is_admissible at code ≡ true) where
-        code_is : IsCode pes code
+        code_is : IsCode pes (marked_code inner code)
         code_is =
-            code_sound at pes (let f = few_conditions in omega (arith, f))
+            subst (λ n. IsCode pes (marked_code n code)) (sym as_many_inner)
+            (code_sound at pes (let f = few_conditions in omega (arith, f))
             (λ i l. let n = facts.each in let it = present entries i (omega (arith, n, l)) in facts.named i it.0 it.1)
             (λ i column l h. let n = facts.each in let it = present entries i (omega (arith, n, l)) in facts.indexed i it.0 it.1 column h)
-            (let n = facts.each in let s = facts.some in omega (arith, n, s)) code admissible
+            facts.among facts.few_members code admissible)
+
+        ons_named : (i : ℕ) (cs : List BoundExpr) → i + length cs ≤ length entries → AreAll (λ o. HasEntry pes o.entry) (named_ons_from entries (suc i) cs)
+        ons_named i [] l = tt
+        ons_named i (c ∷ cs) l = ((let it = present entries i (omega (arith, l)) in facts.named i it.0 it.1), ons_named (suc i) cs (omega (arith, l)))
 
         sound : IsSound pes (plan_with code)
         sound = record {
           cost = cost_small (estimates problem_with) few_rows code (λ ss e. let n = as_many_steps at code admissible ss e in let f = few_entries in omega (arith, n, f));
+          lefts = ons_named inner at.lefts (let a = facts.among in let n = facts.each in omega (arith, a, n));
           code = code_is;
           sort = sort_sound (last_sort problem_with code) (λ id e. wanted_named (IsColumn entries) q id (last_is_wanted problem_with code id e) facts.query);
           trail = steps_sound (simplifying q ++ placing at code) (trail_small at q code);
         }
 
         -- where each condition has a text
-        pub plan_is : AreAll (IsFilter pes) (map (named entries) at.conditions) → IsPlan pes (plan_with code)
-        plan_is filters = record { sound = sound; filters = filters; few = let n = length-map at.conditions (named entries) in let f = few_conditions in omega (arith, n, f) }
+        pub plan_is : AreAll (IsFilter pes) (map (named entries) at.conditions) → AreAll (λ o. IsFilter pes o.condition) (named_ons entries at.lefts) → IsPlan pes (plan_with code)
+        plan_is filters ons = record { sound = sound; filters = filters; ons = ons; few = let n = length-map at.conditions (named entries) in let f = few_conditions in omega (arith, n, f) }
 
   module _ (IsSaid : BoundExpr → Type 0) (said_filter : (c : BoundExpr) → All (IsColumn entries) (columns c) → IsSaid c → IsFilter pes (named entries c)) where
     filters_from : (cs : List BoundExpr) → AllByRecursion (IsBare (IsColumn entries)) cs → AllByRecursion IsSaid cs → AreAll (IsFilter pes) (map (named entries) cs)
     filters_from [] h k = tt
     filters_from (c ∷ cs) h k = (said_filter c (All-from_recursion (IsColumn entries) (columns c) (columns_bare (IsColumn entries) c h.0)) k.0, filters_from cs h.1 k.1)
+
+    ons_from : (number : ℕ) (cs : List BoundExpr) → AllByRecursion (IsBare (IsColumn entries)) cs → AllByRecursion IsSaid cs → AreAll (λ o. IsFilter pes o.condition) (named_ons_from entries number cs)
+    ons_from number [] h k = tt
+    ons_from number (c ∷ cs) h k = (said_filter c (All-from_recursion (IsColumn entries) (columns c) (columns_bare (IsColumn entries) c h.0)) k.0, ons_from (suc number) cs h.1 k.1)
+
+    pub ons_each : AllByRecursion IsSaid at.lefts → AreAll (λ o. IsFilter pes o.condition) (named_ons entries at.lefts)
+    ons_each said = ons_from (suc inner) at.lefts lefts_bare said
 
     pub filters_each : AllByRecursion IsSaid at.conditions → AreAll (IsFilter pes) (map (named entries) at.conditions)
     filters_each said = filters_from at.conditions bare said

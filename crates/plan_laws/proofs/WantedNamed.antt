@@ -11,6 +11,7 @@ use Rattle.expr.specs.NamedColumns.{condition_columns, item_columns, named_colum
 use Rattle.plan_laws.proofs.EachColumn.{left_of, right_of}
 use Rattle.joindp.specs.Best.{Problem}
 use Rattle.joins.specs.Orders.{Order, is_ordered_by, steps_order}
+use Rattle.trailcheck.specs.Shapes.{inner_steps}
 use Rattle.planning.specs.LastSort.{last_sort, unless_ordered}
 use Rattle.planning.specs.Wanted.{first_column_or, first_key_column, item_column, plain_column, wanted_column}
 
@@ -24,7 +25,7 @@ unless_wanted order (Some w) id h = go (is_ordered_by order w) h
 
 pub last_is_wanted : (p : Problem) (code : Code) (id : ColumnId) → last_sort p code ≡ Some id → p.wanted ≡ Some id
 last_is_wanted p Empty id h = absurd (cc)
-last_is_wanted p (Steps ss) id h = unless_wanted (steps_order p.setting.conditions ss) p.wanted id h
+last_is_wanted p (Steps ss) id h = unless_wanted (steps_order p.setting.conditions (inner_steps p.setting ss)) p.wanted id h
 
 module _ (Q : ColumnId → Type 0) where
   of_item : (items : List BoundItem) (k : ℕ) (i : BoundItem) → AllByRecursion Q (flat_map item_columns items) → slice_get items k ≡ Some i → AllByRecursion Q (columns i.value)

@@ -5,6 +5,7 @@ use Rattle.std.specs.Str.{IsUtf8}
 use Rattle.value.specs.Names.{Name}
 use Rattle.expr.specs.BoundQuery.{BoundQuery}
 use Rattle.expr.specs.Conjuncts.{movable_conjuncts}
+use Rattle.row_terms.specs.Written.{left_conditions}
 use Rattle.algebra.specs.PlanningList.{planning_list}
 use Rattle.scope.specs.Entry.{Entry}
 use Rattle.catalog.specs.Catalog.{Catalog}
@@ -21,3 +22,7 @@ PlanningListsAreSaid = (entries : List Entry) (q : BoundQuery) → All (IsSaid e
 -- the movable conjuncts of an admitted query have one
 abbrev pub AdmittedAreSaid : Type 0
 AdmittedAreSaid = (cat : Catalog) (role : Name) (text : List ℕ) (b : Bound) → IsWellFormed cat → AreNames cat → IsUtf8 text → admitted cat role text ≡ Ok b → All (IsSaid b.entries) (movable_conjuncts b.query)
+
+-- so do the ONs of its left joined entries
+abbrev pub AdmittedLeftsAreSaid : Type 0
+AdmittedLeftsAreSaid = (cat : Catalog) (role : Name) (text : List ℕ) (b : Bound) → IsWellFormed cat → AreNames cat → IsUtf8 text → admitted cat role text ≡ Ok b → All (IsSaid b.entries) (left_conditions b.query)

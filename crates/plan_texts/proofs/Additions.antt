@@ -4,12 +4,11 @@ use Rattle.std.specs.Prelude.{map}
 use Rattle.std.proofs.lemmas.Bool.{eq-eqb, eqb-true, ne_eqb}
 use Rattle.std.proofs.lemmas.List.{length-map}
 use Rattle.row_ast.specs.Ast.{Expr}
-use Rattle.expr.specs.Codes.{Code}
 use Rattle.plan_texts.specs.declared.line.Line as lines
 use Rattle.plan_texts.specs.declared.line.Line.TheVariants as line
 use Rattle.plan_texts.specs.declared.plan.SortColumn.{SortColumn}
-use Rattle.plan_texts.specs.Plans.{Plan}
-use Rattle.plan_texts.specs.Reading.{Draft, Costed, Coded, Sorted, Whole, with_line, plan_in}
+use Rattle.plan_texts.specs.Plans.{OnCondition, PlanCode, Plan}
+use Rattle.plan_texts.specs.Reading.{Draft, Costed, Coded, Sorted, Whole, after_filters, with_line, plan_in}
 use Rattle.plan_texts.specs.View.{line_of}
 
 -- the filter has the number that comes next, or not
@@ -22,12 +21,27 @@ not_next f number xs d e = rw (ne_eqb number (length (map f xs) + 1) (λ h. let 
 -- ---- lines that may not stand there
 
 module _ {A : Type 0} (l : lines.Line A) where
-  pub other_costed : (n : ℕ) (es : List Expr) → ((k : _) (f : _) → l ≡ line.Filter k f → ⊥) → (l ≡ line.Empty → ⊥) → ((s : _) → l ≡ line.First s → ⊥) → None ≡ with_line (Costed n es) (line_of l)
-  other_costed n es no_filter no_empty no_first = go l refl
+  pub not_filter : (n : ℕ) (es : List Expr) → ((k : _) (f : _) → l ≡ line.Filter k f → ⊥) → after_filters n es [] (line_of l) ≡ with_line (Costed n es) (line_of l)
+  not_filter n es no_filter = go l refl
     where
-      go : (m : lines.Line A) → l ≡ m → None ≡ with_line (Costed n es) (line_of m)
+      go : (m : lines.Line A) → l ≡ m → after_filters n es [] (line_of m) ≡ with_line (Costed n es) (line_of m)
       go (line.Cost k) e = refl
       go (line.Filter k f) e = absurd (no_filter k f e)
+      go (line.On k f) e = refl
+      go line.Empty e = refl
+      go (line.First s) e = refl
+      go (line.Join s) e = refl
+      go (line.Sort c) e = refl
+      go line.Trail e = refl
+      go (line.Step s) e = refl
+
+  pub other_conditioned : (n : ℕ) (es : List Expr) (os : List OnCondition) → ((k : _) (f : _) → l ≡ line.On k f → ⊥) → (l ≡ line.Empty → ⊥) → ((s : _) → l ≡ line.First s → ⊥) → None ≡ after_filters n es os (line_of l)
+  other_conditioned n es os no_on no_empty no_first = go l refl
+    where
+      go : (m : lines.Line A) → l ≡ m → None ≡ after_filters n es os (line_of m)
+      go (line.Cost k) e = refl
+      go (line.Filter k f) e = refl
+      go (line.On k f) e = absurd (no_on k f e)
       go line.Empty e = absurd (no_empty e)
       go (line.First s) e = absurd (no_first s e)
       go (line.Join s) e = refl
@@ -35,12 +49,13 @@ module _ {A : Type 0} (l : lines.Line A) where
       go line.Trail e = refl
       go (line.Step s) e = refl
 
-  pub other_coded : (n : ℕ) (es : List Expr) (code : Code) → ((s : _) → l ≡ line.Join s → ⊥) → ((c : _) → l ≡ line.Sort c → ⊥) → (l ≡ line.Trail → ⊥) → None ≡ with_line (Coded n es code) (line_of l)
-  other_coded n es code no_join no_sort no_trail = go l refl
+  pub other_coded : (n : ℕ) (es : List Expr) (os : List OnCondition) (code : PlanCode) → ((s : _) → l ≡ line.Join s → ⊥) → ((c : _) → l ≡ line.Sort c → ⊥) → (l ≡ line.Trail → ⊥) → None ≡ with_line (Coded n es os code) (line_of l)
+  other_coded n es os code no_join no_sort no_trail = go l refl
     where
-      go : (m : lines.Line A) → l ≡ m → None ≡ with_line (Coded n es code) (line_of m)
+      go : (m : lines.Line A) → l ≡ m → None ≡ with_line (Coded n es os code) (line_of m)
       go (line.Cost k) e = refl
       go (line.Filter k f) e = refl
+      go (line.On k f) e = refl
       go line.Empty e = refl
       go (line.First s) e = refl
       go (line.Join s) e = absurd (no_join s e)
@@ -48,12 +63,13 @@ module _ {A : Type 0} (l : lines.Line A) where
       go line.Trail e = absurd (no_trail e)
       go (line.Step s) e = refl
 
-  pub other_sorted : (n : ℕ) (es : List Expr) (code : Code) (c : SortColumn) → (l ≡ line.Trail → ⊥) → None ≡ with_line (Sorted n es code c) (line_of l)
-  other_sorted n es code c no_trail = go l refl
+  pub other_sorted : (n : ℕ) (es : List Expr) (os : List OnCondition) (code : PlanCode) (c : SortColumn) → (l ≡ line.Trail → ⊥) → None ≡ with_line (Sorted n es os code c) (line_of l)
+  other_sorted n es os code c no_trail = go l refl
     where
-      go : (m : lines.Line A) → l ≡ m → None ≡ with_line (Sorted n es code c) (line_of m)
+      go : (m : lines.Line A) → l ≡ m → None ≡ with_line (Sorted n es os code c) (line_of m)
       go (line.Cost k) e = refl
       go (line.Filter k f) e = refl
+      go (line.On k f) e = refl
       go line.Empty e = refl
       go (line.First s) e = refl
       go (line.Join s) e = refl
@@ -67,6 +83,7 @@ module _ {A : Type 0} (l : lines.Line A) where
       go : (m : lines.Line A) → l ≡ m → None ≡ with_line (Whole p) (line_of m)
       go (line.Cost k) e = refl
       go (line.Filter k f) e = refl
+      go (line.On k f) e = refl
       go line.Empty e = refl
       go (line.First s) e = refl
       go (line.Join s) e = refl

@@ -2,32 +2,40 @@
 use Rattle.std.proofs.Common.{◌≡◌, ◌∙◌, ◌<◌, ◌≤◌, ◌+◌, ◌++◌, ℕ, zero, suc, refl, sym, ap, List, [], ◌∷◌, length, take, Option, Some, None, Ok, Err, arith}
 use Rattle.std.specs.Prelude.{codes, option_and_then}
 use Rattle.std.specs.Fmt.{decimal}
-use Rattle.expr.specs.Codes.{Empty}
 use Rattle.plan_texts.specs.Lines.{lines_of}
-use Rattle.plan_texts.specs.Plans.{Plan, PlanEntry}
-use Rattle.plan_texts.specs.Reading.{Draft, Begun, Costed, Coded, Sorted, Whole, CostLine, TrailLine, line_at, or_stops, plan_in, read_lines, with_line}
+use Rattle.plan_texts.specs.Plans.{Empty, Plan, PlanEntry}
+use Rattle.plan_texts.specs.Reading.{Draft, Begun, Costed, Conditioned, Coded, Sorted, Whole, CostLine, EmptyLine, TrailLine, line_at, or_stops, plan_in, read_lines, with_line}
 use Rattle.plan_texts.specs.UnreadableLines.{UnreadableIsFirst}
 use Rattle.plan_texts.proofs.LinesBack.{cost_back}
 use Rattle.plan_texts.proofs.PlansBack.{Goes, begun, both, code_goes, one, stays, trail_goes}
-use Rattle.plan_texts.proofs.Quiet.{both_quiet, cost_quiet, decimal_quiet, trail_quiet}
+use Rattle.plan_texts.proofs.Quiet.{both_quiet, cost_quiet, decimal_quiet, empty_quiet, trail_quiet}
 
 module _ (entries : List PlanEntry) where
   -- the lines that make a draft whole
   whole_from : (d : Draft) → (lines : List (List ℕ)) × (p : Plan) × Goes entries d lines (Whole p)
   whole_from (Whole p) = ([], p, stays entries (Whole p))
-  whole_from (Sorted n es code c) = (codes "trail" ∷ [], begun entries n es code (Some c) [], one entries (Sorted n es code c) (Whole (begun entries n es code (Some c) [])) (codes "trail") TrailLine trail_quiet refl refl)
-  whole_from (Coded n es code) = (codes "trail" ∷ [], begun entries n es code None [], trail_goes entries n es code None tt)
+  whole_from (Sorted n es os code c) = (
+    codes "trail" ∷ [],
+    begun entries n es os code (Some c) [],
+    one entries (Sorted n es os code c) (Whole (begun entries n es os code (Some c) [])) (codes "trail") TrailLine trail_quiet refl refl,
+  )
+  whole_from (Coded n es os code) = (codes "trail" ∷ [], begun entries n es os code None [], trail_goes entries n es os code None tt)
+  whole_from (Conditioned n es os) = (
+    codes "empty" ∷ codes "trail" ∷ [],
+    begun entries n es os Empty None [],
+    both entries (Conditioned n es os) (Coded n es os Empty) (Whole (begun entries n es os Empty None [])) (codes "empty" ∷ []) (codes "trail" ∷ []) (one entries (Conditioned n es os) (Coded n es os Empty) (codes "empty") EmptyLine empty_quiet refl refl) (trail_goes entries n es os Empty None tt),
+  )
   whole_from (Costed n es) = (
     codes "empty" ∷ codes "trail" ∷ [],
-    begun entries n es Empty None [],
-    both entries (Costed n es) (Coded n es Empty) (Whole (begun entries n es Empty None [])) (codes "empty" ∷ []) (codes "trail" ∷ []) (code_goes entries n es Empty tt) (trail_goes entries n es Empty None tt),
+    begun entries n es [] Empty None [],
+    both entries (Costed n es) (Coded n es [] Empty) (Whole (begun entries n es [] Empty None [])) (codes "empty" ∷ []) (codes "trail" ∷ []) (code_goes entries n es [] Empty tt) (trail_goes entries n es [] Empty None tt),
   )
   whole_from Begun = (
     (codes "cost " ++ decimal 0) ∷ codes "empty" ∷ codes "trail" ∷ [],
-    begun entries 0 [] Empty None [],
-    both entries Begun (Costed 0 []) (Whole (begun entries 0 [] Empty None [])) ((codes "cost " ++ decimal 0) ∷ []) (codes "empty" ∷ codes "trail" ∷ [])
+    begun entries 0 [] [] Empty None [],
+    both entries Begun (Costed 0 []) (Whole (begun entries 0 [] [] Empty None [])) ((codes "cost " ++ decimal 0) ∷ []) (codes "empty" ∷ codes "trail" ∷ [])
         (one entries Begun (Costed 0 []) (codes "cost " ++ decimal 0) (CostLine 0) (both_quiet (codes "cost ") (decimal 0) cost_quiet (decimal_quiet 0 (omega arith))) (cost_back entries 0 (omega arith)) refl)
-        (both entries (Costed 0 []) (Coded 0 [] Empty) (Whole (begun entries 0 [] Empty None [])) (codes "empty" ∷ []) (codes "trail" ∷ []) (code_goes entries 0 [] Empty tt) (trail_goes entries 0 [] Empty None tt)),
+        (both entries (Costed 0 []) (Coded 0 [] [] Empty) (Whole (begun entries 0 [] [] Empty None [])) (codes "empty" ∷ []) (codes "trail" ∷ []) (code_goes entries 0 [] [] Empty tt) (trail_goes entries 0 [] [] Empty None tt)),
   )
 
   -- a plan's lines go on from a draft with these
@@ -52,8 +60,9 @@ module _ (entries : List PlanEntry) where
   missing number (Whole p) (b ∷ bs) line e = cc
   missing number Begun rest line e = cc
   missing number (Costed n es) rest line e = cc
-  missing number (Coded n es code) rest line e = cc
-  missing number (Sorted n es code c) rest line e = cc
+  missing number (Conditioned n es os) rest line e = cc
+  missing number (Coded n es os code) rest line e = cc
+  missing number (Sorted n es os code c) rest line e = cc
 
   first_from : (number : ℕ) (d : Draft) (lines : List (List ℕ)) (rest : List ℕ) (line : ℕ) → read_lines entries number d lines rest ≡ Err line → HasFirst number d lines line
   first_from number d [] rest line e = (

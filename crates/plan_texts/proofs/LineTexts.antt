@@ -20,12 +20,13 @@ use Rattle.expr.specs.declared.code.Method.{Method}
 use Rattle.expr.specs.declared.code.Method.TheVariants.{Nested, Hash, Merge}
 use Rattle.row_terms.specs.declared.path.Branch.{Branch}
 use Rattle.algebra.specs.Steps.{Step}
+use Rattle.plan_texts.specs.declared.plan.PlanStep.{PlanStep}
 use Rattle.plan_texts.specs.declared.plan.SortColumn.{SortColumn}
-use Rattle.plan_texts.specs.Plans.{PlanEntry}
+use Rattle.plan_texts.specs.Plans.{PlanEntry, OnCondition}
 use Rattle.plan_texts.specs.Columns.{all_columns}
 use Rattle.plan_texts.specs.PlanTexts.{item_at, or_nothing, alias_of, column_of, alias, column_name, access_text, scan_text, method_text, branch_digit, path_text, argument_text, step_text}
 use Rattle.value.specs.Numbers.{number_below, number_at}
-use Rattle.plan_texts.specs.Reading.{numbered_from, number_of, Line, CostLine, FilterLine, EmptyLine, FirstLine, JoinLine, SortLine, TrailLine, StepLine, parts, cut, is_branch, branch_of, branches_of, path_at, arguments_at, last_minus, but_last, rule_at, step_at, entry_at, columns_from, columns_at, column_at, is_found, filter_line, filter_at, access_at, scan_at, join_at, by_conjunct, sort_column_at, cost_at, sort_at, other_line, after_word, content_at, IsTextOfLine, LinesAreTexts}
+use Rattle.plan_texts.specs.Reading.{numbered_from, number_of, Line, CostLine, FilterLine, OnLine, EmptyLine, FirstLine, JoinLine, SortLine, TrailLine, StepLine, is_full, inner_line, left_line, on_line, on_at, left_step, parts, cut, is_branch, branch_of, branches_of, path_at, arguments_at, last_minus, but_last, rule_at, step_at, entry_at, columns_from, columns_at, column_at, is_found, filter_line, filter_at, access_at, scan_at, by_conjunct, sort_column_at, cost_at, sort_at, other_line, after_word, content_at, IsTextOfLine, LinesAreTexts}
 use Rattle.plan_texts.proofs.LinesBack.{sign_of}
 
 -- a test that led to a value
@@ -144,21 +145,40 @@ module _ (entries : List PlanEntry) where
   after_own w method [] s e = cc
   after_own w method (p ∷ ps) s e = joined_with w p ps ∙ ap (λ v. w ++ codes " " ++ v) (scan_own method (p ∷ ps) s e).0
 
-  join_own : (method : Method) (w : List ℕ) (ps : List (List ℕ)) (x : Line) → join_at entries method ps ≡ Some x → method_text method ≡ w ++ codes " " → IsTextOfLine entries x (joined (w ∷ ps))
-  join_own method w ps x e t =
-      let m = mapped (λ s. JoinLine s) (scan_at entries method ps) x e in
-      subst (λ y. IsTextOfLine entries y (joined (w ∷ ps))) (sym m.2)
-      (after_own w method ps m.0 m.1 ∙ ap (λ v. v ++ scan_text entries m.0) (sym t) ∙ ap (λ v. method_text v ++ scan_text entries m.0) (sym (scan_own method ps m.0 m.1).1))
+  -- the words of a join
+  abbrev step_words : CodeStep → List ℕ
+  step_words s = method_text s.method ++ scan_text entries s
 
-  by_own : (method : ℕ → Method) (w : List ℕ) (ps : List (List ℕ)) (x : Line) → by_conjunct entries method ps ≡ Some x → ((k : ℕ) → method_text (method k) ≡ w ++ codes " " ++ decimal k ++ codes " ") → IsTextOfLine entries x (joined (w ∷ ps))
-  by_own method w [] x e t = cc
-  by_own method w (k ∷ ps) x e t =
-      let m = chained (λ n. join_at entries (method n) ps) (number_at k) x e in
-      let n = mapped (λ s. JoinLine s) (scan_at entries (method m.0) ps) x m.2 in
-      subst (λ y. IsTextOfLine entries y (joined (w ∷ k ∷ ps))) (sym n.2)
-      (joined_with w k ps ∙ ap (λ v. w ++ codes " " ++ v) (after_own k (method m.0) ps n.0 n.1 ∙ ap (λ v. v ++ codes " " ++ scan_text entries n.0) (number_own (2 ^ 64) k m.0 m.1).0)
-      ∙ sym (append_assoc (w ++ codes " ") (decimal m.0 ++ codes " ") (scan_text entries n.0)) ∙ ap (λ v. v ++ scan_text entries n.0) (sym (append_assoc (w ++ codes " ") (decimal m.0) (codes " ")) ∙ sym (t m.0))
-      ∙ ap (λ v. method_text v ++ scan_text entries n.0) (sym (scan_own (method m.0) ps n.0 n.1).1))
+  nested_own : (ps : List (List ℕ)) (s : CodeStep) → scan_at entries Nested ps ≡ Some s → joined (codes "nested" ∷ ps) ≡ step_words s
+  nested_own ps s e = after_own (codes "nested") Nested ps s e ∙ ap (λ m. method_text m ++ scan_text entries s) (sym (scan_own Nested ps s e).1)
+
+  by_own : (method : ℕ → Method) (w : List ℕ) (ps : List (List ℕ)) (s : CodeStep) → by_conjunct entries method ps ≡ Some s → ((k : ℕ) → method_text (method k) ≡ w ++ codes " " ++ decimal k ++ codes " ") → joined (w ∷ ps) ≡ step_words s
+  by_own method w [] s e t = cc
+  by_own method w (k ∷ ps) s e t =
+      let m = chained (λ n. scan_at entries (method n) ps) (number_at k) s e in
+      joined_with w k ps ∙ ap (λ v. w ++ codes " " ++ v) (after_own k (method m.0) ps s m.2 ∙ ap (λ v. v ++ codes " " ++ scan_text entries s) (number_own (2 ^ 64) k m.0 m.1).0)
+      ∙ sym (append_assoc (w ++ codes " ") (decimal m.0 ++ codes " ") (scan_text entries s)) ∙ ap (λ v. v ++ scan_text entries s) (sym (append_assoc (w ++ codes " ") (decimal m.0) (codes " ")) ∙ sym (t m.0))
+      ∙ ap (λ v. method_text v ++ scan_text entries s) (sym (scan_own (method m.0) ps s m.2).1)
+
+  -- the line of a join that is no left join
+  inner_own : (o : Option CodeStep) (l : List ℕ) (x : Line) → option_map inner_line o ≡ Some x → ((s : CodeStep) → o ≡ Some s → l ≡ step_words s) → IsTextOfLine entries x l
+  inner_own o l x e words = let m = mapped inner_line o x e in subst (λ y. IsTextOfLine entries y l) (sym m.2) (words m.0 m.1)
+
+  left_words : (ps : List (List ℕ)) (s : CodeStep) → left_step entries ps ≡ Some s → joined (codes "left" ∷ ps) ≡ codes "left " ++ step_words s
+  left_words [] s e = cc
+  left_words (w ∷ more) s e =
+      elim (chosen (bytes_eq w (codes "nested")) (scan_at entries Nested more) _ s e) [
+        | inl h ↦ joined_with (codes "left") w more ∙ ap (λ v. codes "left " ++ joined (v ∷ more)) (same w (codes "nested") h.0) ∙ ap (λ v. codes "left " ++ v) (nested_own more s h.1)
+        | inr k ↦ (let h = where_true (bytes_eq w (codes "hash")) (by_conjunct entries (λ n. Hash n) more) s k in
+            joined_with (codes "left") w more ∙ ap (λ v. codes "left " ++ joined (v ∷ more)) (same w (codes "hash") h.0) ∙ ap (λ v. codes "left " ++ v) (by_own (λ n. Hash n) (codes "hash") more s h.1 (λ n. refl)))
+      ]
+
+  left_own : (ps : List (List ℕ)) (x : Line) → option_and_then left_line (left_step entries ps) ≡ Some x → IsTextOfLine entries x (joined (codes "left" ∷ ps))
+  left_own ps x e =
+      let m = chained left_line (left_step entries ps) x e in
+      let h = where_true (is_full m.0.access) (Some (JoinLine (record { step = m.0; is_left = true }))) x m.2 in
+      let is : JoinLine (record { step = m.0; is_left = true }) ≡ x = cc (h.1) in
+      subst (λ y. IsTextOfLine entries y (joined (codes "left" ∷ ps))) is (left_words ps m.0 m.1)
 
   sort_own : (name : List ℕ) (c : SortColumn) → sort_column_at entries (slice_split (λ b. b == 46) name) ≡ Some c → codes "sort " ++ name ≡ codes "sort " ++ alias entries c.entry ++ codes "." ++ column_name entries c.entry c.column
   sort_own name x e = go (slice_split (λ b. b == 46) name) e (join_with_byte-slice_split 46 name)
@@ -242,7 +262,7 @@ cut_own (b ∷ bs) p e =
     ]
 
 module _ (entries : List PlanEntry) where
-  -- words that are read otherwise than as a filter
+  -- words that are read otherwise than as a filter or an ON
   other_own : (ps : List (List ℕ)) (x : Line) → other_line entries ps ≡ Some x → IsTextOfLine entries x (joined ps)
   other_own [] x e = cc
   other_own (w ∷ more) x e =
@@ -250,15 +270,18 @@ module _ (entries : List PlanEntry) where
         | inl h ↦ subst (λ v. IsTextOfLine entries x (joined (v ∷ more))) (sym (same w (codes "cost") h.0)) (costs more h.1)
         | inr e1 ↦ elim (chosen (bytes_eq w (codes "first")) (option_map FirstLine (scan_at entries Nested more)) _ x e1) [
           | inl h ↦ subst (λ v. IsTextOfLine entries x (joined (v ∷ more))) (sym (same w (codes "first") h.0)) (firsts h.1)
-          | inr e2 ↦ elim (chosen (bytes_eq w (codes "nested")) (join_at entries Nested more) _ x e2) [
-            | inl h ↦ subst (λ v. IsTextOfLine entries x (joined (v ∷ more))) (sym (same w (codes "nested") h.0)) (join_own entries Nested (codes "nested") more x h.1 refl)
-            | inr e3 ↦ elim (chosen (bytes_eq w (codes "hash")) (by_conjunct entries (λ n. Hash n) more) _ x e3) [
-              | inl h ↦ subst (λ v. IsTextOfLine entries x (joined (v ∷ more))) (sym (same w (codes "hash") h.0)) (by_own entries (λ n. Hash n) (codes "hash") more x h.1 (λ k. refl))
-              | inr e4 ↦ elim (chosen (bytes_eq w (codes "merge")) (by_conjunct entries (λ n. Merge n) more) _ x e4) [
-                | inl h ↦ subst (λ v. IsTextOfLine entries x (joined (v ∷ more))) (sym (same w (codes "merge") h.0)) (by_own entries (λ n. Merge n) (codes "merge") more x h.1 (λ k. refl))
-                | inr e5 ↦ elim (chosen (bytes_eq w (codes "sort")) (sort_at entries more) _ x e5) [
-                  | inl h ↦ subst (λ v. IsTextOfLine entries x (joined (v ∷ more))) (sym (same w (codes "sort") h.0)) (sorts more h.1)
-                  | inr e6 ↦ (let m = mapped (λ s. StepLine s) (step_at (w ∷ more)) x e6 in subst (λ y. IsTextOfLine entries y (joined (w ∷ more))) (sym m.2) (step_own (w ∷ more) m.0 m.1))
+          | inr e2 ↦ elim (chosen (bytes_eq w (codes "nested")) (option_map inner_line (scan_at entries Nested more)) _ x e2) [
+            | inl h ↦ subst (λ v. IsTextOfLine entries x (joined (v ∷ more))) (sym (same w (codes "nested") h.0)) (inner_own entries (scan_at entries Nested more) (joined (codes "nested" ∷ more)) x h.1 (nested_own entries more))
+            | inr e3 ↦ elim (chosen (bytes_eq w (codes "hash")) (option_map inner_line (by_conjunct entries (λ n. Hash n) more)) _ x e3) [
+              | inl h ↦ subst (λ v. IsTextOfLine entries x (joined (v ∷ more))) (sym (same w (codes "hash") h.0)) (inner_own entries (by_conjunct entries (λ n. Hash n) more) (joined (codes "hash" ∷ more)) x h.1 (λ s f. by_own entries (λ n. Hash n) (codes "hash") more s f (λ k. refl)))
+              | inr e4 ↦ elim (chosen (bytes_eq w (codes "merge")) (option_map inner_line (by_conjunct entries (λ n. Merge n) more)) _ x e4) [
+                | inl h ↦ subst (λ v. IsTextOfLine entries x (joined (v ∷ more))) (sym (same w (codes "merge") h.0)) (inner_own entries (by_conjunct entries (λ n. Merge n) more) (joined (codes "merge" ∷ more)) x h.1 (λ s f. by_own entries (λ n. Merge n) (codes "merge") more s f (λ k. refl)))
+                | inr e5 ↦ elim (chosen (bytes_eq w (codes "left")) (option_and_then left_line (left_step entries more)) _ x e5) [
+                  | inl h ↦ subst (λ v. IsTextOfLine entries x (joined (v ∷ more))) (sym (same w (codes "left") h.0)) (left_own entries more x h.1)
+                  | inr e6 ↦ elim (chosen (bytes_eq w (codes "sort")) (sort_at entries more) _ x e6) [
+                    | inl h ↦ subst (λ v. IsTextOfLine entries x (joined (v ∷ more))) (sym (same w (codes "sort") h.0)) (sorts more h.1)
+                    | inr e7 ↦ (let m = mapped (λ s. StepLine s) (step_at (w ∷ more)) x e7 in subst (λ y. IsTextOfLine entries y (joined (w ∷ more))) (sym m.2) (step_own (w ∷ more) m.0 m.1))
+                  ]
                 ]
               ]
             ]
@@ -300,6 +323,20 @@ module _ (entries : List PlanEntry) where
           subst (λ y. IsTextOfLine entries y (codes "filter " ++ l)) is
           (p.1, ap (λ v. codes "filter " ++ v) (cut_own l p h) ∙ ap (λ v. codes "filter " ++ (v ++ codes " " ++ p.1)) own.0, own.1, n.1, found.0)
 
+  on_own : (l : List ℕ) (x : Line) → on_at entries (cut l) ≡ Some x → IsTextOfLine entries x (codes "on " ++ l)
+  on_own l x e = go (cut l) refl e
+    where
+      go : (o : Option (List ℕ × List ℕ)) → cut l ≡ o → on_at entries o ≡ Some x → IsTextOfLine entries x (codes "on " ++ l)
+      go None h f = cc
+      go (Some p) h f =
+          let m = chained (λ i. option_and_then (on_line entries i) (expr_at p.1)) (entry_at entries p.0) x f in
+          let n = chained (on_line entries m.0) (expr_at p.1) x m.2 in
+          let on : OnCondition = record { entry = m.0; condition = n.0 } in
+          let found = where_true (all_columns (is_found entries) n.0) (Some (OnLine on)) x n.2 in
+          let is : OnLine on ≡ x = cc (found.1) in
+          subst (λ y. IsTextOfLine entries y (codes "on " ++ l)) is
+          (p.1, ap (λ v. codes "on " ++ v) (cut_own l p h) ∙ ap (λ v. codes "on " ++ (v ++ codes " " ++ p.1)) (sym (alias_own entries m.0 p.0 m.1)), n.1, found.0)
+
   after_word_own : (l : List ℕ) (x : Line) → after_word entries (cut l) (parts l) ≡ Some x → IsTextOfLine entries x l
   after_word_own l x e = go (cut l) refl e
     where
@@ -309,9 +346,12 @@ module _ (entries : List PlanEntry) where
       go : (o : Option (List ℕ × List ℕ)) → cut l ≡ o → after_word entries o (parts l) ≡ Some x → IsTextOfLine entries x l
       go None h f = words f
       go (Some p) h f =
-          elim (chosen (bytes_eq p.0 (codes "filter")) (filter_at entries (cut p.1)) (other_line entries (parts l)) x f) [
+          elim (chosen (bytes_eq p.0 (codes "filter")) (filter_at entries (cut p.1)) _ x f) [
             | inl k ↦ subst (IsTextOfLine entries x) (sym (cut_own l p h ∙ ap (λ v. v ++ codes " " ++ p.1) (same p.0 (codes "filter") k.0))) (filter_own p.1 x k.1)
-            | inr k ↦ words k
+            | inr f1 ↦ elim (chosen (bytes_eq p.0 (codes "on")) (on_at entries (cut p.1)) (other_line entries (parts l)) x f1) [
+              | inl k ↦ subst (IsTextOfLine entries x) (sym (cut_own l p h ∙ ap (λ v. v ++ codes " " ++ p.1) (same p.0 (codes "on") k.0))) (on_own p.1 x k.1)
+              | inr k ↦ words k
+            ]
           ]
 
   content_own : (l : List ℕ) (x : Line) → content_at entries l ≡ Some x → IsTextOfLine entries x l

@@ -24,12 +24,13 @@ use Rattle.expr.specs.declared.code.Method.TheVariants.{Nested, Hash, Merge}
 use Rattle.row_terms.specs.declared.path.Branch.{Branch}
 use Rattle.row_terms.specs.declared.path.Branch.TheVariants.{First, Second}
 use Rattle.algebra.specs.Steps.{Step}
+use Rattle.plan_texts.specs.declared.plan.PlanStep.{PlanStep}
 use Rattle.plan_texts.specs.declared.plan.SortColumn.{SortColumn}
-use Rattle.plan_texts.specs.Plans.{PlanEntry}
+use Rattle.plan_texts.specs.Plans.{PlanEntry, OnCondition}
 use Rattle.plan_texts.specs.Columns.{all_columns}
-use Rattle.plan_texts.specs.PlanTexts.{alias, column_name, access_text, scan_text, method_text, join_text, branch_digit, path_text, argument_text, step_text}
+use Rattle.plan_texts.specs.PlanTexts.{alias, column_name, access_text, scan_text, method_text, left_word, join_text, on_text, branch_digit, path_text, argument_text, step_text}
 use Rattle.value.specs.Numbers.{number_at}
-use Rattle.plan_texts.specs.Reading.{Line, CostLine, FilterLine, FirstLine, JoinLine, SortLine, StepLine, is_found, filter_line, filter_at, is_branch, branches_of, path_at, arguments_at, last_minus, rule_at, step_at, column_at, access_at, scan_at, join_at, by_conjunct, sort_column_at, content_at, line_at, IsFilter, AreAll, HasEntry, HasColumn, IsAccess, IsScan, IsFirst, IsMethod, IsJoin, IsStep, cut, after_word}
+use Rattle.plan_texts.specs.Reading.{Line, CostLine, FilterLine, OnLine, FirstLine, JoinLine, SortLine, StepLine, is_full, inner_line, left_line, is_found, filter_line, filter_at, on_line, on_at, entry_at, left_step, is_branch, branches_of, path_at, arguments_at, last_minus, rule_at, step_at, column_at, access_at, scan_at, by_conjunct, sort_column_at, content_at, line_at, IsFilter, AreAll, HasEntry, HasColumn, IsAccess, IsScan, IsFirst, IsMethod, IsLeft, IsJoin, first_step, on_without_offsets, IsStep, cut, after_word}
 use Rattle.plan_texts.proofs.Found.{still_found}
 use Rattle.plan_texts.proofs.Quiet.{decimal_digits, decimal_word}
 use Rattle.value.proofs.NumberTexts.{number_is}
@@ -68,6 +69,19 @@ module _ (entries : List PlanEntry) where
       ap (λ bs. filter_at entries (cut bs)) (append_assoc (decimal n) (32 ∷ []) (expr_text e))
       ∙ filter_is n (expr_text e) (without_offsets e) h (texts_read_back e is.written is.shallow) (still_found entries e ∙ is.found)
 
+  -- ---- ONs
+
+  pub on_is : (i : ℕ) (source : List ℕ) (e : Expr) → HasEntry entries i → expr_at source ≡ Some e → all_columns (is_found entries) e ≡ true → on_at entries (cut (alias entries i ++ 32 ∷ source)) ≡ Some (OnLine (record { entry = i; condition = e }))
+  on_is i source e there r found =
+      ap (on_at entries) (cut_at (alias entries i) source (word_lacks_blank (alias entries i) there.1.goes_well))
+      ∙ ap (option_and_then (λ k. option_and_then (on_line entries k) (expr_at source))) there.0 ∙ ap (option_and_then (on_line entries i)) r
+      ∙ ap (λ b. if b then Some (OnLine (record { entry = i; condition = e })) else None) found
+
+  pub on_back : (o : OnCondition) → HasEntry entries o.entry → IsFilter entries o.condition → content_at entries (on_text entries o) ≡ Some (OnLine (on_without_offsets o))
+  on_back o there is =
+      ap (λ bs. on_at entries (cut bs)) (append_assoc (alias entries o.entry) (32 ∷ []) (expr_text o.condition))
+      ∙ on_is o.entry (expr_text o.condition) (without_offsets o.condition) there (texts_read_back o.condition is.written is.shallow) (still_found entries o.condition ∙ is.found)
+
   -- ---- scans
 
   name_cut : (name : Name) → IsName name → slice_split blank name ≡ name ∷ []
@@ -98,28 +112,42 @@ module _ (entries : List PlanEntry) where
       ∙ ap (option_and_then (λ i. option_map (λ a. let x : CodeStep = record { entry = i; access = a; method = m } in x) (access_at entries i (slice_split blank access)))) is.0.0
       ∙ ap (option_map (λ a. let x : CodeStep = record { entry = s.entry; access = a; method = m } in x)) (access_back s.entry s.access is.1)
 
-  pub first_back : (s : CodeStep) → IsFirst entries s → content_at entries (codes "first " ++ scan_text entries s) ≡ Some (FirstLine s)
-  first_back s is = ap (option_map FirstLine) (scan_back Nested s is.1) ∙ ap (λ m. Some (FirstLine (by_method s m))) (sym is.0)
+  pub first_back : (s : PlanStep) → IsFirst entries s → content_at entries (codes "first " ++ scan_text entries s.step) ≡ Some (FirstLine s.step)
+  first_back s is = ap (option_map FirstLine) (scan_back Nested s.step is.2) ∙ ap (λ m. Some (FirstLine (by_method s.step m))) (sym is.1)
 
-  joined : (m : Method) (s : CodeStep) → IsScan entries s → join_at entries m (slice_split blank (scan_text entries s)) ≡ Some (JoinLine (by_method s m))
-  joined m s is = ap (option_map JoinLine) (scan_back m s is)
-
-  by_back : (method : ℕ → Method) (n : ℕ) (s : CodeStep) → n < 2 ^ 64 → IsScan entries s
-      → by_conjunct entries method (slice_split blank ((decimal n ++ 32 ∷ []) ++ scan_text entries s)) ≡ Some (JoinLine (by_method s (method n)))
+  by_back : (method : ℕ → Method) (n : ℕ) (s : CodeStep) → n < 2 ^ 64 → IsScan entries s → by_conjunct entries method (slice_split blank ((decimal n ++ 32 ∷ []) ++ scan_text entries s)) ≡ Some (by_method s (method n))
   by_back method n s h is =
       let more = scan_text entries s in
       ap (λ bs. by_conjunct entries method (slice_split blank bs)) (append_assoc (decimal n) (32 ∷ []) more)
       ∙ ap (by_conjunct entries method) (split_at blank (decimal n) 32 more (decimal_lacks n (wide n h)) refl)
-      ∙ ap (option_and_then (λ k. join_at entries (method k) (slice_split blank more))) (a_number n h)
-      ∙ joined (method n) s is
+      ∙ ap (option_and_then (λ k. scan_at entries (method k) (slice_split blank more))) (a_number n h)
+      ∙ scan_back (method n) s is
 
-  pub join_back : (j : CodeStep) → IsJoin entries j → content_at entries (join_text entries j) ≡ Some (JoinLine j)
-  join_back j is = go j.method is.0
+  inner_back : (s : CodeStep) → IsMethod entries s.method → IsScan entries s → content_at entries (method_text s.method ++ scan_text entries s) ≡ Some (inner_line s)
+  inner_back s is scan = go s.method is
     where
-      go : (m : Method) → IsMethod entries m → content_at entries (method_text m ++ scan_text entries j) ≡ Some (JoinLine (by_method j m))
-      go Nested l = joined Nested j is.1
-      go (Hash k) l = by_back (λ n. Hash n) k j l is.1
-      go (Merge k) l = by_back (λ n. Merge n) k j l is.1
+      go : (m : Method) → IsMethod entries m → content_at entries (method_text m ++ scan_text entries s) ≡ Some (inner_line (by_method s m))
+      go Nested l = ap (option_map inner_line) (scan_back Nested s scan)
+      go (Hash k) l = ap (option_map inner_line) (by_back (λ n. Hash n) k s l scan)
+      go (Merge k) l = ap (option_map inner_line) (by_back (λ n. Merge n) k s l scan)
+
+  left_back : (s : CodeStep) → IsLeft s → IsMethod entries s.method → IsScan entries s → content_at entries (codes "left " ++ (method_text s.method ++ scan_text entries s)) ≡ left_line s
+  left_back s left is scan = go s.method is left.no_merge
+    where
+      go : (m : Method) → IsMethod entries m → ((k : ℕ) → m ≡ Merge k → ⊥) → content_at entries (codes "left " ++ (method_text m ++ scan_text entries s)) ≡ left_line (by_method s m)
+      go Nested l other = ap (option_and_then left_line) (scan_back Nested s scan)
+      go (Hash k) l other = ap (option_and_then left_line) (by_back (λ n. Hash n) k s l scan)
+      go (Merge k) l other = absurd (other k refl)
+
+  left_is : (s : CodeStep) → s.access ≡ Full → left_line s ≡ Some (JoinLine (record { step = s; is_left = true }))
+  left_is s full = ap (λ a. if is_full a then Some (JoinLine (record { step = s; is_left = true })) else None) full
+
+  pub join_back : (j : PlanStep) → IsJoin entries j → content_at entries (join_text entries j) ≡ Some (JoinLine j)
+  join_back j is = go j.is_left refl
+    where
+      go : (b : Bool) → j.is_left ≡ b → content_at entries (left_word b ++ (method_text j.step.method ++ scan_text entries j.step)) ≡ Some (JoinLine (record { step = j.step; is_left = b }))
+      go true e = let left = is.0 e in left_back j.step left is.1 is.2 ∙ left_is j.step left.full
+      go false e = inner_back j.step is.1 is.2
 
   -- ---- the last sort
 
@@ -209,8 +237,8 @@ module _ (entries : List PlanEntry) where
   step_line d ds more e l =
       rw (digit_is d 101 e refl, digit_is d 116 e refl)
       (ap (λ o. after_word entries o (slice_split blank ((d ∷ ds) ++ 32 ∷ more))) (cut_at (d ∷ ds) more l)
-      ∙ rw (digit_is d 102 e refl, split_at blank (d ∷ ds) 32 more l refl)
-      (rw (digit_is d 99 e refl, digit_is d 102 e refl, digit_is d 110 e refl, digit_is d 104 e refl, digit_is d 109 e refl, digit_is d 115 e refl) refl))
+      ∙ rw (digit_is d 102 e refl, digit_is d 111 e refl, split_at blank (d ∷ ds) 32 more l refl)
+      (rw (digit_is d 99 e refl, digit_is d 102 e refl, digit_is d 110 e refl, digit_is d 104 e refl, digit_is d 109 e refl, digit_is d 108 e refl, digit_is d 115 e refl) refl))
 
   step_words : (s : Step) → IsStep s → step_at ((decimal s.rule ++ sign_of s.is_reverse) ∷ slice_split blank (path_text s.path ++ flat_map argument_text s.arguments)) ≡ Some s
   step_words s is =

@@ -10,7 +10,6 @@ use Rattle.row_ast.specs.Ast.{Expr}
 use Rattle.expr_texts.specs.Trees.{without_offsets}
 use Rattle.expr_texts.specs.ExprTexts.{expr_text}
 use Rattle.plan_texts.specs.Lines.{lines_of}
-use Rattle.expr.specs.Codes.{Code, Empty, Steps}
 use Rattle.expr.specs.declared.code.Access.{Access}
 use Rattle.expr.specs.declared.code.Access.TheVariants.{Full, Index, Range}
 use Rattle.expr.specs.declared.code.CodeStep.{CodeStep}
@@ -19,12 +18,13 @@ use Rattle.expr.specs.declared.code.Method.TheVariants.{Nested, Hash, Merge}
 use Rattle.row_terms.specs.declared.path.Branch.{Branch}
 use Rattle.row_terms.specs.declared.path.Branch.TheVariants.{First, Second}
 use Rattle.algebra.specs.Steps.{Step}
+use Rattle.plan_texts.specs.declared.plan.PlanStep.{PlanStep}
 use Rattle.plan_texts.specs.declared.plan.SortColumn.{SortColumn}
-use Rattle.plan_texts.specs.Plans.{PlanEntry, Plan}
-use Rattle.plan_texts.specs.PlanTexts.{branch_digit, argument_text, alias, column_name, access_text, scan_text, method_text, join_text, code_lines, sort_lines, path_text, step_text, filter_lines, plan_lines}
-use Rattle.plan_texts.specs.Reading.{Line, CostLine, FilterLine, EmptyLine, FirstLine, JoinLine, SortLine, TrailLine, StepLine, content_at, Draft, Begun, Costed, Coded, Sorted, Whole, with_line, or_stops, read_lines, AreAll, IsFilter, IsAccess, IsScan, IsMethod, IsJoin, IsCode, IsSort, IsStep, IsPlan, plan_without_offsets, PlansReadBack}
-use Rattle.plan_texts.proofs.Quiet.{IsQuiet, quiet_line, both_quiet, word_quiet, decimal_quiet, expr_quiet, filter_quiet, blank_quiet, cost_quiet, full_quiet, index_quiet, by_quiet, nested_quiet, hash_quiet, merge_quiet, empty_quiet, first_quiet, sort_word_quiet, dot_quiet, trail_quiet, minus_quiet, nothing_quiet}
-use Rattle.plan_texts.proofs.LinesBack.{utf8_line, cost_back, filter_back, first_back, join_back, sort_back, step_back}
+use Rattle.plan_texts.specs.Plans.{PlanEntry, OnCondition, PlanCode, Empty, Steps, Plan}
+use Rattle.plan_texts.specs.PlanTexts.{branch_digit, argument_text, alias, column_name, access_text, scan_text, method_text, left_word, join_text, on_text, code_lines, sort_lines, path_text, step_text, filter_lines, plan_lines}
+use Rattle.plan_texts.specs.Reading.{Line, CostLine, FilterLine, OnLine, EmptyLine, FirstLine, JoinLine, SortLine, TrailLine, StepLine, content_at, Draft, Begun, Costed, Conditioned, Coded, Sorted, Whole, after_filters, with_line, first_step, or_stops, read_lines, AreAll, HasEntry, IsFilter, IsAccess, IsScan, IsMethod, IsJoin, IsCode, IsSort, IsStep, IsPlan, on_without_offsets, plan_without_offsets, PlansReadBack}
+use Rattle.plan_texts.proofs.Quiet.{IsQuiet, quiet_line, both_quiet, word_quiet, decimal_quiet, expr_quiet, filter_quiet, on_quiet, left_quiet, blank_quiet, cost_quiet, full_quiet, index_quiet, by_quiet, nested_quiet, hash_quiet, merge_quiet, empty_quiet, first_quiet, sort_word_quiet, dot_quiet, trail_quiet, minus_quiet, nothing_quiet}
+use Rattle.plan_texts.proofs.LinesBack.{utf8_line, cost_back, filter_back, on_back, first_back, join_back, sort_back, step_back}
 
 module _ (entries : List PlanEntry) where
   -- ---- the lines of a text
@@ -47,6 +47,15 @@ module _ (entries : List PlanEntry) where
     filters_quiet (suc number) es (omega arith) are.1,
   )
 
+  on_lines_quiet : (os : List OnCondition) → AreAll (λ o. HasEntry entries o.entry) os → AreAll (λ o. IsFilter entries o.condition) os → AreAll IsQuiet (map (on_text entries) os)
+  on_lines_quiet [] there are = tt
+  on_lines_quiet (o ∷ os) there are = (
+    both_quiet (codes "on " ++ alias entries o.entry ++ codes " ") (expr_text o.condition)
+        (both_quiet (codes "on " ++ alias entries o.entry) (codes " ") (both_quiet (codes "on ") (alias entries o.entry) on_quiet (word_quiet (alias entries o.entry) there.0.1.goes_well)) blank_quiet)
+        (expr_quiet o.condition are.0.written are.0.utf8),
+    on_lines_quiet os there.1 are.1,
+  )
+
   access_quiet : (entry : ℕ) (a : Access) → IsAccess entries entry a → IsQuiet (access_text entries entry a)
   access_quiet entry Full is = full_quiet
   access_quiet entry (Index column) is = both_quiet (codes "index ") (column_name entries entry column) index_quiet (word_quiet (column_name entries entry column) is.1.goes_well)
@@ -64,14 +73,21 @@ module _ (entries : List PlanEntry) where
   method_quiet (Hash k) l = both_quiet (codes "hash " ++ decimal k) (codes " ") (both_quiet (codes "hash ") (decimal k) hash_quiet (decimal_quiet k (omega (arith, l)))) blank_quiet
   method_quiet (Merge k) l = both_quiet (codes "merge " ++ decimal k) (codes " ") (both_quiet (codes "merge ") (decimal k) merge_quiet (decimal_quiet k (omega (arith, l)))) blank_quiet
 
-  joins_quiet : (js : List CodeStep) → AreAll (IsJoin entries) js → AreAll IsQuiet (map (join_text entries) js)
-  joins_quiet [] are = tt
-  joins_quiet (j ∷ js) are = (both_quiet (method_text j.method) (scan_text entries j) (method_quiet j.method are.0.0) (scan_quiet j are.0.1), joins_quiet js are.1)
+  left_word_quiet : (is_left : Bool) → IsQuiet (left_word is_left)
+  left_word_quiet true = left_quiet
+  left_word_quiet false = nothing_quiet
 
-  pub code_quiet : (code : Code) → IsCode entries code → AreAll IsQuiet (code_lines entries code)
+  joins_quiet : (js : List PlanStep) → AreAll (IsJoin entries) js → AreAll IsQuiet (map (join_text entries) js)
+  joins_quiet [] are = tt
+  joins_quiet (j ∷ js) are = (
+    both_quiet (left_word j.is_left) (method_text j.step.method ++ scan_text entries j.step) (left_word_quiet j.is_left) (both_quiet (method_text j.step.method) (scan_text entries j.step) (method_quiet j.step.method are.0.1) (scan_quiet j.step are.0.2)),
+    joins_quiet js are.1,
+  )
+
+  pub code_quiet : (code : PlanCode) → IsCode entries code → AreAll IsQuiet (code_lines entries code)
   code_quiet Empty is = (empty_quiet, tt)
   code_quiet (Steps []) is = absurd is
-  code_quiet (Steps (first ∷ joins)) is = (both_quiet (codes "first ") (scan_text entries first) first_quiet (scan_quiet first is.0.1), joins_quiet joins is.1)
+  code_quiet (Steps (first ∷ joins)) is = (both_quiet (codes "first ") (scan_text entries first.step) first_quiet (scan_quiet first.step is.0.2), joins_quiet joins is.1)
 
   pub sort_quiet : (sort : Option SortColumn) → IsSort entries sort → AreAll IsQuiet (sort_lines entries sort)
   sort_quiet None is = tt
@@ -116,8 +132,9 @@ module _ (entries : List PlanEntry) where
   lines_quiet p is = (
     both_quiet (codes "cost ") (decimal p.cost) cost_quiet (decimal_quiet p.cost (omega (arith, is.sound.cost))),
     joined IsQuiet (filter_lines 1 p.filters) _ (filters_quiet 1 p.filters (omega (arith, is.few)) is.filters)
+        (joined IsQuiet (map (on_text entries) p.ons) _ (on_lines_quiet p.ons is.sound.lefts is.ons)
         (joined IsQuiet (code_lines entries p.code) _ (code_quiet p.code is.sound.code)
-        (joined IsQuiet (sort_lines entries p.sort) _ (sort_quiet p.sort is.sound.sort) (trail_quiet, steps_quiet p.trail is.sound.trail))),
+        (joined IsQuiet (sort_lines entries p.sort) _ (sort_quiet p.sort is.sound.sort) (trail_quiet, steps_quiet p.trail is.sound.trail)))),
   )
 
   -- reading goes from one draft to another over these lines, before any further ones
@@ -149,41 +166,70 @@ module _ (entries : List PlanEntry) where
       (subst (λ xs. Goes (Costed n (done ++ without_offsets x ∷ [])) (filter_lines (suc number) es) (Costed n xs)) (append_assoc done (without_offsets x ∷ []) (map without_offsets es))
       (filters_go n (done ++ without_offsets x ∷ []) (suc number) es (let size = length-append done (without_offsets x ∷ []) in omega (arith, size, e)) (omega arith) are.1))
 
-  joins_go : (n : ℕ) (es : List Expr) (done js : List CodeStep) → AreAll (IsJoin entries) js → Goes (Coded n es (Steps done)) (map (join_text entries) js) (Coded n es (Steps (done ++ js)))
-  joins_go n es done [] are = subst (λ xs. Goes (Coded n es (Steps done)) [] (Coded n es (Steps xs))) (sym (append-nil done)) (stays (Coded n es (Steps done)))
-  joins_go n es done (j ∷ js) are =
-      both (Coded n es (Steps done)) (Coded n es (Steps (done ++ j ∷ []))) (Coded n es (Steps (done ++ j ∷ js))) (join_text entries j ∷ []) (map (join_text entries) js)
-      (one (Coded n es (Steps done)) (Coded n es (Steps (done ++ j ∷ []))) (join_text entries j) (JoinLine j) (joins_quiet (j ∷ []) (are.0, tt)).0 (join_back entries j are.0) refl)
-      (subst (λ xs. Goes (Coded n es (Steps (done ++ j ∷ []))) (map (join_text entries) js) (Coded n es (Steps xs))) (append_assoc done (j ∷ []) js) (joins_go n es (done ++ j ∷ []) js are.1))
+  -- ---- ONs
 
-  pub code_goes : (n : ℕ) (es : List Expr) (code : Code) → IsCode entries code → Goes (Costed n es) (code_lines entries code) (Coded n es code)
-  code_goes n es Empty is = one (Costed n es) (Coded n es Empty) (codes "empty") EmptyLine empty_quiet refl refl
-  code_goes n es (Steps []) is = absurd is
-  code_goes n es (Steps (first ∷ joins)) is =
-      both (Costed n es) (Coded n es (Steps (first ∷ []))) (Coded n es (Steps (first ∷ joins))) ((codes "first " ++ scan_text entries first) ∷ []) (map (join_text entries) joins)
-      (one (Costed n es) (Coded n es (Steps (first ∷ []))) (codes "first " ++ scan_text entries first) (FirstLine first) (code_quiet (Steps (first ∷ joins)) is).0 (first_back entries first is.0) refl) (joins_go n es (first ∷ []) joins is.1)
+  -- filters and ONs; none where there are none
+  abbrev pub with_ons : ℕ → List Expr → List OnCondition → Draft
+  with_ons n es [] = Costed n es
+  with_ons n es (o ∷ os) = Conditioned n es (o ∷ os)
 
-  abbrev pub begun : ℕ → List Expr → Code → Option SortColumn → List Step → Plan
-  begun n es code sort steps = record { cost = n; filters = es; code = code; sort = sort; trail = steps }
+  pub goes_after : (n : ℕ) (es : List Expr) (os : List OnCondition) (l : List ℕ) (x : Line) (to : Draft) → IsQuiet l → content_at entries l ≡ Some x → after_filters n es os x ≡ Some to → with_line (Costed n es) x ≡ after_filters n es [] x → Goes (with_ons n es os) (l ∷ []) to
+  goes_after n es [] l x to q e f g = one (Costed n es) to l x q e (g ∙ f)
+  goes_after n es (o ∷ os) l x to q e f g = one (Conditioned n es (o ∷ os)) to l x q e f
 
-  pub trail_goes : (n : ℕ) (es : List Expr) (code : Code) (sort : Option SortColumn) → IsSort entries sort → Goes (Coded n es code) (sort_lines entries sort ++ codes "trail" ∷ []) (Whole (begun n es code sort []))
-  trail_goes n es Empty None is = one (Coded n es Empty) (Whole (begun n es Empty None [])) (codes "trail") TrailLine trail_quiet refl refl
-  trail_goes n es (Steps steps) None is = one (Coded n es (Steps steps)) (Whole (begun n es (Steps steps) None [])) (codes "trail") TrailLine trail_quiet refl refl
-  trail_goes n es Empty (Some c) is =
-      both (Coded n es Empty) (Sorted n es Empty c) (Whole (begun n es Empty (Some c) [])) (sort_lines entries (Some c)) (codes "trail" ∷ [])
-      (one (Coded n es Empty) (Sorted n es Empty c) (codes "sort " ++ alias entries c.entry ++ codes "." ++ column_name entries c.entry c.column) (SortLine c) (sort_quiet (Some c) is).0 (sort_back entries c is.0 is.1) refl)
-      (one (Sorted n es Empty c) (Whole (begun n es Empty (Some c) [])) (codes "trail") TrailLine trail_quiet refl refl)
-  trail_goes n es (Steps steps) (Some c) is =
-      both (Coded n es (Steps steps)) (Sorted n es (Steps steps) c) (Whole (begun n es (Steps steps) (Some c) [])) (sort_lines entries (Some c)) (codes "trail" ∷ [])
-      (one (Coded n es (Steps steps)) (Sorted n es (Steps steps) c) (codes "sort " ++ alias entries c.entry ++ codes "." ++ column_name entries c.entry c.column) (SortLine c) (sort_quiet (Some c) is).0 (sort_back entries c is.0 is.1) refl)
-      (one (Sorted n es (Steps steps) c) (Whole (begun n es (Steps steps) (Some c) [])) (codes "trail") TrailLine trail_quiet refl refl)
+  -- with one more ON there are ONs
+  some_ons : (n : ℕ) (es : List Expr) (os : List OnCondition) (o : OnCondition) → Conditioned n es (os ++ o ∷ []) ≡ with_ons n es (os ++ o ∷ [])
+  some_ons n es [] o = refl
+  some_ons n es (p ∷ os) o = refl
 
-  pub steps_go : (n : ℕ) (es : List Expr) (code : Code) (sort : Option SortColumn) (done steps : List Step) → AreAll IsStep steps → Goes (Whole (begun n es code sort done)) (map step_text steps) (Whole (begun n es code sort (done ++ steps)))
-  steps_go n es code sort done [] are = subst (λ xs. Goes (Whole (begun n es code sort done)) [] (Whole (begun n es code sort xs))) (sym (append-nil done)) (stays (Whole (begun n es code sort done)))
-  steps_go n es code sort done (s ∷ steps) are =
-      both (Whole (begun n es code sort done)) (Whole (begun n es code sort (done ++ s ∷ []))) (Whole (begun n es code sort (done ++ s ∷ steps))) (step_text s ∷ []) (map step_text steps)
-      (one (Whole (begun n es code sort done)) (Whole (begun n es code sort (done ++ s ∷ []))) (step_text s) (StepLine s) (step_quiet s are.0) (step_back entries s are.0) refl)
-      (subst (λ xs. Goes (Whole (begun n es code sort (done ++ s ∷ []))) (map step_text steps) (Whole (begun n es code sort xs))) (append_assoc done (s ∷ []) steps) (steps_go n es code sort (done ++ s ∷ []) steps are.1))
+  pub on_goes : (n : ℕ) (es : List Expr) (os : List OnCondition) (l : List ℕ) (o : OnCondition) → IsQuiet l → content_at entries l ≡ Some (OnLine o) → Goes (with_ons n es os) (l ∷ []) (with_ons n es (os ++ o ∷ []))
+  on_goes n es os l o q e = goes_after n es os l (OnLine o) (with_ons n es (os ++ o ∷ [])) q e (ap Some (some_ons n es os o)) refl
+
+  ons_go : (n : ℕ) (es : List Expr) (done os : List OnCondition) → AreAll (λ o. HasEntry entries o.entry) os → AreAll (λ o. IsFilter entries o.condition) os → Goes (with_ons n es done) (map (on_text entries) os) (with_ons n es (done ++ map on_without_offsets os))
+  ons_go n es done [] there are = subst (λ xs. Goes (with_ons n es done) [] (with_ons n es xs)) (sym (append-nil done)) (stays (with_ons n es done))
+  ons_go n es done (o ∷ os) there are =
+      both (with_ons n es done) (with_ons n es (done ++ on_without_offsets o ∷ [])) (with_ons n es (done ++ on_without_offsets o ∷ map on_without_offsets os)) (on_text entries o ∷ []) (map (on_text entries) os)
+      (on_goes n es done (on_text entries o) (on_without_offsets o) (on_lines_quiet (o ∷ []) (there.0, tt) (are.0, tt)).0 (on_back entries o there.0 are.0))
+      (subst (λ xs. Goes (with_ons n es (done ++ on_without_offsets o ∷ [])) (map (on_text entries) os) (with_ons n es xs)) (append_assoc done (on_without_offsets o ∷ []) (map on_without_offsets os))
+      (ons_go n es (done ++ on_without_offsets o ∷ []) os there.1 are.1))
+
+  -- ---- the code
+
+  joins_go : (n : ℕ) (es : List Expr) (os : List OnCondition) (done js : List PlanStep) → AreAll (IsJoin entries) js → Goes (Coded n es os (Steps done)) (map (join_text entries) js) (Coded n es os (Steps (done ++ js)))
+  joins_go n es os done [] are = subst (λ xs. Goes (Coded n es os (Steps done)) [] (Coded n es os (Steps xs))) (sym (append-nil done)) (stays (Coded n es os (Steps done)))
+  joins_go n es os done (j ∷ js) are =
+      both (Coded n es os (Steps done)) (Coded n es os (Steps (done ++ j ∷ []))) (Coded n es os (Steps (done ++ j ∷ js))) (join_text entries j ∷ []) (map (join_text entries) js)
+      (one (Coded n es os (Steps done)) (Coded n es os (Steps (done ++ j ∷ []))) (join_text entries j) (JoinLine j) (joins_quiet (j ∷ []) (are.0, tt)).0 (join_back entries j are.0) refl)
+      (subst (λ xs. Goes (Coded n es os (Steps (done ++ j ∷ []))) (map (join_text entries) js) (Coded n es os (Steps xs))) (append_assoc done (j ∷ []) js) (joins_go n es os (done ++ j ∷ []) js are.1))
+
+  -- the first step is no left join
+  first_is : (s : PlanStep) → s.is_left ≡ false → first_step s.step ≡ s
+  first_is s e = ap (λ b. let t : PlanStep = record { step = s.step; is_left = b } in t) (sym e)
+
+  pub code_goes : (n : ℕ) (es : List Expr) (os : List OnCondition) (code : PlanCode) → IsCode entries code → Goes (with_ons n es os) (code_lines entries code) (Coded n es os code)
+  code_goes n es os Empty is = goes_after n es os (codes "empty") EmptyLine (Coded n es os Empty) empty_quiet refl refl refl
+  code_goes n es os (Steps []) is = absurd is
+  code_goes n es os (Steps (first ∷ joins)) is =
+      both (with_ons n es os) (Coded n es os (Steps (first ∷ []))) (Coded n es os (Steps (first ∷ joins))) ((codes "first " ++ scan_text entries first.step) ∷ []) (map (join_text entries) joins)
+      (goes_after n es os (codes "first " ++ scan_text entries first.step) (FirstLine first.step) (Coded n es os (Steps (first ∷ []))) (code_quiet (Steps (first ∷ joins)) is).0 (first_back entries first is.0) (ap (λ s. Some (Coded n es os (Steps (s ∷ [])))) (first_is first is.0.0)) refl)
+      (joins_go n es os (first ∷ []) joins is.1)
+
+  abbrev pub begun : ℕ → List Expr → List OnCondition → PlanCode → Option SortColumn → List Step → Plan
+  begun n es os code sort steps = record { cost = n; filters = es; ons = os; code = code; sort = sort; trail = steps }
+
+  pub trail_goes : (n : ℕ) (es : List Expr) (os : List OnCondition) (code : PlanCode) (sort : Option SortColumn) → IsSort entries sort → Goes (Coded n es os code) (sort_lines entries sort ++ codes "trail" ∷ []) (Whole (begun n es os code sort []))
+  trail_goes n es os code None is = one (Coded n es os code) (Whole (begun n es os code None [])) (codes "trail") TrailLine trail_quiet refl refl
+  trail_goes n es os code (Some c) is =
+      both (Coded n es os code) (Sorted n es os code c) (Whole (begun n es os code (Some c) [])) (sort_lines entries (Some c)) (codes "trail" ∷ [])
+      (one (Coded n es os code) (Sorted n es os code c) (codes "sort " ++ alias entries c.entry ++ codes "." ++ column_name entries c.entry c.column) (SortLine c) (sort_quiet (Some c) is).0 (sort_back entries c is.0 is.1) refl)
+      (one (Sorted n es os code c) (Whole (begun n es os code (Some c) [])) (codes "trail") TrailLine trail_quiet refl refl)
+
+  pub steps_go : (n : ℕ) (es : List Expr) (os : List OnCondition) (code : PlanCode) (sort : Option SortColumn) (done steps : List Step) → AreAll IsStep steps → Goes (Whole (begun n es os code sort done)) (map step_text steps) (Whole (begun n es os code sort (done ++ steps)))
+  steps_go n es os code sort done [] are = subst (λ xs. Goes (Whole (begun n es os code sort done)) [] (Whole (begun n es os code sort xs))) (sym (append-nil done)) (stays (Whole (begun n es os code sort done)))
+  steps_go n es os code sort done (s ∷ steps) are =
+      both (Whole (begun n es os code sort done)) (Whole (begun n es os code sort (done ++ s ∷ []))) (Whole (begun n es os code sort (done ++ s ∷ steps))) (step_text s ∷ []) (map step_text steps)
+      (one (Whole (begun n es os code sort done)) (Whole (begun n es os code sort (done ++ s ∷ []))) (step_text s) (StepLine s) (step_quiet s are.0) (step_back entries s are.0) refl)
+      (subst (λ xs. Goes (Whole (begun n es os code sort (done ++ s ∷ []))) (map step_text steps) (Whole (begun n es os code sort xs))) (append_assoc done (s ∷ []) steps) (steps_go n es os code sort (done ++ s ∷ []) steps are.1))
 
   -- ---- the plan
 
@@ -191,16 +237,19 @@ module _ (entries : List PlanEntry) where
   lines_go p is =
       let n = p.cost in
       let es = map without_offsets p.filters in
+      let os = map on_without_offsets p.ons in
       let end : List (List ℕ) = sort_lines entries p.sort ++ (codes "trail" ∷ map step_text p.trail) in
       let code : List (List ℕ) = code_lines entries p.code ++ end in
-      let filters : List (List ℕ) = filter_lines 1 p.filters ++ code in
+      let ons : List (List ℕ) = map (on_text entries) p.ons ++ code in
+      let filters : List (List ℕ) = filter_lines 1 p.filters ++ ons in
       both Begun (Costed n []) (Whole (plan_without_offsets p)) ((codes "cost " ++ decimal n) ∷ []) filters
       (one Begun (Costed n []) (codes "cost " ++ decimal n) (CostLine n) (both_quiet (codes "cost ") (decimal n) cost_quiet (decimal_quiet n (omega (arith, is.sound.cost)))) (cost_back entries n is.sound.cost) refl)
-      (both (Costed n []) (Costed n es) (Whole (plan_without_offsets p)) (filter_lines 1 p.filters) code (filters_go n [] 1 p.filters refl (omega (arith, is.few)) is.filters)
-      (both (Costed n es) (Coded n es p.code) (Whole (plan_without_offsets p)) (code_lines entries p.code) end (code_goes n es p.code is.sound.code)
-      (subst (λ ls. Goes (Coded n es p.code) ls (Whole (plan_without_offsets p))) (append_assoc (sort_lines entries p.sort) (codes "trail" ∷ []) (map step_text p.trail))
-      (both (Coded n es p.code) (Whole (begun n es p.code p.sort [])) (Whole (plan_without_offsets p)) (sort_lines entries p.sort ++ codes "trail" ∷ []) (map step_text p.trail)
-      (trail_goes n es p.code p.sort is.sound.sort) (steps_go n es p.code p.sort [] p.trail is.sound.trail)))))
+      (both (Costed n []) (Costed n es) (Whole (plan_without_offsets p)) (filter_lines 1 p.filters) ons (filters_go n [] 1 p.filters refl (omega (arith, is.few)) is.filters)
+      (both (Costed n es) (with_ons n es os) (Whole (plan_without_offsets p)) (map (on_text entries) p.ons) code (ons_go n es [] p.ons is.sound.lefts is.ons)
+      (both (with_ons n es os) (Coded n es os p.code) (Whole (plan_without_offsets p)) (code_lines entries p.code) end (code_goes n es os p.code is.sound.code)
+      (subst (λ ls. Goes (Coded n es os p.code) ls (Whole (plan_without_offsets p))) (append_assoc (sort_lines entries p.sort) (codes "trail" ∷ []) (map step_text p.trail))
+      (both (Coded n es os p.code) (Whole (begun n es os p.code p.sort [])) (Whole (plan_without_offsets p)) (sort_lines entries p.sort ++ codes "trail" ∷ []) (map step_text p.trail)
+      (trail_goes n es os p.code p.sort is.sound.sort) (steps_go n es os p.code p.sort [] p.trail is.sound.trail))))))
 
 pub plans_read_back : PlansReadBack
 plans_read_back entries p is =

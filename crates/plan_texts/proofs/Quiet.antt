@@ -207,6 +207,12 @@ both_quiet as_ bs p q = record { leaves = λ rest. simp (append_assoc, p.leaves,
 pub filter_quiet : IsQuiet (codes "filter ")
 filter_quiet = record { leaves = λ rest. simp byte; utf8 = low_text (codes "filter ") refl }
 
+pub on_quiet : IsQuiet (codes "on ")
+on_quiet = record { leaves = λ rest. simp byte; utf8 = low_text (codes "on ") refl }
+
+pub left_quiet : IsQuiet (codes "left ")
+left_quiet = record { leaves = λ rest. simp byte; utf8 = low_text (codes "left ") refl }
+
 pub blank_quiet : IsQuiet (codes " ")
 blank_quiet = record { leaves = λ rest. simp byte; utf8 = low_text (codes " ") refl }
 

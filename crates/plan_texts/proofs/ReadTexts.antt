@@ -7,13 +7,12 @@ use Rattle.std.proofs.lemmas.List.{append_assoc, append-nil, length-append}
 use Rattle.row_ast.specs.Ast.{Expr}
 use Rattle.row_grammar.proofs.Facts.{and_left}
 use Rattle.plan_texts.specs.Lines.{Lines, ends, quotes, ended, with_byte, lines_from, lines_of}
-use Rattle.expr.specs.Codes.{Code, Empty, Steps}
-use Rattle.expr.specs.declared.code.CodeStep.{CodeStep}
 use Rattle.algebra.specs.Steps.{Step}
+use Rattle.plan_texts.specs.declared.plan.PlanStep.{PlanStep}
 use Rattle.plan_texts.specs.declared.plan.SortColumn.{SortColumn}
-use Rattle.plan_texts.specs.Plans.{PlanEntry, Plan}
-use Rattle.plan_texts.specs.PlanTexts.{join_text, code_lines, sort_lines, step_text}
-use Rattle.plan_texts.specs.Reading.{Line, CostLine, FilterLine, EmptyLine, FirstLine, JoinLine, SortLine, TrailLine, StepLine, line_at, Draft, Begun, Costed, Coded, Sorted, Whole, with_line, plan_in, or_stops, read_lines, IsTextOfLine, AreFilters, IsTextOf, ReadIsText}
+use Rattle.plan_texts.specs.Plans.{PlanEntry, OnCondition, PlanCode, Empty, Steps, Plan}
+use Rattle.plan_texts.specs.PlanTexts.{scan_text, join_text, code_lines, sort_lines, step_text}
+use Rattle.plan_texts.specs.Reading.{Line, CostLine, FilterLine, OnLine, EmptyLine, FirstLine, JoinLine, SortLine, TrailLine, StepLine, line_at, Draft, Begun, Costed, Conditioned, Coded, Sorted, Whole, with_line, first_step, plan_in, or_stops, read_lines, IsTextOfLine, AreFilters, AreOns, IsTextOf, ReadIsText}
 use Rattle.plan_texts.proofs.LineTexts.{where_true, chained, lines_are_texts}
 
 -- ---- the lines of a text give it back
@@ -46,27 +45,41 @@ module _ (entries : List PlanEntry) where
   record Filtered (n : ℕ) (es : List Expr) (ls : List (List ℕ)) (p : Plan) : Type 0 where
     more : List Expr
     filters : List (List ℕ)
+    ons : List (List ℕ)
     are : AreFilters entries (suc (length es)) filters more
+    are_ons : AreOns entries ons p.ons
     cost : p.cost ≡ n
     all : p.filters ≡ es ++ more
-    lines : ls ≡ filters ++ (code_lines entries p.code ++ ending p)
+    lines : ls ≡ filters ++ (ons ++ (code_lines entries p.code ++ ending p))
 
-  record Joined (n : ℕ) (es : List Expr) (steps : List CodeStep) (ls : List (List ℕ)) (p : Plan) : Type 0 where
-    more : List CodeStep
+  record Listed (n : ℕ) (es : List Expr) (os : List OnCondition) (ls : List (List ℕ)) (p : Plan) : Type 0 where
+    more : List OnCondition
+    ons : List (List ℕ)
+    are : AreOns entries ons more
     cost : p.cost ≡ n
     all : p.filters ≡ es
+    all_ons : p.ons ≡ os ++ more
+    lines : ls ≡ ons ++ (code_lines entries p.code ++ ending p)
+
+  record Joined (n : ℕ) (es : List Expr) (os : List OnCondition) (steps : List PlanStep) (ls : List (List ℕ)) (p : Plan) : Type 0 where
+    more : List PlanStep
+    cost : p.cost ≡ n
+    all : p.filters ≡ es
+    all_ons : p.ons ≡ os
     code : p.code ≡ Steps (steps ++ more)
     lines : ls ≡ map (join_text entries) more ++ ending p
 
-  record Emptied (n : ℕ) (es : List Expr) (ls : List (List ℕ)) (p : Plan) : Type 0 where
+  record Emptied (n : ℕ) (es : List Expr) (os : List OnCondition) (ls : List (List ℕ)) (p : Plan) : Type 0 where
     cost : p.cost ≡ n
     all : p.filters ≡ es
+    all_ons : p.ons ≡ os
     code : p.code ≡ Empty
     lines : ls ≡ ending p
 
-  record Ordered (n : ℕ) (es : List Expr) (code : Code) (c : SortColumn) (ls : List (List ℕ)) (p : Plan) : Type 0 where
+  record Ordered (n : ℕ) (es : List Expr) (os : List OnCondition) (code : PlanCode) (c : SortColumn) (ls : List (List ℕ)) (p : Plan) : Type 0 where
     cost : p.cost ≡ n
     all : p.filters ≡ es
+    all_ons : p.ons ≡ os
     coded : p.code ≡ code
     sort : p.sort ≡ Some c
     lines : ls ≡ steps_lines p
@@ -79,22 +92,40 @@ module _ (entries : List PlanEntry) where
   abbrev Completes : Draft → List (List ℕ) → Plan → Type 0
   Completes Begun ls p = IsTextOf entries p (glued ls)
   Completes (Costed n es) ls p = Filtered n es ls p
-  Completes (Coded n es Empty) ls p = Emptied n es ls p
-  Completes (Coded n es (Steps steps)) ls p = Joined n es steps ls p
-  Completes (Sorted n es code c) ls p = Ordered n es code c ls p
+  Completes (Conditioned n es os) ls p = Listed n es os ls p
+  Completes (Coded n es os Empty) ls p = Emptied n es os ls p
+  Completes (Coded n es os (Steps steps)) ls p = Joined n es os steps ls p
+  Completes (Sorted n es os code c) ls p = Ordered n es os code c ls p
   Completes (Whole q) ls p = Stepped q ls p
 
-  abbrev plan_of : ℕ → List Expr → Code → Option SortColumn → Plan
-  plan_of n es code sort = record { cost = n; filters = es; code = code; sort = sort; trail = [] }
+  abbrev plan_of : ℕ → List Expr → List OnCondition → PlanCode → Option SortColumn → Plan
+  plan_of n es os code sort = record { cost = n; filters = es; ons = os; code = code; sort = sort; trail = [] }
+
+  -- ONs that end the filters
+  filtered : (n : ℕ) (es : List Expr) (ls : List (List ℕ)) (p : Plan) → Listed n es [] ls p → Filtered n es ls p
+  filtered n es ls p c = record { more = []; filters = []; ons = c.ons; are = tt; are_ons = subst (AreOns entries c.ons) (sym c.all_ons) c.are; cost = c.cost; all = c.all ∙ sym (append-nil es); lines = c.lines }
+
+  -- a code with no further steps
+  emptied : (n : ℕ) (es : List Expr) (os : List OnCondition) (l : List ℕ) (ls : List (List ℕ)) (p : Plan) → l ≡ codes "empty" → Emptied n es os ls p → Listed n es os (l ∷ ls) p
+  emptied n es os l ls p s c = record { more = []; ons = []; are = tt; cost = c.cost; all = c.all; all_ons = c.all_ons ∙ sym (append-nil os); lines = ap (λ m. m ∷ ls) s ∙ ap (λ ms. codes "empty" ∷ ms) c.lines ∙ ap (λ code. code_lines entries code ++ ending p) (sym c.code) }
+
+  begun_code : (n : ℕ) (es : List Expr) (os : List OnCondition) (first : PlanStep) (l : List ℕ) (ls : List (List ℕ)) (p : Plan) → l ≡ codes "first " ++ scan_text entries first.step → Joined n es os (first ∷ []) ls p → Listed n es os (l ∷ ls) p
+  begun_code n es os first l ls p s c = record { more = []; ons = []; are = tt; cost = c.cost; all = c.all; all_ons = c.all_ons ∙ sym (append-nil os); lines = ap (λ m. m ∷ ls) s ∙ ap (λ ms. code_lines entries (Steps (first ∷ [])) ++ ms) c.lines ∙ ap (λ code. code_lines entries code ++ ending p) (sym c.code) }
+
+  one_more : (n : ℕ) (es : List Expr) (os : List OnCondition) (o : OnCondition) (l : List ℕ) (ls : List (List ℕ)) (p : Plan) → IsTextOfLine entries (OnLine o) l → Listed n es (os ++ o ∷ []) ls p → Listed n es os (l ∷ ls) p
+  one_more n es os o l ls p s c = record { more = o ∷ c.more; ons = l ∷ c.ons; are = (s, c.are); cost = c.cost; all = c.all; all_ons = c.all_ons ∙ append_assoc os (o ∷ []) c.more; lines = ap (λ ms. l ∷ ms) c.lines }
 
   advance : (d : Draft) (x : Line) (l : List ℕ) (next : Draft) → with_line d x ≡ Some next → IsTextOfLine entries x l → (ls : List (List ℕ)) (p : Plan) → Completes next ls p → Completes d (l ∷ ls) p
   advance Begun (CostLine n) l next e s ls p c =
       let here : Costed n [] ≡ next = cc in
-      let c' : Filtered n [] ls p = subst (λ d. Completes d ls p) (sym here) c in (
-        c'.filters,
-        subst (λ es. AreFilters entries 1 c'.filters es) (sym c'.all) c'.are,
-        ap (λ m. glued (m ∷ ls)) (s.0 ∙ ap (λ k. codes "cost " ++ decimal k) (sym c'.cost)) ∙ ap (λ ms. glued ((codes "cost " ++ decimal p.cost) ∷ ms)) c'.lines,
-      )
+      let c' : Filtered n [] ls p = subst (λ d. Completes d ls p) (sym here) c in
+      record {
+        filters = c'.filters;
+        ons = c'.ons;
+        are_filters = subst (λ es. AreFilters entries 1 c'.filters es) (sym c'.all) c'.are;
+        are_ons = c'.are_ons;
+        lines = ap (λ m. glued (m ∷ ls)) (s.0 ∙ ap (λ k. codes "cost " ++ decimal k) (sym c'.cost)) ∙ ap (λ ms. glued ((codes "cost " ++ decimal p.cost) ∷ ms)) c'.lines;
+      }
   advance (Costed n es) (FilterLine k x) l next e s ls p c =
       let h = where_true (k == length es + 1) (Some (Costed n (es ++ x ∷ []))) next e in
       let here : Costed n (es ++ x ∷ []) ≡ next = cc (h.1) in
@@ -104,56 +135,71 @@ module _ (entries : List PlanEntry) where
       record {
         more = x ∷ c'.more;
         filters = l ∷ c'.filters;
+        ons = c'.ons;
         are = (subst (λ j. IsTextOfLine entries (FilterLine j x) l) number s, subst (λ j. AreFilters entries j c'.filters c'.more) longer c'.are);
+        are_ons = c'.are_ons;
         cost = c'.cost;
         all = c'.all ∙ append_assoc es (x ∷ []) c'.more;
         lines = ap (λ ms. l ∷ ms) c'.lines;
       }
+  advance (Costed n es) (OnLine o) l next e s ls p c =
+      let here : Conditioned n es (o ∷ []) ≡ next = cc in
+      filtered n es (l ∷ ls) p (one_more n es [] o l ls p s (subst (λ d. Completes d ls p) (sym here) c))
   advance (Costed n es) EmptyLine l next e s ls p c =
-      let here : Coded n es Empty ≡ next = cc in
-      let c' : Emptied n es ls p = subst (λ d. Completes d ls p) (sym here) c in
-      record { more = []; filters = []; are = tt; cost = c'.cost; all = c'.all ∙ sym (append-nil es); lines = ap (λ m. m ∷ ls) s ∙ ap (λ ms. codes "empty" ∷ ms) c'.lines ∙ ap (λ code. code_lines entries code ++ ending p) (sym c'.code) }
+      let here : Coded n es [] Empty ≡ next = cc in
+      filtered n es (l ∷ ls) p (emptied n es [] l ls p s (subst (λ d. Completes d ls p) (sym here) c))
   advance (Costed n es) (FirstLine first) l next e s ls p c =
-      let here : Coded n es (Steps (first ∷ [])) ≡ next = cc in
-      let c' : Joined n es (first ∷ []) ls p = subst (λ d. Completes d ls p) (sym here) c in
-      record { more = []; filters = []; are = tt; cost = c'.cost; all = c'.all ∙ sym (append-nil es); lines = ap (λ m. m ∷ ls) s.0 ∙ ap (λ ms. code_lines entries (Steps (first ∷ [])) ++ ms) c'.lines ∙ ap (λ code. code_lines entries code ++ ending p) (sym c'.code) }
-  advance (Coded n es (Steps js)) (JoinLine j) l next e s ls p c =
-      let here : Coded n es (Steps (js ++ j ∷ [])) ≡ next = cc in
-      let c' : Joined n es (js ++ j ∷ []) ls p = subst (λ d. Completes d ls p) (sym here) c in
-      record { more = j ∷ c'.more; cost = c'.cost; all = c'.all; code = c'.code ∙ ap (λ more. Steps more) (append_assoc js (j ∷ []) c'.more); lines = ap (λ m. m ∷ ls) s ∙ ap (λ ms. join_text entries j ∷ ms) c'.lines }
-  advance (Coded n es (Steps js)) (SortLine col) l next e s ls p c =
-      let here : Sorted n es (Steps js) col ≡ next = cc in
-      let c' : Ordered n es (Steps js) col ls p = subst (λ d. Completes d ls p) (sym here) c in
-      record { more = []; cost = c'.cost; all = c'.all; code = c'.coded ∙ ap (λ more. Steps more) (sym (append-nil js)); lines = ap (λ m. m ∷ ls) s ∙ ap (λ ms. sort_lines entries (Some col) ++ ms) c'.lines ∙ ap (λ o. sort_lines entries o ++ steps_lines p) (sym c'.sort) }
-  advance (Coded n es Empty) (SortLine col) l next e s ls p c =
-      let here : Sorted n es Empty col ≡ next = cc in
-      let c' : Ordered n es Empty col ls p = subst (λ d. Completes d ls p) (sym here) c in
-      record { cost = c'.cost; all = c'.all; code = c'.coded; lines = ap (λ m. m ∷ ls) s ∙ ap (λ ms. sort_lines entries (Some col) ++ ms) c'.lines ∙ ap (λ o. sort_lines entries o ++ steps_lines p) (sym c'.sort) }
-  advance (Coded n es (Steps js)) TrailLine l next e s ls p c =
-      let here : Whole (plan_of n es (Steps js) None) ≡ next = cc in
-      let c' : Stepped (plan_of n es (Steps js) None) ls p = subst (λ d. Completes d ls p) (sym here) c in
+      let here : Coded n es [] (Steps (first_step first ∷ [])) ≡ next = cc in
+      filtered n es (l ∷ ls) p (begun_code n es [] (first_step first) l ls p s.0 (subst (λ d. Completes d ls p) (sym here) c))
+  advance (Conditioned n es os) (OnLine o) l next e s ls p c =
+      let here : Conditioned n es (os ++ o ∷ []) ≡ next = cc in
+      one_more n es os o l ls p s (subst (λ d. Completes d ls p) (sym here) c)
+  advance (Conditioned n es os) EmptyLine l next e s ls p c =
+      let here : Coded n es os Empty ≡ next = cc in
+      emptied n es os l ls p s (subst (λ d. Completes d ls p) (sym here) c)
+  advance (Conditioned n es os) (FirstLine first) l next e s ls p c =
+      let here : Coded n es os (Steps (first_step first ∷ [])) ≡ next = cc in
+      begun_code n es os (first_step first) l ls p s.0 (subst (λ d. Completes d ls p) (sym here) c)
+  advance (Coded n es os (Steps js)) (JoinLine j) l next e s ls p c =
+      let here : Coded n es os (Steps (js ++ j ∷ [])) ≡ next = cc in
+      let c' : Joined n es os (js ++ j ∷ []) ls p = subst (λ d. Completes d ls p) (sym here) c in
+      record { more = j ∷ c'.more; cost = c'.cost; all = c'.all; all_ons = c'.all_ons; code = c'.code ∙ ap (λ more. Steps more) (append_assoc js (j ∷ []) c'.more); lines = ap (λ m. m ∷ ls) s ∙ ap (λ ms. join_text entries j ∷ ms) c'.lines }
+  advance (Coded n es os (Steps js)) (SortLine col) l next e s ls p c =
+      let here : Sorted n es os (Steps js) col ≡ next = cc in
+      let c' : Ordered n es os (Steps js) col ls p = subst (λ d. Completes d ls p) (sym here) c in
+      record { more = []; cost = c'.cost; all = c'.all; all_ons = c'.all_ons; code = c'.coded ∙ ap (λ more. Steps more) (sym (append-nil js)); lines = ap (λ m. m ∷ ls) s ∙ ap (λ ms. sort_lines entries (Some col) ++ ms) c'.lines ∙ ap (λ o. sort_lines entries o ++ steps_lines p) (sym c'.sort) }
+  advance (Coded n es os Empty) (SortLine col) l next e s ls p c =
+      let here : Sorted n es os Empty col ≡ next = cc in
+      let c' : Ordered n es os Empty col ls p = subst (λ d. Completes d ls p) (sym here) c in
+      record { cost = c'.cost; all = c'.all; all_ons = c'.all_ons; code = c'.coded; lines = ap (λ m. m ∷ ls) s ∙ ap (λ ms. sort_lines entries (Some col) ++ ms) c'.lines ∙ ap (λ o. sort_lines entries o ++ steps_lines p) (sym c'.sort) }
+  advance (Coded n es os (Steps js)) TrailLine l next e s ls p c =
+      let here : Whole (plan_of n es os (Steps js) None) ≡ next = cc in
+      let c' : Stepped (plan_of n es os (Steps js) None) ls p = subst (λ d. Completes d ls p) (sym here) c in
       record {
         more = [];
         cost = ap (λ (q : Plan). q.cost) c'.is;
         all = ap (λ (q : Plan). q.filters) c'.is;
+        all_ons = ap (λ (q : Plan). q.ons) c'.is;
         code = ap (λ (q : Plan). q.code) c'.is ∙ ap (λ more. Steps more) (sym (append-nil js));
         lines = ap (λ m. m ∷ ls) s ∙ ap (λ ms. codes "trail" ∷ ms) (c'.lines ∙ ap (map step_text) (sym (ap (λ (q : Plan). q.trail) c'.is))) ∙ ap (λ o. sort_lines entries o ++ steps_lines p) (sym (ap (λ (q : Plan). q.sort) c'.is));
       }
-  advance (Coded n es Empty) TrailLine l next e s ls p c =
-      let here : Whole (plan_of n es Empty None) ≡ next = cc in
-      let c' : Stepped (plan_of n es Empty None) ls p = subst (λ d. Completes d ls p) (sym here) c in
+  advance (Coded n es os Empty) TrailLine l next e s ls p c =
+      let here : Whole (plan_of n es os Empty None) ≡ next = cc in
+      let c' : Stepped (plan_of n es os Empty None) ls p = subst (λ d. Completes d ls p) (sym here) c in
       record {
         cost = ap (λ (q : Plan). q.cost) c'.is;
         all = ap (λ (q : Plan). q.filters) c'.is;
+        all_ons = ap (λ (q : Plan). q.ons) c'.is;
         code = ap (λ (q : Plan). q.code) c'.is;
         lines = ap (λ m. m ∷ ls) s ∙ ap (λ ms. codes "trail" ∷ ms) (c'.lines ∙ ap (map step_text) (sym (ap (λ (q : Plan). q.trail) c'.is))) ∙ ap (λ o. sort_lines entries o ++ steps_lines p) (sym (ap (λ (q : Plan). q.sort) c'.is));
       }
-  advance (Sorted n es code col) TrailLine l next e s ls p c =
-      let here : Whole (plan_of n es code (Some col)) ≡ next = cc in
-      let c' : Stepped (plan_of n es code (Some col)) ls p = subst (λ d. Completes d ls p) (sym here) c in
+  advance (Sorted n es os code col) TrailLine l next e s ls p c =
+      let here : Whole (plan_of n es os code (Some col)) ≡ next = cc in
+      let c' : Stepped (plan_of n es os code (Some col)) ls p = subst (λ d. Completes d ls p) (sym here) c in
       record {
         cost = ap (λ (q : Plan). q.cost) c'.is;
         all = ap (λ (q : Plan). q.filters) c'.is;
+        all_ons = ap (λ (q : Plan). q.ons) c'.is;
         coded = ap (λ (q : Plan). q.code) c'.is;
         sort = ap (λ (q : Plan). q.sort) c'.is;
         lines = ap (λ m. m ∷ ls) s ∙ ap (λ ms. codes "trail" ∷ ms) (c'.lines ∙ ap (map step_text) (sym (ap (λ (q : Plan). q.trail) c'.is)));
@@ -184,4 +230,4 @@ pub read_is_text : ReadIsText
 read_is_text entries text p e =
     let c = reads entries (lines_of text).0 1 Begun (lines_of text).1 p e in
     let whole : glued (lines_of text).0 ≡ text = sym (append-nil (glued (lines_of text).0)) ∙ ap (λ v. glued (lines_of text).0 ++ v) (sym c.0) ∙ glued_back false text in
-    (c.1.0, c.1.1, sym whole ∙ c.1.2)
+    subst (IsTextOf entries p) whole c.1

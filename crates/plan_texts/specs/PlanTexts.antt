@@ -1,10 +1,9 @@
 -- The text of a plan.
-use Rattle.std.specs.Prelude.{ℕ, zero, suc, if◌then◌else◌, List, [], ◌∷◌, ◌++◌, map, flat_map, Option, Some, None, codes}
+use Rattle.std.specs.Prelude.{ℕ, Bool, zero, suc, if◌then◌else◌, List, [], ◌∷◌, ◌++◌, map, flat_map, Option, Some, None, codes}
 use Rattle.std.specs.Fmt.{decimal}
 use Rattle.std.specs.List.{slice_get}
 use Rattle.value.specs.Names.{Name}
 use Rattle.row_ast.specs.Ast.{Expr}
-use Rattle.expr.specs.Codes.{Code, Empty, Steps}
 use Rattle.expr.specs.declared.code.Access.{Access}
 use Rattle.expr.specs.declared.code.Access.TheVariants.{Full, Index, Range}
 use Rattle.expr.specs.declared.code.CodeStep.{CodeStep}
@@ -14,8 +13,9 @@ use Rattle.row_terms.specs.declared.path.Branch.{Branch}
 use Rattle.row_terms.specs.declared.path.Branch.TheVariants.{First, Second}
 use Rattle.algebra.specs.Steps.{Step}
 use Rattle.expr_texts.specs.ExprTexts.{expr_text}
+use Rattle.plan_texts.specs.declared.plan.PlanStep.{PlanStep}
 use Rattle.plan_texts.specs.declared.plan.SortColumn.{SortColumn}
-use Rattle.plan_texts.specs.Plans.{PlanEntry, Plan}
+use Rattle.plan_texts.specs.Plans.{PlanEntry, OnCondition, PlanCode, Empty, Steps, Plan}
 
 -- ---- names by number; the empty text where there is none
 
@@ -58,6 +58,10 @@ method_text Nested = codes "nested "
 method_text (Hash conjunct) = codes "hash " ++ decimal conjunct ++ codes " "
 method_text (Merge conjunct) = codes "merge " ++ decimal conjunct ++ codes " "
 
+-- the word before a left join
+abbrev pub left_word : Bool → List ℕ
+left_word is_left = if is_left then codes "left " else []
+
 -- ---- steps of a trail
 
 -- the digit of a branch
@@ -87,6 +91,12 @@ module _ (entries : List PlanEntry) where
   abbrev pub column_name : ℕ → ℕ → Name
   column_name entry column = column_of (item_at entries entry) column
 
+  -- ---- left joins
+
+  -- the ON of an entry
+  abbrev pub on_text : OnCondition → List ℕ
+  on_text o = codes "on " ++ alias o.entry ++ codes " " ++ expr_text o.condition
+
   -- ---- the code
 
   -- the access to an entry
@@ -100,14 +110,14 @@ module _ (entries : List PlanEntry) where
   scan_text s = alias s.entry ++ codes " " ++ access_text s.entry s.access
 
   -- a step after the first
-  abbrev pub join_text : CodeStep → List ℕ
-  join_text s = method_text s.method ++ scan_text s
+  abbrev pub join_text : PlanStep → List ℕ
+  join_text j = left_word j.is_left ++ (method_text j.step.method ++ scan_text j.step)
 
   -- a line for each step of the code
-  abbrev pub code_lines : Code → List (List ℕ)
+  abbrev pub code_lines : PlanCode → List (List ℕ)
   code_lines Empty = codes "empty" ∷ []
   code_lines (Steps []) = []
-  code_lines (Steps (first ∷ joins)) = (codes "first " ++ scan_text first) ∷ map join_text joins
+  code_lines (Steps (first ∷ joins)) = (codes "first " ++ scan_text first.step) ∷ map join_text joins
 
   -- the line of a last sort, if there is one
   abbrev pub sort_lines : Option SortColumn → List (List ℕ)
@@ -118,7 +128,7 @@ module _ (entries : List PlanEntry) where
 
   -- the lines of a plan
   abbrev pub plan_lines : Plan → List (List ℕ)
-  plan_lines p = (codes "cost " ++ decimal p.cost) ∷ (filter_lines 1 p.filters ++ (code_lines p.code ++ (sort_lines p.sort ++ (codes "trail" ∷ map step_text p.trail))))
+  plan_lines p = (codes "cost " ++ decimal p.cost) ∷ (filter_lines 1 p.filters ++ (map on_text p.ons ++ (code_lines p.code ++ (sort_lines p.sort ++ (codes "trail" ∷ map step_text p.trail)))))
 
   -- the text of a plan: its lines, each with an LF
   abbrev pub plan_text : Plan → List ℕ

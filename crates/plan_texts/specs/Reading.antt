@@ -8,7 +8,6 @@ use Rattle.std.specs.Str.Parse.{digits_value}
 use Rattle.value.specs.Names.{Name}
 use Rattle.value.specs.Numbers.{number_at, number_below}
 use Rattle.row_ast.specs.Ast.{ColumnRef, Expr}
-use Rattle.expr.specs.Codes.{Code, Empty, Steps}
 use Rattle.expr.specs.declared.code.Access.{Access}
 use Rattle.expr.specs.declared.code.Access.TheVariants.{Full, Index, Range}
 use Rattle.expr.specs.declared.code.CodeStep.{CodeStep}
@@ -20,11 +19,12 @@ use Rattle.algebra.specs.Steps.{Step}
 use Rattle.expr_texts.specs.Trees.{without_offsets}
 use Rattle.expr_texts.specs.Filters.{expr_at, filter_levels, IsName, IsWritten, levels}
 use Rattle.expr_texts.specs.ExprTexts.{expr_text}
+use Rattle.plan_texts.specs.declared.plan.PlanStep.{PlanStep}
 use Rattle.plan_texts.specs.declared.plan.SortColumn.{SortColumn}
 use Rattle.plan_texts.specs.PlanTexts.{alias, column_name, scan_text, join_text, code_lines, sort_lines, step_text, plan_text}
 use Rattle.plan_texts.specs.Lines.{lines_of}
 use Rattle.plan_texts.specs.Columns.{all_columns}
-use Rattle.plan_texts.specs.Plans.{PlanEntry, Plan}
+use Rattle.plan_texts.specs.Plans.{PlanEntry, OnCondition, PlanCode, Empty, Steps, Plan}
 
 -- ---- names
 
@@ -43,9 +43,10 @@ number_of names name = numbered_from 1 names name
 pub data Line : Type 0 where
   CostLine : (cost : ℕ) → Line
   FilterLine : (number : ℕ) → (filter : Expr) → Line
+  OnLine : OnCondition → Line
   EmptyLine : Line
   FirstLine : CodeStep → Line
-  JoinLine : CodeStep → Line
+  JoinLine : PlanStep → Line
   SortLine : SortColumn → Line
   TrailLine : Line
   StepLine : Step → Line
@@ -119,6 +120,20 @@ abbrev pub cost_at : List (List ℕ) → Option Line
 cost_at (n ∷ []) = option_map CostLine (number_below (2 ^ 128) n)
 cost_at _ = None
 
+-- all rows are read
+abbrev pub is_full : Access → Bool
+is_full Full = true
+is_full (Index column) = false
+is_full (Range column bound) = false
+
+-- the line of a join that is no left join
+abbrev pub inner_line : CodeStep → Line
+inner_line s = JoinLine (record { step = s; is_left = false })
+
+-- the line of a left join, of an entry of which all rows are read
+abbrev pub left_line : CodeStep → Option Line
+left_line s = if is_full s.access then Some (JoinLine (record { step = s; is_left = true })) else None
+
 -- the columns of the entry at an index
 abbrev pub columns_from : List PlanEntry → ℕ → List Name
 columns_from [] index = []
@@ -152,6 +167,15 @@ module _ (entries : List PlanEntry) where
   filter_at None = None
   filter_at (Some p) = option_and_then (λ n. option_and_then (filter_line n) (expr_at p.1)) (number_at p.0)
 
+  -- the line of an entry's ON whose columns are found
+  abbrev pub on_line : ℕ → Expr → Option Line
+  on_line entry e = if all_columns is_found e then Some (OnLine (record { entry = entry; condition = e })) else None
+
+  -- the line of an ON, by the alias of the entry and the text of the expression
+  abbrev pub on_at : Option (List ℕ × List ℕ) → Option Line
+  on_at None = None
+  on_at (Some p) = option_and_then (λ i. option_and_then (on_line i) (expr_at p.1)) (entry_at p.0)
+
   -- the access to an entry
   abbrev pub access_at : ℕ → List (List ℕ) → Option Access
   access_at entry (word ∷ []) = if is_word (codes "full") word then Some Full else None
@@ -165,14 +189,15 @@ module _ (entries : List PlanEntry) where
   scan_at method [] = None
   scan_at method (alias ∷ access) = option_and_then (λ i. option_map (λ a. record { entry = i; access = a; method = method }) (access_at i access)) (entry_at alias)
 
-  -- the line of a join with a method
-  abbrev pub join_at : Method → List (List ℕ) → Option Line
-  join_at method scan = option_map JoinLine (scan_at method scan)
-
-  -- the line of a join with a method by a conjunct
-  abbrev pub by_conjunct : (ℕ → Method) → List (List ℕ) → Option Line
+  -- a step with a method by a conjunct
+  abbrev pub by_conjunct : (ℕ → Method) → List (List ℕ) → Option CodeStep
   by_conjunct method [] = None
-  by_conjunct method (conjunct ∷ scan) = option_and_then (λ k. join_at (method k) scan) (number_at conjunct)
+  by_conjunct method (conjunct ∷ scan) = option_and_then (λ k. scan_at (method k) scan) (number_at conjunct)
+
+  -- the step of a left join: nested, or by a hash table
+  abbrev pub left_step : List (List ℕ) → Option CodeStep
+  left_step [] = None
+  left_step (word ∷ more) = if is_word (codes "nested") word then scan_at Nested more else if is_word (codes "hash") word then by_conjunct Hash more else None
 
   -- alias.column
   abbrev pub sort_column_at : List (List ℕ) → Option SortColumn
@@ -184,22 +209,23 @@ module _ (entries : List PlanEntry) where
   sort_at (name ∷ []) = option_map SortLine (sort_column_at (slice_split (λ b. b == 46) name))
   sort_at _ = None
 
-  -- a line that is no filter's, by its parts
+  -- a line that has no expression, by its parts
   abbrev pub other_line : List (List ℕ) → Option Line
   other_line [] = None
   other_line (word ∷ more) =
       if is_word (codes "cost") word then cost_at more
       else if is_word (codes "first") word then option_map FirstLine (scan_at Nested more)
-      else if is_word (codes "nested") word then join_at Nested more
-      else if is_word (codes "hash") word then by_conjunct Hash more
-      else if is_word (codes "merge") word then by_conjunct Merge more
+      else if is_word (codes "nested") word then option_map inner_line (scan_at Nested more)
+      else if is_word (codes "hash") word then option_map inner_line (by_conjunct Hash more)
+      else if is_word (codes "merge") word then option_map inner_line (by_conjunct Merge more)
+      else if is_word (codes "left") word then option_and_then left_line (left_step more)
       else if is_word (codes "sort") word then sort_at more
       else option_map StepLine (step_at (word ∷ more))
 
   -- a line by its first word and the rest, and by its parts
   abbrev pub after_word : Option (List ℕ × List ℕ) → List (List ℕ) → Option Line
   after_word None ps = other_line ps
-  after_word (Some p) ps = if is_word (codes "filter") p.0 then filter_at (cut p.1) else other_line ps
+  after_word (Some p) ps = if is_word (codes "filter") p.0 then filter_at (cut p.1) else if is_word (codes "on") p.0 then on_at (cut p.1) else other_line ps
 
   -- the content of a line
   abbrev pub content_at : List ℕ → Option Line
@@ -214,16 +240,28 @@ module _ (entries : List PlanEntry) where
 
 -- ---- the plan
 
--- the lines so far: none, a cost and filters, then a code, then a last sort, or a plan with some of its trail
+-- the lines so far: none, a cost and filters, then ONs, then a code, then a last sort, or a plan with some of its trail
 pub data Draft : Type 0 where
   Begun : Draft
   Costed : (cost : ℕ) → (filters : List Expr) → Draft
-  Coded : (cost : ℕ) → (filters : List Expr) → (code : Code) → Draft
-  Sorted : (cost : ℕ) → (filters : List Expr) → (code : Code) → (sort : SortColumn) → Draft
+  Conditioned : (cost : ℕ) → (filters : List Expr) → (ons : List OnCondition) → Draft
+  Coded : (cost : ℕ) → (filters : List Expr) → (ons : List OnCondition) → (code : PlanCode) → Draft
+  Sorted : (cost : ℕ) → (filters : List Expr) → (ons : List OnCondition) → (code : PlanCode) → (sort : SortColumn) → Draft
   Whole : Plan → Draft
 
+-- the first step of a code, which is no join
+abbrev pub first_step : CodeStep → PlanStep
+first_step s = record { step = s; is_left = false }
+
+-- filters and ONs with one more ON, or with the beginning of a code
+abbrev pub after_filters : ℕ → List Expr → List OnCondition → Line → Option Draft
+after_filters n es os (OnLine o) = Some (Conditioned n es (os ++ o ∷ []))
+after_filters n es os EmptyLine = Some (Coded n es os Empty)
+after_filters n es os (FirstLine first) = Some (Coded n es os (Steps (first_step first ∷ [])))
+after_filters n es os _ = None
+
 -- the code with one more step, where it has steps
-abbrev pub with_step : Code → CodeStep → Option Code
+abbrev pub with_step : PlanCode → PlanStep → Option PlanCode
 with_step Empty s = None
 with_step (Steps steps) s = Some (Steps (steps ++ s ∷ []))
 
@@ -231,12 +269,12 @@ with_step (Steps steps) s = Some (Steps (steps ++ s ∷ []))
 abbrev pub with_line : Draft → Line → Option Draft
 with_line Begun (CostLine n) = Some (Costed n [])
 with_line (Costed n es) (FilterLine number e) = if number == length es + 1 then Some (Costed n (es ++ e ∷ [])) else None
-with_line (Costed n es) EmptyLine = Some (Coded n es Empty)
-with_line (Costed n es) (FirstLine first) = Some (Coded n es (Steps (first ∷ [])))
-with_line (Coded n es code) (JoinLine j) = option_map (λ c. Coded n es c) (with_step code j)
-with_line (Coded n es code) (SortLine c) = Some (Sorted n es code c)
-with_line (Coded n es code) TrailLine = Some (Whole (record { cost = n; filters = es; code = code; sort = None; trail = [] }))
-with_line (Sorted n es code c) TrailLine = Some (Whole (record { cost = n; filters = es; code = code; sort = Some c; trail = [] }))
+with_line (Costed n es) l = after_filters n es [] l
+with_line (Conditioned n es os) l = after_filters n es os l
+with_line (Coded n es os code) (JoinLine j) = option_map (λ c. Coded n es os c) (with_step code j)
+with_line (Coded n es os code) (SortLine c) = Some (Sorted n es os code c)
+with_line (Coded n es os code) TrailLine = Some (Whole (record { cost = n; filters = es; ons = os; code = code; sort = None; trail = [] }))
+with_line (Sorted n es os code c) TrailLine = Some (Whole (record { cost = n; filters = es; ons = os; code = code; sort = Some c; trail = [] }))
 with_line (Whole p) (StepLine s) = Some (Whole (record p { trail = p.trail ++ s ∷ [] }))
 with_line _ _ = None
 
@@ -271,6 +309,11 @@ IsOne names number name = (number_of names name ≡ Some number) × IsName name
 abbrev pub AreAll : {X : Type 0} → (X → Type 0) → List X → Type 0
 AreAll P [] = Unit {0}
 AreAll P (x ∷ xs) = P x × AreAll P xs
+
+-- the step of a left join: all rows are read, and it does not merge
+pub record IsLeft (s : CodeStep) : Type 0 where
+  pub full : s.access ≡ Full
+  pub no_merge : (conjunct : ℕ) → s.method ≡ Merge conjunct → ⊥
 
 -- a step whose numbers are of 64 bits, with at most two arguments
 pub record IsStep (s : Step) : Type 0 where
@@ -311,15 +354,15 @@ module _ (entries : List PlanEntry) where
   IsMethod (Merge conjunct) = conjunct < 2 ^ 64
 
   -- a first step
-  abbrev pub IsFirst : CodeStep → Type 0
-  IsFirst s = (s.method ≡ Nested) × IsScan s
+  abbrev pub IsFirst : PlanStep → Type 0
+  IsFirst s = (s.is_left ≡ false) × (s.step.method ≡ Nested) × IsScan s.step
 
   -- a step after the first
-  abbrev pub IsJoin : CodeStep → Type 0
-  IsJoin s = IsMethod s.method × IsScan s
+  abbrev pub IsJoin : PlanStep → Type 0
+  IsJoin j = (j.is_left ≡ true → IsLeft j.step) × IsMethod j.step.method × IsScan j.step
 
   -- a code with a text: no step is read, or one at least
-  abbrev pub IsCode : Code → Type 0
+  abbrev pub IsCode : PlanCode → Type 0
   IsCode Empty = Unit {0}
   IsCode (Steps []) = ⊥
   IsCode (Steps (first ∷ joins)) = IsFirst first × AreAll IsJoin joins
@@ -329,9 +372,10 @@ module _ (entries : List PlanEntry) where
   IsSort None = Unit {0}
   IsSort (Some c) = HasEntry c.entry × HasColumn c.entry c.column
 
-  -- a plan of the entries but for its filters: its numbers are of 64 bits, its cost of 128
+  -- a plan of the entries but for its conditions: its numbers are of 64 bits, its cost of 128
   pub record IsSound (p : Plan) : Type 0 where
     pub cost : p.cost < 2 ^ 128
+    pub lefts : AreAll (λ o. HasEntry o.entry) p.ons
     pub code : IsCode p.code
     pub sort : IsSort p.sort
     pub trail : AreAll IsStep p.trail
@@ -340,11 +384,16 @@ module _ (entries : List PlanEntry) where
   pub record IsPlan (p : Plan) : Type 0 where
     pub sound : IsSound p
     pub filters : AreAll IsFilter p.filters
+    pub ons : AreAll (λ o. IsFilter o.condition) p.ons
     pub few : length p.filters < 2 ^ 64
 
--- the plan, with filters without offsets
+-- the ON without offsets
+abbrev pub on_without_offsets : OnCondition → OnCondition
+on_without_offsets o = record { entry = o.entry; condition = without_offsets o.condition }
+
+-- the plan, with conditions without offsets
 abbrev pub plan_without_offsets : Plan → Plan
-plan_without_offsets p = record p { filters = map without_offsets p.filters }
+plan_without_offsets p = record p { filters = map without_offsets p.filters; ons = map on_without_offsets p.ons }
 
 -- the text of a plan is read as the plan
 abbrev pub PlansReadBack : Type 0
@@ -353,10 +402,11 @@ PlansReadBack = (entries : List PlanEntry) (p : Plan) → IsPlan entries p → p
 -- ---- the texts of lines
 
 module _ (entries : List PlanEntry) where
-  -- the text of a line; of a filter's any text that is read as the expression, whose columns are found
+  -- the text of a line; of a filter's and an ON's any text that is read as the expression, whose columns are found
   abbrev pub IsTextOfLine : Line → List ℕ → Type 0
   IsTextOfLine (CostLine n) l = (l ≡ codes "cost " ++ decimal n) × (n < 2 ^ 128)
   IsTextOfLine (FilterLine k e) l = (source : List ℕ) × (l ≡ codes "filter " ++ decimal k ++ codes " " ++ source) × (k < 2 ^ 64) × (expr_at source ≡ Some e) × (all_columns (is_found entries) e ≡ true)
+  IsTextOfLine (OnLine o) l = (source : List ℕ) × (l ≡ codes "on " ++ alias entries o.entry ++ codes " " ++ source) × (expr_at source ≡ Some o.condition) × (all_columns (is_found entries) o.condition ≡ true)
   IsTextOfLine EmptyLine l = l ≡ codes "empty"
   IsTextOfLine (FirstLine s) l = (l ≡ codes "first " ++ scan_text entries s) × (s.method ≡ Nested)
   IsTextOfLine (JoinLine j) l = l ≡ join_text entries j
@@ -377,11 +427,19 @@ module _ (entries : List PlanEntry) where
   AreFilters number (l ∷ ls) (e ∷ es) = IsTextOfLine entries (FilterLine number e) l × AreFilters (suc number) ls es
   AreFilters number _ _ = ⊥
 
-  -- the text is the plan's, each filter by any text that is read as it
-  abbrev pub IsTextOf : Plan → List ℕ → Type 0
-  IsTextOf p text =
-      (filters : List (List ℕ)) × AreFilters 1 filters p.filters
-      × (text ≡ flat_map (λ l. l ++ codes "\n") ((codes "cost " ++ decimal p.cost) ∷ (filters ++ (code_lines entries p.code ++ (sort_lines entries p.sort ++ (codes "trail" ∷ map step_text p.trail))))))
+  -- the lines of ONs
+  abbrev pub AreOns : List (List ℕ) → List OnCondition → Type 0
+  AreOns [] [] = Unit {0}
+  AreOns (l ∷ ls) (o ∷ os) = IsTextOfLine entries (OnLine o) l × AreOns ls os
+  AreOns _ _ = ⊥
+
+  -- the text is the plan's, each condition by any text that is read as it
+  pub record IsTextOf (p : Plan) (text : List ℕ) : Type 0 where
+    pub filters : List (List ℕ)
+    pub ons : List (List ℕ)
+    pub are_filters : AreFilters 1 filters p.filters
+    pub are_ons : AreOns ons p.ons
+    pub lines : text ≡ flat_map (λ l. l ++ codes "\n") ((codes "cost " ++ decimal p.cost) ∷ (filters ++ (ons ++ (code_lines entries p.code ++ (sort_lines entries p.sort ++ (codes "trail" ∷ map step_text p.trail))))))
 
 -- a text that is read as a plan is a text of the plan
 abbrev pub ReadIsText : Type 0
@@ -392,6 +450,6 @@ pub record IsLine (l : List ℕ) : Type 0 where
   pub one : (rest : List ℕ) → lines_of (l ++ 10 ∷ rest) ≡ (l ∷ (lines_of rest).0, (lines_of rest).1)
   pub utf8 : IsUtf8 l
 
--- each text of a plan is read as the plan, where each of its filters is one line
+-- each text of a plan is read as the plan, where each of its filters and ONs is one line
 abbrev pub TextsAreRead : Type 0
-TextsAreRead = (entries : List PlanEntry) (p : Plan) (text : List ℕ) → IsSound entries p → (is : IsTextOf entries p text) → AreAll IsLine is.0 → plan_at entries text ≡ Ok p
+TextsAreRead = (entries : List PlanEntry) (p : Plan) (text : List ℕ) → IsSound entries p → (is : IsTextOf entries p text) → AreAll IsLine is.filters → AreAll IsLine is.ons → plan_at entries text ≡ Ok p

@@ -2,29 +2,41 @@
 use Rattle.std.specs.Prelude.{ℕ, List, [], ◌∷◌, map, Option, Some, None}
 use denote.Ref.{Bor}
 use Rattle.row_ast.specs.View.{expr_of}
-use Rattle.expr.specs.View.{code_of}
 use Rattle.algebra.specs.View.{step_of}
 use Rattle.plan_texts.specs.declared.draft.Draft as drafts
 use Rattle.plan_texts.specs.declared.draft.Draft.TheVariants as draft
 use Rattle.plan_texts.specs.declared.line.Line as lines
 use Rattle.plan_texts.specs.declared.line.Line.TheVariants as line
+use Rattle.plan_texts.specs.declared.plan.OnCondition as conditions
 use Rattle.plan_texts.specs.declared.plan.Plan as plans
+use Rattle.plan_texts.specs.declared.plan.PlanCode as codes
+use Rattle.plan_texts.specs.declared.plan.PlanCode.TheVariants as code
 use Rattle.plan_texts.specs.declared.plan.PlanEntry as entries
-use Rattle.plan_texts.specs.Plans.{Plan, PlanEntry}
-use Rattle.plan_texts.specs.Reading.{Line, CostLine, FilterLine, EmptyLine, FirstLine, JoinLine, SortLine, TrailLine, StepLine, Draft, Begun, Costed, Coded, Sorted, Whole}
+use Rattle.plan_texts.specs.Plans.{OnCondition, Plan, PlanCode, PlanEntry, Empty, Steps}
+use Rattle.plan_texts.specs.Reading.{Line, CostLine, FilterLine, OnLine, EmptyLine, FirstLine, JoinLine, SortLine, TrailLine, StepLine, Draft, Begun, Costed, Conditioned, Coded, Sorted, Whole}
 
 -- an entry of FROM
 abbrev pub plan_entry_of : {A : Type 0} → entries.PlanEntry A → PlanEntry
 plan_entry_of e = record { alias = e.alias; columns = e.columns }
 
+-- the ON of an entry
+abbrev pub on_of : {A : Type 0} → conditions.OnCondition A → OnCondition
+on_of o = record { entry = o.entry; condition = expr_of o.condition }
+
+-- the code of a plan
+abbrev pub plan_code_of : {A : Type 0} → codes.PlanCode A → PlanCode
+plan_code_of code.Empty = Empty
+plan_code_of (code.Steps steps) = Steps steps
+
 -- a plan
 abbrev pub plan_of : {A : Type 0} → plans.Plan A → Plan
-plan_of p = record { cost = p.cost; filters = map expr_of p.filters; code = code_of p.code; sort = p.sort; trail = map step_of p.trail }
+plan_of p = record { cost = p.cost; filters = map expr_of p.filters; ons = map on_of p.ons; code = plan_code_of p.code; sort = p.sort; trail = map step_of p.trail }
 
 -- a line
 abbrev pub line_of : {A : Type 0} → lines.Line A → Line
 line_of (line.Cost n) = CostLine n
 line_of (line.Filter number e) = FilterLine number (expr_of e.value)
+line_of (line.On entry e) = OnLine (record { entry = entry; condition = expr_of e.value })
 line_of line.Empty = EmptyLine
 line_of (line.First s) = FirstLine s
 line_of (line.Join s) = JoinLine s
@@ -36,8 +48,9 @@ line_of (line.Step s) = StepLine (step_of s)
 abbrev pub draft_of : {A : Type 0} → drafts.Draft A → Draft
 draft_of draft.Begun = Begun
 draft_of (draft.Costed n es) = Costed n (map expr_of es)
-draft_of (draft.Coded n es code) = Coded n (map expr_of es) (code_of code)
-draft_of (draft.Sorted n es code c) = Sorted n (map expr_of es) (code_of code) c
+draft_of (draft.Conditioned n es os) = Conditioned n (map expr_of es) (map on_of os)
+draft_of (draft.Coded n es os c) = Coded n (map expr_of es) (map on_of os) (plan_code_of c)
+draft_of (draft.Sorted n es os c sort) = Sorted n (map expr_of es) (map on_of os) (plan_code_of c) sort
 draft_of (draft.Whole p) = Whole (plan_of p)
 
 -- ---- texts

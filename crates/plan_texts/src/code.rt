@@ -3,7 +3,6 @@
 ghost use Rattle.std.specs.Prelude.{◌≡◌, ◌&&◌, if◌then◌else◌, codes, Some, None, map, option_map, option_and_then};
 ghost use Rattle.value.specs.Numbers.{number_at};
 ghost use Rattle.plan_texts.specs.Reading as spec;
-ghost use Rattle.plan_texts.specs.Reading.{JoinLine};
 ghost use Rattle.plan_texts.specs.View.{plan_entry_of, texts_of};
 
 use crate::names::{column_number, entry_number};
@@ -103,7 +102,7 @@ pub fn read_scan<A: Heap>(
 
 /// A step that is joined by a hash table.
 pub fn read_hash<A: Heap>(entries: &[PlanEntry<A>], parts: &[&str]) -> Option<CodeStep>
-    ensures { option_map JoinLine result ≡ spec.by_conjunct (map plan_entry_of entries.now) (λ k. Method.Hash k) (texts_of parts.now) }
+    ensures { result ≡ spec.by_conjunct (map plan_entry_of entries.now) (λ k. Method.Hash k) (texts_of parts.now) }
 {
     let (conjunct, scan) = parts.split_first()?;
     let conjunct = read_number(conjunct)?;
@@ -112,9 +111,23 @@ pub fn read_hash<A: Heap>(entries: &[PlanEntry<A>], parts: &[&str]) -> Option<Co
 
 /// A step that is joined by merging.
 pub fn read_merge<A: Heap>(entries: &[PlanEntry<A>], parts: &[&str]) -> Option<CodeStep>
-    ensures { option_map JoinLine result ≡ spec.by_conjunct (map plan_entry_of entries.now) (λ k. Method.Merge k) (texts_of parts.now) }
+    ensures { result ≡ spec.by_conjunct (map plan_entry_of entries.now) (λ k. Method.Merge k) (texts_of parts.now) }
 {
     let (conjunct, scan) = parts.split_first()?;
     let conjunct = read_number(conjunct)?;
     read_scan(entries, Method::Merge { conjunct }, scan)
+}
+
+/// The step of a left join, which is nested or by a hash table.
+pub fn read_left<A: Heap>(entries: &[PlanEntry<A>], parts: &[&str]) -> Option<CodeStep>
+    ensures { result ≡ spec.left_step (map plan_entry_of entries.now) (texts_of parts.now) }
+{
+    let (word, more) = parts.split_first()?;
+    if *word == "nested" {
+        read_scan(entries, Method::Nested, more)
+    } else if *word == "hash" {
+        read_hash(entries, more)
+    } else {
+        None
+    }
 }

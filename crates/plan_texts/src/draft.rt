@@ -1,16 +1,15 @@
 //! A plan, line by line.
 
-ghost use Rattle.std.specs.Prelude.{◌≡◌, ◌∷◌, [], IfOk, map, option_map};
+ghost use Rattle.std.specs.Prelude.{◌≡◌, ◌++◌, ◌∷◌, [], IfOk, map, option_map, Some};
 ghost use Rattle.memory.specs.Gives.{Gives};
 ghost use Rattle.row_ast.specs.View.{expr_of};
-ghost use Rattle.expr.specs.Codes as codes;
-ghost use Rattle.expr.specs.View.{code_of};
+ghost use Rattle.plan_texts.specs.Plans as plans;
 ghost use Rattle.plan_texts.specs.Reading as spec;
-ghost use Rattle.plan_texts.specs.View.{draft_of, line_of, plan_of};
+ghost use Rattle.plan_texts.specs.View.{draft_of, line_of, on_of, plan_code_of, plan_of};
 
 use crate::line::Line;
-use crate::plan::{Plan, SortColumn};
-use expr::{Code, CodeStep};
+use crate::plan::{OnCondition, Plan, PlanCode, PlanStep, SortColumn};
+use expr::CodeStep;
 use memory::{Failure, Heap, Items};
 use row_ast::Expr;
 use std::alloc::AllocError;
@@ -25,17 +24,25 @@ pub enum Draft<A: Heap> {
         cost: u128,
         filters: Items<Expr<A>, A>,
     },
+    /// ONs too.
+    Conditioned {
+        cost: u128,
+        filters: Items<Expr<A>, A>,
+        ons: Items<OnCondition<A>, A>,
+    },
     /// A code too.
     Coded {
         cost: u128,
         filters: Items<Expr<A>, A>,
-        code: Code<A>,
+        ons: Items<OnCondition<A>, A>,
+        code: PlanCode<A>,
     },
     /// A last sort too.
     Sorted {
         cost: u128,
         filters: Items<Expr<A>, A>,
-        code: Code<A>,
+        ons: Items<OnCondition<A>, A>,
+        code: PlanCode<A>,
         sort: SortColumn,
     },
     /// A plan, with some of its trail.
@@ -59,13 +66,64 @@ fn with_filter<A: Heap>(
     Ok(Some(Draft::Costed { cost, filters }))
 }
 
+// The ONs with one more.
+fn with_on<A: Heap>(
+    ons: Items<OnCondition<A>, A>,
+    entry: u64,
+    condition: Box<Expr<A>, A>,
+) -> Result<Items<OnCondition<A>, A>, AllocError>
+    ensures { IfOk result (λ all. map on_of all ≡ map on_of ons ++ record { entry = entry; condition = expr_of condition.value } ∷ []) }
+{
+    let mut ons = ons;
+    let condition = Box::into_inner(condition);
+    ons.push(OnCondition { entry, condition })?;
+    Ok(ons)
+}
+
 // A code of one step.
-fn of_step<A: Heap>(alloc: A, step: CodeStep) -> Result<Code<A>, AllocError>
-    ensures { IfOk result (λ code. code_of code ≡ codes.Steps (step ∷ [])) }
+fn of_step<A: Heap>(alloc: A, step: CodeStep) -> Result<PlanCode<A>, AllocError>
+    ensures { IfOk result (λ code. plan_code_of code ≡ plans.Steps (spec.first_step step ∷ [])) }
 {
     let mut steps = Items::new(alloc);
-    steps.push(step)?;
-    Ok(Code::Steps(steps))
+    steps.push(PlanStep {
+        step,
+        is_left: false,
+    })?;
+    Ok(PlanCode::Steps(steps))
+}
+
+// Filters and ONs with one more line.
+fn conditioned_with<A: Heap>(
+    alloc: A,
+    cost: u128,
+    filters: Items<Expr<A>, A>,
+    ons: Items<OnCondition<A>, A>,
+    line: Line<A>,
+) -> Result<Option<Draft<A>>, AllocError>
+    ensures { IfOk result (λ d. option_map draft_of d ≡ spec.after_filters cost (map expr_of filters) (map on_of ons) (line_of line)) }
+{
+    match line {
+        Line::On { entry, condition } => {
+            let ons = with_on(ons, entry, condition)?;
+            Ok(Some(Draft::Conditioned { cost, filters, ons }))
+        }
+        Line::Empty => Ok(Some(Draft::Coded {
+            cost,
+            filters,
+            ons,
+            code: PlanCode::Empty,
+        })),
+        Line::First(step) => {
+            let code = of_step(alloc, step)?;
+            Ok(Some(Draft::Coded {
+                cost,
+                filters,
+                ons,
+                code,
+            }))
+        }
+        _ => Ok(None),
+    }
 }
 
 // A cost and filters with one more line.
@@ -79,33 +137,20 @@ fn costed_with<A: Heap>(
 {
     match line {
         Line::Filter { number, filter } => with_filter(cost, filters, number, filter),
-        Line::Empty => Ok(Some(Draft::Coded {
-            cost,
-            filters,
-            code: Code::Empty,
-        })),
-        Line::First(step) => {
-            let code = of_step(alloc, step)?;
-            Ok(Some(Draft::Coded {
-                cost,
-                filters,
-                code,
-            }))
-        }
-        _ => Ok(None),
+        other => conditioned_with(alloc, cost, filters, Items::new(alloc), other),
     }
 }
 
 // A code with one more step; none where it has no steps.
-fn with_step<A: Heap>(code: Code<A>, step: CodeStep) -> Result<Option<Code<A>>, AllocError>
-    ensures { IfOk result (λ c. option_map code_of c ≡ spec.with_step (code_of code) step) }
+fn with_step<A: Heap>(code: PlanCode<A>, step: PlanStep) -> Result<Option<PlanCode<A>>, AllocError>
+    ensures { IfOk result (λ c. option_map plan_code_of c ≡ spec.with_step (plan_code_of code) step) }
 {
     match code {
-        Code::Empty => Ok(None),
-        Code::Steps(steps) => {
+        PlanCode::Empty => Ok(None),
+        PlanCode::Steps(steps) => {
             let mut steps = steps;
             steps.push(step)?;
-            Ok(Some(Code::Steps(steps)))
+            Ok(Some(PlanCode::Steps(steps)))
         }
     }
 }
@@ -115,16 +160,18 @@ fn coded_with<A: Heap>(
     alloc: A,
     cost: u128,
     filters: Items<Expr<A>, A>,
-    code: Code<A>,
+    ons: Items<OnCondition<A>, A>,
+    code: PlanCode<A>,
     line: Line<A>,
 ) -> Result<Option<Draft<A>>, AllocError>
-    ensures { IfOk result (λ d. option_map draft_of d ≡ spec.with_line (spec.Coded cost (map expr_of filters) (code_of code)) (line_of line)) }
+    ensures { IfOk result (λ d. option_map draft_of d ≡ spec.with_line (spec.Coded cost (map expr_of filters) (map on_of ons) (plan_code_of code)) (line_of line)) }
 {
     match line {
         Line::Join(step) => match with_step(code, step)? {
             Some(code) => Ok(Some(Draft::Coded {
                 cost,
                 filters,
+                ons,
                 code,
             })),
             None => Ok(None),
@@ -132,12 +179,14 @@ fn coded_with<A: Heap>(
         Line::Sort(sort) => Ok(Some(Draft::Sorted {
             cost,
             filters,
+            ons,
             code,
             sort,
         })),
         Line::Trail => Ok(Some(Draft::Whole(Plan {
             cost,
             filters,
+            ons,
             code,
             sort: None,
             trail: Items::new(alloc),
@@ -151,16 +200,18 @@ fn sorted_with<A: Heap>(
     alloc: A,
     cost: u128,
     filters: Items<Expr<A>, A>,
-    code: Code<A>,
+    ons: Items<OnCondition<A>, A>,
+    code: PlanCode<A>,
     sort: SortColumn,
     line: Line<A>,
 ) -> Option<Draft<A>>
-    ensures { option_map draft_of result ≡ spec.with_line (spec.Sorted cost (map expr_of filters) (code_of code) sort) (line_of line) }
+    ensures { option_map draft_of result ≡ spec.with_line (spec.Sorted cost (map expr_of filters) (map on_of ons) (plan_code_of code) sort) (line_of line) }
 {
     match line {
         Line::Trail => Some(Draft::Whole(Plan {
             cost,
             filters,
+            ons,
             code,
             sort: Some(sort),
             trail: Items::new(alloc),
@@ -197,17 +248,22 @@ impl<A: Heap> Draft<A> {
                 _ => Ok(None),
             },
             Draft::Costed { cost, filters } => costed_with(alloc, cost, filters, line),
+            Draft::Conditioned { cost, filters, ons } => {
+                conditioned_with(alloc, cost, filters, ons, line)
+            }
             Draft::Coded {
                 cost,
                 filters,
+                ons,
                 code,
-            } => coded_with(alloc, cost, filters, code, line),
+            } => coded_with(alloc, cost, filters, ons, code, line),
             Draft::Sorted {
                 cost,
                 filters,
+                ons,
                 code,
                 sort,
-            } => Ok(sorted_with(alloc, cost, filters, code, sort, line)),
+            } => Ok(sorted_with(alloc, cost, filters, ons, code, sort, line)),
             Draft::Whole(plan) => whole_with(plan, line),
         }
     }

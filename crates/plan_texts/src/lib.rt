@@ -18,6 +18,6 @@ pub use laws::{
     law_plans_read_back, law_read_is_text, law_texts_are_read, law_unreadable_line_is_first,
 };
 pub use parts::cut;
-pub use plan::{Plan, PlanEntry, SortColumn};
+pub use plan::{OnCondition, Plan, PlanCode, PlanEntry, PlanStep, SortColumn};
 pub use reading::read_plan;
 pub use writing::write_plan;

@@ -1,18 +1,18 @@
 //! The content of a line.
 
-ghost use Rattle.std.specs.Prelude.{◌≡◌, ◌∷◌, ◌==◌, IfOk, map, option_map};
+ghost use Rattle.std.specs.Prelude.{◌≡◌, ◌∷◌, ◌==◌, IfOk, map, option_and_then, option_map};
 ghost use Rattle.std.specs.List.{slice_split};
 ghost use Rattle.plan_texts.specs.Reading as spec;
 ghost use Rattle.plan_texts.specs.View.{line_of, plan_entry_of, texts_of};
 
-use crate::code::{read_hash, read_merge, read_scan};
+use crate::code::{read_hash, read_left, read_merge, read_scan};
 use crate::named_columns::columns_found;
 use crate::names::{column_number, entry_number};
 use crate::parts::{cut, dotted, parts_of};
-use crate::plan::{PlanEntry, SortColumn};
+use crate::plan::{PlanEntry, PlanStep, SortColumn};
 use crate::steps::read_step;
 use algebra::Step;
-use expr::{CodeStep, Method};
+use expr::{Access, CodeStep, Method};
 use expr_texts::read_expr;
 use memory::Heap;
 use row_ast::Expr;
@@ -29,12 +29,17 @@ pub enum Line<A: Heap> {
         number: u64,
         filter: Box<Expr<A>, A>,
     },
+    /// The ON of an entry.
+    On {
+        entry: u64,
+        condition: Box<Expr<A>, A>,
+    },
     /// No row is read.
     Empty,
     /// The first step of the code.
     First(CodeStep),
     /// A further step of the code.
-    Join(CodeStep),
+    Join(PlanStep),
     /// The last sort.
     Sort(SortColumn),
     /// The start of the trail.
@@ -64,6 +69,29 @@ fn read_filter<A: Heap>(
         return Ok(None);
     }
     Ok(Some(Line::Filter { number, filter }))
+}
+
+// The line of an ON, after its word.
+fn read_on<A: Heap>(
+    alloc: A,
+    entries: &[PlanEntry<A>],
+    rest: &str,
+) -> Result<Option<Line<A>>, AllocError>
+    ensures { IfOk result (λ line. option_map line_of line ≡ spec.on_at (map plan_entry_of entries.now) (spec.cut rest.now)) }
+{
+    let Some((alias, source)) = cut(rest) else {
+        return Ok(None);
+    };
+    let Some(entry) = entry_number(entries, alias) else {
+        return Ok(None);
+    };
+    let Some(condition) = read_expr(alloc, source)? else {
+        return Ok(None);
+    };
+    if !columns_found(entries, &condition) {
+        return Ok(None);
+    }
+    Ok(Some(Line::On { entry, condition }))
 }
 
 // The line of the cost, after its word.
@@ -96,11 +124,29 @@ fn sort_line<A: Heap>(entries: &[PlanEntry<A>], parts: &[&str]) -> Option<Line<A
     }
 }
 
-// A line of the code, by the step that was read.
+// The line of a join that is no left join, by the step that was read.
 fn join_line<A: Heap>(step: Option<CodeStep>) -> Option<Line<A>>
-    ensures { option_map line_of result ≡ option_map spec.JoinLine step }
+    ensures { option_map line_of result ≡ option_map spec.inner_line step }
 {
-    Some(Line::Join(step?))
+    let step = step?;
+    Some(Line::Join(PlanStep {
+        step,
+        is_left: false,
+    }))
+}
+
+// The line of a left join, by the step that was read: all rows are.
+fn left_line<A: Heap>(step: Option<CodeStep>) -> Option<Line<A>>
+    ensures { option_map line_of result ≡ option_and_then spec.left_line step }
+{
+    let step = step?;
+    match step.access {
+        Access::Full => Some(Line::Join(PlanStep {
+            step,
+            is_left: true,
+        })),
+        _ => None,
+    }
 }
 
 // A step of the trail.
@@ -113,7 +159,7 @@ fn step_line<A: Heap>(alloc: A, parts: &[&str]) -> Result<Option<Line<A>>, Alloc
     }
 }
 
-// A line that is no filter's, by its parts.
+// A line that has no expression, by its parts.
 fn read_other<A: Heap>(
     alloc: A,
     entries: &[PlanEntry<A>],
@@ -137,6 +183,8 @@ fn read_other<A: Heap>(
         Ok(join_line(read_hash(entries, more)))
     } else if *word == "merge" {
         Ok(join_line(read_merge(entries, more)))
+    } else if *word == "left" {
+        Ok(left_line(read_left(entries, more)))
     } else if *word == "sort" {
         Ok(sort_line(entries, more))
     } else {
@@ -155,6 +203,9 @@ fn read_words<A: Heap>(
     if let Some((word, rest)) = cut(line) {
         if word == "filter" {
             return read_filter(alloc, entries, rest);
+        }
+        if word == "on" {
+            return read_on(alloc, entries, rest);
         }
     }
     let parts = parts_of(alloc, line)?;

@@ -1,7 +1,7 @@
 //! Plans, and the entries of their queries.
 
 use algebra::Step;
-use expr::Code;
+use expr::CodeStep;
 use memory::{Heap, Items, Text};
 use row_ast::Expr;
 
@@ -23,6 +23,33 @@ pub struct SortColumn {
     pub column: u64,
 }
 
+/// The ON of an entry that is joined by a left join; the entry counts from 1.
+#[derive(Drop)]
+pub struct OnCondition<A: Heap> {
+    /// The entry.
+    pub entry: u64,
+    /// Its ON, the columns qualified by the aliases of their entries.
+    pub condition: Expr<A>,
+}
+
+/// A step of a code, and true where it is a left join.
+#[derive(Clone, Copy, Debug, PartialEq, Eq)]
+pub struct PlanStep {
+    /// The step.
+    pub step: CodeStep,
+    /// True where it is a left join.
+    pub is_left: bool,
+}
+
+/// The code of a plan.
+#[derive(Drop)]
+pub enum PlanCode<A: Heap> {
+    /// No row is read, since a conjunct is never true.
+    Empty,
+    /// A step for each entry, in the order in which they are joined.
+    Steps(Items<PlanStep, A>),
+}
+
 /// A plan of a query.
 #[derive(Drop)]
 pub struct Plan<A: Heap> {
@@ -30,8 +57,10 @@ pub struct Plan<A: Heap> {
     pub cost: u128,
     /// The planning list, its columns qualified by the aliases of their entries.
     pub filters: Items<Expr<A>, A>,
+    /// The ONs of its left joins.
+    pub ons: Items<OnCondition<A>, A>,
     /// The order of the entries, and how each is read and joined.
-    pub code: Code<A>,
+    pub code: PlanCode<A>,
     /// The column of a last sort, if there is one.
     pub sort: Option<SortColumn>,
     /// The steps from the query's term to the plan's.

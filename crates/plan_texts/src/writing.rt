@@ -3,14 +3,13 @@
 ghost use Rattle.std.specs.Prelude.{◌≡◌, ◌++◌, IfOk, OnOk, map, option_map, codes, flat_map, if◌then◌else◌};
 ghost use Rattle.std.specs.Fmt.{decimal};
 ghost use Rattle.row_ast.specs.View.{expr_of};
-ghost use Rattle.expr.specs.View.{code_of};
 ghost use Rattle.algebra.specs.View.{step_of};
 ghost use Rattle.plan_texts.specs.PlanTexts as spec;
-ghost use Rattle.plan_texts.specs.View.{plan_entry_of, plan_of};
+ghost use Rattle.plan_texts.specs.View.{on_of, plan_code_of, plan_entry_of, plan_of};
 
-use crate::plan::{Plan, PlanEntry, SortColumn};
+use crate::plan::{OnCondition, Plan, PlanCode, PlanEntry, PlanStep, SortColumn};
 use algebra::Step;
-use expr::{Access, Code, CodeStep, Method};
+use expr::{Access, CodeStep, Method};
 use expr_texts::push_expr;
 use itoa::Buffer;
 use memory::{Heap, Text, push_number, push_str};
@@ -138,17 +137,25 @@ fn push_method<A: Heap>(out: &mut Vec<u8, A>, method: Method) -> Result<(), Allo
     }
 }
 
+// The word before a left join, or nothing.
+fn left_word(is_left: bool) -> &'static str
+    ensures { result.now ≡ spec.left_word is_left }
+{
+    if is_left { "left " } else { "" }
+}
+
 // A line for each step after the first.
 fn push_joins<A: Heap>(
     out: &mut Vec<u8, A>,
     entries: &[PlanEntry<A>],
-    steps: &[CodeStep],
+    joins: &[PlanStep],
 ) -> Result<(), AllocError>
-    ensures { OnOk result (out.new.items ≡ out.old.items ++ spec.text_of_lines (map (spec.join_text (map plan_entry_of entries.now)) steps.now)) }
+    ensures { OnOk result (out.new.items ≡ out.old.items ++ spec.text_of_lines (map (spec.join_text (map plan_entry_of entries.now)) joins.now)) }
 {
-    for step in steps {
-        push_method(out, step.method)?;
-        push_scan(out, entries, *step)?;
+    for join in joins {
+        push_str(out, left_word(join.is_left))?;
+        push_method(out, join.step.method)?;
+        push_scan(out, entries, join.step)?;
         push_str(out, "\n")?;
     }
     Ok(())
@@ -158,17 +165,17 @@ fn push_joins<A: Heap>(
 fn push_code<A: Heap>(
     out: &mut Vec<u8, A>,
     entries: &[PlanEntry<A>],
-    code: &Code<A>,
+    code: &PlanCode<A>,
 ) -> Result<(), AllocError>
-    ensures { OnOk result (out.new.items ≡ out.old.items ++ spec.text_of_lines (spec.code_lines (map plan_entry_of entries.now) (code_of code.now))) }
+    ensures { OnOk result (out.new.items ≡ out.old.items ++ spec.text_of_lines (spec.code_lines (map plan_entry_of entries.now) (plan_code_of code.now))) }
 {
     match code {
-        Code::Empty => push_str(out, "empty\n"),
-        Code::Steps(steps) => match steps.as_slice() {
+        PlanCode::Empty => push_str(out, "empty\n"),
+        PlanCode::Steps(steps) => match steps.as_slice() {
             [] => Ok(()),
             [first, joins @ ..] => {
                 push_str(out, "first ")?;
-                push_scan(out, entries, *first)?;
+                push_scan(out, entries, first.step)?;
                 push_str(out, "\n")?;
                 push_joins(out, entries, joins)
             }
@@ -284,6 +291,35 @@ fn push_filters<A: Heap>(out: &mut Vec<u8, A>, filters: &[Expr<A>]) -> Result<()
     Ok(())
 }
 
+// The ON of an entry.
+fn push_on<A: Heap>(
+    out: &mut Vec<u8, A>,
+    entries: &[PlanEntry<A>],
+    on: &OnCondition<A>,
+) -> Result<(), AllocError>
+    ensures { OnOk result (out.new.items ≡ out.old.items ++ spec.on_text (map plan_entry_of entries.now) (on_of on.now)) }
+{
+    push_str(out, "on ")?;
+    push_alias(out, entries, on.entry)?;
+    push_str(out, " ")?;
+    push_expr(out, &on.condition)
+}
+
+// A line for each ON.
+fn push_ons<A: Heap>(
+    out: &mut Vec<u8, A>,
+    entries: &[PlanEntry<A>],
+    ons: &[OnCondition<A>],
+) -> Result<(), AllocError>
+    ensures { OnOk result (out.new.items ≡ out.old.items ++ spec.text_of_lines (map (spec.on_text (map plan_entry_of entries.now)) (map on_of ons.now))) }
+{
+    for on in ons {
+        push_on(out, entries, on)?;
+        push_str(out, "\n")?;
+    }
+    Ok(())
+}
+
 /// The text of a plan, its columns and entries by the names of the query's entries.
 pub fn write_plan<A: Heap>(
     alloc: A,
@@ -297,6 +333,7 @@ pub fn write_plan<A: Heap>(
     push_cost(&mut out, plan.cost)?;
     push_str(&mut out, "\n")?;
     push_filters(&mut out, plan.filters.as_slice())?;
+    push_ons(&mut out, entries, plan.ons.as_slice())?;
     push_code(&mut out, entries, &plan.code)?;
     push_sort(&mut out, entries, plan.sort)?;
     push_str(&mut out, "trail\n")?;

@@ -1,5 +1,5 @@
 -- The best code of a query: of all that a plan may have, the least by cost, and then by its numbers.
-use Rattle.std.specs.Prelude.{◌≡◌, ℕ, zero, suc, true, List, [], ◌∷◌, length, map, flat_map, filter, Option, Some}
+use Rattle.std.specs.Prelude.{◌≡◌, ◌≤◌, ℕ, zero, suc, true, List, [], ◌∷◌, ◌++◌, length, map, flat_map, filter, Option, Some}
 use Rattle.std.specs.List.{range_with_len}
 use Rattle.std.specs.declared.cmp.Ordering.{Ordering}
 use Rattle.bags.specs.Least.{least}
@@ -8,9 +8,11 @@ use Rattle.expr.specs.declared.code.Access.TheVariants.{Full, Index, Range}
 use Rattle.expr.specs.declared.code.Method.{Method}
 use Rattle.expr.specs.declared.code.Method.TheVariants.{Nested, Hash, Merge}
 use Rattle.expr.specs.declared.code.CodeStep.{CodeStep}
+use Rattle.expr.specs.Bound.{BoundExpr}
 use Rattle.expr.specs.Codes.{Code, Empty, Steps}
+use Rattle.expr.specs.Conjuncts.{conjuncts_of}
 use Rattle.trailcheck.specs.Admissible.{is_admissible}
-use Rattle.trailcheck.specs.Settings.{Setting}
+use Rattle.trailcheck.specs.Settings.{Setting, inner_count}
 use Rattle.joindp.specs.Best.{IsLeast, Problem, estimates, plan_cmp}
 use Rattle.joindp.specs.Cost.{cost}
 
@@ -22,13 +24,22 @@ lists_of (suc count) xs = flat_map (λ x. map (λ ys. x ∷ ys) (lists_of count 
 abbrev pub step_of : (entry : ℕ) → Access → Method → CodeStep
 step_of entry access method = record { entry = entry; access = access; method = method }
 
+-- a left joined entry, read in full: nested loops, or a hash table on a conjunct of its ON
+abbrev pub left_methods : (on : BoundExpr) → List Method
+left_methods on = Nested ∷ map Hash (range_with_len 1 (length (conjuncts_of on)))
+
+-- a step for each left joined entry from that of the index on
+abbrev pub tails : (index : ℕ) → (ons : List BoundExpr) → List (List CodeStep)
+tails i [] = [] ∷ []
+tails i (on ∷ ons) = flat_map (λ s. map (λ ss. s ∷ ss) (tails (suc i) ons)) (map (step_of (suc i) Full) (left_methods on))
+
 module _ (at : Setting) where
-  -- the numbers of the conditions, and of the entries
+  -- the numbers of the conditions, and of the entries that are not left joined
   abbrev pub condition_numbers : List ℕ
   condition_numbers = range_with_len 1 (length at.conditions)
 
   abbrev pub entry_numbers : List ℕ
-  entry_numbers = range_with_len 1 (length at.frame)
+  entry_numbers = range_with_len 1 (inner_count at)
 
   -- all rows; by an index on a column, whole or bounded by a condition
   abbrev pub accesses_by : (column : ℕ) → List Access
@@ -45,9 +56,13 @@ module _ (at : Setting) where
   abbrev pub steps : List CodeStep
   steps = flat_map (λ entry. flat_map (λ access. map (step_of entry access) methods) accesses) entry_numbers
 
-  -- the codes that a plan may have: no rows, or a step for each entry
+  -- no rows; or a step for each entry, the left joined ones last
+  abbrev pub all_codes : List Code
+  all_codes = Empty ∷ flat_map (λ ss. map (λ ts. Steps (ss ++ ts)) (tails (inner_count at) at.lefts)) (lists_of (inner_count at) steps)
+
+  -- those that a plan may have
   abbrev pub codes : List Code
-  codes = filter (is_admissible at) (Empty ∷ map Steps (lists_of (length at.frame) steps))
+  codes = filter (is_admissible at) all_codes
 
 -- codes by cost, and then by their numbers
 abbrev pub by_cost : Problem → Code → Code → Ordering
@@ -63,6 +78,6 @@ best p = least (by_cost p) (codes p.setting)
 abbrev pub LeastIsBest : Type 0
 LeastIsBest = (p : Problem) (code : Code) → is_admissible p.setting code ≡ true → IsLeast p (cost (estimates p) code) code → best p ≡ Some code
 
--- every problem has a best code, which a plan may have
+-- every problem of no more left joined entries than entries has a best code, which a plan may have
 abbrev pub BestIsThere : Type 0
-BestIsThere = (p : Problem) → (code : Code) × (best p ≡ Some code) × (is_admissible p.setting code ≡ true)
+BestIsThere = (p : Problem) → length p.setting.lefts ≤ length p.setting.frame → (code : Code) × (best p ≡ Some code) × (is_admissible p.setting code ≡ true)

@@ -11,7 +11,7 @@ ghost use Rattle.planning.specs.LastSort as spec;
 use expr::{Code, CodeStep, ColumnId, MovableExpr};
 use joins::{is_ordered_by, order_after, order_of};
 use memory::Heap;
-use trailcheck::{Setting, entry_index};
+use trailcheck::{Setting, entry_index, inner_steps};
 
 // An order, after further steps.
 fn order_after_all<A: Heap>(
@@ -62,7 +62,8 @@ pub(crate) fn last_sort<A: Heap>(
     match code {
         Code::Empty => None,
         Code::Steps(steps) => {
-            let order = steps_order(setting.conditions.as_slice(), steps.as_slice());
+            let inner = inner_steps(setting, steps.as_slice());
+            let order = steps_order(setting.conditions.as_slice(), inner);
             unless_ordered(order, wanted)
         }
     }

@@ -1,9 +1,10 @@
 //! The plan of a query.
 
-ghost use Rattle.std.specs.Prelude.{◌≡◌, ◌≤◌, [], IfOk, length, map};
-ghost use Rattle.expr.specs.Conjuncts.{left_ons, movable_conjuncts};
+ghost use Rattle.std.specs.Prelude.{◌≡◌, ◌≤◌, IfOk, length, map};
+ghost use Rattle.expr.specs.Conjuncts.{movable_conjuncts};
 ghost use Rattle.expr.specs.View.{bound_query_of, code_of};
 ghost use Rattle.stats.specs.View.{stats_of};
+ghost use Rattle.rewrite.specs.Written.{left_conditions};
 ghost use Rattle.algebra.specs.PlanningList.{planning_list};
 ghost use Rattle.algebra.specs.View.{step_of};
 ghost use Rattle.trailcheck.specs.View.{setting_of};
@@ -32,7 +33,7 @@ pub fn law_least_is_best()
     ensures { LeastIsBest }
 {}
 
-/// Every problem has a best code, which a plan may have.
+/// Every problem of no more left joined entries than entries has a best code, which a plan may have.
 #[tactic(auto, using(crate::proofs::Existing::best_is_there))]
 pub fn law_best_is_there()
     ensures { BestIsThere }
@@ -68,15 +69,16 @@ impl<'p, A: Heap> Model for Plan<'p, A> {
 }
 
 impl<'p, A: Heap> Plan<'p, A> {
-    /// The plan of a query without left joins under a setting with its planning list, by the statistics of each entry. It fails
-    /// where memory runs out.
+    /// The plan of a query under a setting with its planning list and the ONs of its left joined entries, by the statistics of each
+    /// entry. It fails where memory runs out.
     pub fn new(
         alloc: A,
         query: &'p BoundQuery<A>,
         setting: &'p Setting<A>,
         statistics: &'p [&'p Stats<A>],
     ) -> Result<Plan<'p, A>, AllocError>
-        requires joins { left_ons (bound_query_of query.now) ≡ [] }
+        requires lefts { (setting_of setting.now).lefts ≡ left_conditions (bound_query_of query.now) }
+        requires among { length setting.now.lefts ≤ length setting.now.frame }
         requires conditions { (setting_of setting.now).conditions ≡ planning_list (bound_query_of query.now) }
         requires each { length statistics.now ≡ length setting.now.frame }
         requires entries { length setting.now.frame ≤ most_entries }

@@ -11,10 +11,10 @@ use std::alloc::AllocError;
 use value::{Comparison, Value};
 
 /// The two columns of an equality of columns.
-pub fn column_sides<A: Heap>(condition: &MovableExpr<A>) -> Option<(ColumnId, ColumnId)>
-    ensures { result ≡ column_sides condition.now }
+pub fn equated_columns<A: Heap>(expression: &BoundExpr<A>) -> Option<(ColumnId, ColumnId)>
+    ensures { result ≡ column_sides (bound_expr_of expression.now) }
 {
-    match condition.expression() {
+    match expression {
         BoundExpr::Comparison {
             operator: Comparison::Equal,
             left,
@@ -29,6 +29,13 @@ pub fn column_sides<A: Heap>(condition: &MovableExpr<A>) -> Option<(ColumnId, Co
         },
         _ => None,
     }
+}
+
+/// The same of a condition that cannot fault.
+pub fn column_sides<A: Heap>(condition: &MovableExpr<A>) -> Option<(ColumnId, ColumnId)>
+    ensures { result ≡ column_sides condition.now }
+{
+    equated_columns(condition.expression())
 }
 
 fn unless_null<A: Heap>(column: ColumnId, value: &Value<A>) -> Option<(ColumnId, &Value<A>)>

@@ -17,7 +17,8 @@ mod same;
 pub use carrying::carry_inward;
 pub use connectives::{both, conjunct_count, factored, parted};
 pub use equalities::{
-    column_equals, column_sides, columns_equal, is_never_true, literal_side, not_null_form,
+    column_equals, column_sides, columns_equal, equated_columns, is_never_true, literal_side,
+    not_null_form,
 };
 pub use folding::fold;
 pub use forms::{folded, inward};
@@ -28,7 +29,7 @@ pub use laws::{
     law_same_is_equal,
 };
 pub use null_rows::rejecting_columns;
-pub use numbering::numbered;
+pub use numbering::{conjunct_numbered, numbered};
 pub use offsets::copy_without_offsets;
 pub use operands::{Operands, is_same_node, operands_in};
 pub use rebuilding::{Rule, rebuild};

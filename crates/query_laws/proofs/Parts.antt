@@ -94,7 +94,7 @@ nothing_denied b c (Some privilege) e = absurd (cc)
 abbrev Granted : Catalog → Name → Bound → Type 0
 Granted cat role b = denial cat role (needed b.entries b.query) ≡ None
 
-permitted_bound : (cat : Catalog) (role : Name) (r : Result Bound BindError) (b : Bound) → permitted cat role r ≡ Ok b → (r ≡ Ok b) × Granted cat role b
+pub permitted_bound : (cat : Catalog) (role : Name) (r : Result Bound BindError) (b : Bound) → permitted cat role r ≡ Ok b → (r ≡ Ok b) × Granted cat role b
 permitted_bound cat role (Err fault) b e = absurd (cc)
 permitted_bound cat role (Ok c) b e =
     let lacking = denial cat role (needed c.entries c.query) in

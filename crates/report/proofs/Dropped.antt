@@ -1,5 +1,5 @@
 -- Rows on which the first fragile conjunct is false or null make no difference to the answer.
-use Rattle.std.proofs.Common.{◌≡◌, ℕ, zero, suc, ◌+◌, eqb-true, Bool, true, false, ◌&&◌, nat_lt, cond, List, [], ◌∷◌, map, filter, filter_map, length, Option, Some, None, Ok, Err, refl, sym, ap, ap₂, ◌∙◌, subst, arith}
+use Rattle.std.proofs.Common.{◌≡◌, ℕ, zero, suc, ◌+◌, eqb-true, Bool, true, false, ◌&&◌, nat_lt, cond, List, [], ◌∷◌, map, filter, filter_map, length, not, Option, Some, None, Ok, Err, refl, sym, ap, ap₂, ◌∙◌, subst, arith}
 use Rattle.std.specs.List.{cons_option}
 use Rattle.std.proofs.lemmas.Bool.{not-false, not-true}
 use Rattle.bags.specs.Least.{least}
@@ -17,7 +17,7 @@ use Rattle.tuples.specs.Slots.{slot_at}
 use Rattle.tuples.specs.World.{World, combination_at}
 use Rattle.tuples.specs.declared.slot.Slot.{Slot}
 use Rattle.tuples.specs.declared.slot.Slot.TheVariants as slot
-use Rattle.row_marks.specs.Marked.{drops, drops_first, entry_rows, is_dropping, is_entry, keeps_row, mark_on, marked_entry}
+use Rattle.row_marks.specs.Marked.{drops, drops_first, entry_rows, is_dropping, is_entry, is_left, keeps_row, mark_on, marked_entry}
 use Rattle.row_marks.proofs.MarkOutcomes.{mark_is}
 use Rattle.report.specs.Answer.{answer, rows_of_kept}
 use Rattle.report.specs.QueryStages.{keeps, truth_in, unless_dropped, where_fate, where_stage}
@@ -92,7 +92,8 @@ nothing_given : (w : World) (slots : List Slot) → wants_all (keeps_row w) slot
 nothing_given w slots h =
     let u = unwanted_from (keeps_row w) 0 slots h in
     let same : u.index + 0 ≡ u.index = omega arith in
-    none_given w slots u.index u.number u.has (fragile_conjuncts w.query) (not-false (drops w u.index u.number) (subst (λ k. keeps_row w k u.number ≡ false) same u.unwanted))
+    let dropped = not-false (drops w u.index u.number) (subst (λ k. keeps_row w k u.number ≡ false) same u.unwanted) in
+    none_given w slots u.index u.number u.has (fragile_conjuncts w.query) (and_right (not (is_left w u.index)) (drops_first w (fragile_conjuncts w.query) u.index u.number) dropped)
 
 -- ---- the answer
 

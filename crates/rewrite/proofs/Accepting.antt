@@ -1,5 +1,5 @@
 -- The checker accepts a trail that leads to the shape, within its limits.
-use Rattle.std.proofs.Common.{◌≡◌, ◌∙◌, refl, sym, ap, subst, ℕ, zero, suc, ◌+◌, ◌*◌, ◌≤◌, true, map, List, [], ◌∷◌, ◌++◌, length, length-append, Ok, if◌then◌else◌, arith}
+use Rattle.std.proofs.Common.{◌≡◌, ◌∙◌, refl, sym, ap, subst, ℕ, zero, suc, ◌+◌, ◌-◌, ◌*◌, ◌≤◌, true, map, List, [], ◌∷◌, ◌++◌, length, length-append, Ok, if◌then◌else◌, arith}
 use Rattle.std.proofs.lemmas.List.{length-map}
 use Rattle.value.specs.Limits.{most_conjuncts, most_entries}
 use Rattle.expr.specs.Bound.{BoundExpr}
@@ -7,8 +7,8 @@ use Rattle.expr.specs.BoundQuery.{BoundQuery}
 use Rattle.expr.specs.Codes.{Code}
 use Rattle.expr.specs.Conjuncts.{movable_conjuncts}
 use Rattle.predicates.specs.Offsets.{without_offsets}
-use Rattle.row_terms.specs.Terms.{Term, Filtered}
-use Rattle.row_terms.specs.Written.{joins, filters, left_conditions, all_joins, written}
+use Rattle.row_terms.specs.Terms.{Term, Filtered, LeftJoined}
+use Rattle.row_terms.specs.Written.{guarded_entry, joins, left_joins, filters, left_conditions, all_joins, written}
 use Rattle.algebra.specs.PlanningList.{planning_list}
 use Rattle.algebra.specs.Steps.{Step}
 use Rattle.trailcheck.specs.declared.verdict.Reason.TheVariants as reason
@@ -24,12 +24,10 @@ use Rattle.rewrite.specs.Laws.{PlansAreAccepted, PlansAreShort, most_plan_steps}
 use Rattle.rewrite.specs.Placing.{placing}
 use Rattle.rewrite.specs.Simplifying.{simplifying}
 use Rattle.rewrite.specs.Trails.{led}
-use Rattle.rewrite.proofs.Leads.{led_then}
 use Rattle.rewrite.proofs.Lengths.{most_placing, placing_short}
 use Rattle.rewrite.proofs.Limited.{replays}
-use Rattle.rewrite.proofs.Places.{places_each}
 use Rattle.rewrite.proofs.SimplifiedLength.{simplifying_length, planning_length}
-use Rattle.rewrite.proofs.SameCombinations.{joins_alone, simplified}
+use Rattle.rewrite.proofs.SameCombinations.{whole}
 
 -- ---- the nodes of a written term
 
@@ -41,6 +39,10 @@ pub nodes-joins : (n : ℕ) → node_count (joins n) ≤ suc (3 * n)
 nodes-joins zero = omega arith
 nodes-joins (suc zero) = omega arith
 nodes-joins (suc (suc n)) = let h = nodes-joins (suc n) in omega (arith, h)
+
+pub nodes-left_joins : (ons : List BoundExpr) (i : ℕ) (x : Term) → node_count (left_joins i ons x) ≡ 3 * length ons + node_count x
+nodes-left_joins [] i x = omega arith
+nodes-left_joins (on ∷ ons) i x = let h = nodes-left_joins ons (suc i) (LeftJoined on x (guarded_entry i)) in omega (arith, h)
 
 -- ---- the verdict
 
@@ -66,16 +68,15 @@ pub plans_are_short : PlansAreShort
 plans_are_short = both_short
 
 pub plans_accepted : PlansAreAccepted
-plans_accepted at q code none planned few_entries few_conjuncts admissible =
+plans_accepted at q code lefts among planned few_entries few_conjuncts admissible =
+    let count = length at.frame in
     let p = short at q code planned few_entries few_conjuncts admissible in
     let s = simplifying_length q few_conjuncts in
     let a = length-append (simplifying q) (placing at code) in
-    let f = nodes-filters (map without_offsets (movable_conjuncts q)) (all_joins (length at.frame) (left_conditions q)) in
-    let o = ap node_count (joins_alone (length at.frame) q none) in
+    let f = nodes-filters (map without_offsets (movable_conjuncts q)) (all_joins count (left_conditions q)) in
+    let o = nodes-left_joins (left_conditions q) (count - length (left_conditions q)) (joins (count - length (left_conditions q))) in
     let m = length-map (movable_conjuncts q) without_offsets in
-    let j = nodes-joins (length at.frame) in
-    accepts at (written (length at.frame) q) (simplifying q ++ placing at code) code admissible
-    (led_then at.frame (simplifying q) (placing at code) (written (length at.frame) q) (filters (planning_list q) (joins (length at.frame))) (simplified at.frame (length at.frame) q none)
-    ∙ ap (λ l. led at.frame (placing at code) (filters l (joins (length at.frame)))) (sym planned)
-    ∙ places_each at code admissible)
-    (omega (arith, a, f, o, m, j, p, s)) (omega (arith, a, p, s))
+    let j = nodes-joins (count - length (left_conditions q)) in
+    let n : length (left_conditions q) ≤ count = subst (λ l. length l ≤ count) lefts among in
+    accepts at (written count q) (simplifying q ++ placing at code) code admissible (whole at q code lefts planned admissible)
+    (omega (arith, a, f, o, m, j, p, s, n)) (omega (arith, a, p, s))

@@ -15,7 +15,8 @@ use Rattle.row_terms.specs.declared.path.Branch.TheVariants.{First, Second}
 use Rattle.row_terms.specs.Terms.{Term}
 use Rattle.algebra.specs.Steps.{Step}
 use Rattle.trailcheck.specs.Settings.{Setting}
-use Rattle.rewrite.specs.Placing.{code_entries, from_entries, opened_back, placing, without, exchanging, raising, ordering, opening_one, opening, settled, settling, settling_all, clearing, emptying}
+use Rattle.trailcheck.specs.Shapes.{inner_steps, left_steps}
+use Rattle.rewrite.specs.Placing.{all_opened, arranging, code_entries, joining, placing, without, exchanging, raising, ordering, opening_one, opening, settled, settling, settling_all, clearing, emptying}
 use Rattle.rewrite.specs.Trails.{at_root, all_down, below_filters, below_path}
 use Rattle.rewrite.proofs.Below.{below_further, both_added, filters_below}
 use Rattle.rewrite.proofs.Distinct.{from_next}
@@ -144,19 +145,30 @@ without_none c n (i ∷ is) h = go (i == c) h (λ k. without_none c (n + 1) is k
 pub without_absent : (c : ℕ) (is : List ℕ) → position (λ i. i == c) is ≡ None → without c is ≡ is
 without_absent c is h = without_none c 0 is (sym (position_from-zero (λ i. i == c) is) ∙ h)
 
+-- ---- steps below left joined entries
+
+module _ (at : Setting) (inner : List ℕ) where
+  pub arranging_first : (lefts : List ℕ) → length lefts < 1 → arranging at lefts inner ≡ joining at inner
+  arranging_first lefts h = ap (λ l. arranging at l inner) (none_there lefts h)
+
+  pub arranging_split : (lefts : List ℕ) → 1 ≤ length lefts → arranging at lefts inner ≡ all_down Second (opening_one at.frame (get_or lefts 0 0)) ++ all_down First (arranging at (rest_of lefts) inner)
+  arranging_split lefts h = ap (λ l. arranging at l inner) (first_rest lefts 0 h)
+
+  module _ (path : List Branch) (old : List Step) where
+    pub arranging_added : (lefts : List ℕ) (side deeper : List Branch) (mid new : List Step) → 1 ≤ length lefts → side ≡ path ++ Second ∷ [] → deeper ≡ path ++ First ∷ [] →
+        mid ≡ old ++ below_path side (opening_one at.frame (get_or lefts 0 0)) → new ≡ mid ++ below_path deeper (arranging at (rest_of lefts) inner) → new ≡ old ++ below_path path (arranging at lefts inner)
+    arranging_added lefts side deeper mid new h s d m n =
+        both_added path old (all_down Second (opening_one at.frame (get_or lefts 0 0))) (all_down First (arranging at (rest_of lefts) inner)) mid new
+        (branch_added path old Second side (opening_one at.frame (get_or lefts 0 0)) mid s m)
+        (branch_added path mid First deeper (arranging at (rest_of lefts) inner) new d n)
+        ∙ ap (λ ss. old ++ below_path path ss) (sym (arranging_split lefts h))
+
 -- ---- all steps to a shape
 
 module _ (at : Setting) where
-  placing_is : (ss : List CodeStep) → (length ss == 0) ≡ false → placing at (codes.Steps ss) ≡
-      below_filters (length at.conditions) (ordering (code_entries at ss) (from_entries at) ++ opening at.frame (code_entries at ss))
-      ++ settling_all (length at.frame) at.conditions (opened_back at (code_entries at ss))
-  placing_is [] h = absurd (both_ways (0 == 0) h (eq-eqb 0 0 refl))
-  placing_is (s ∷ ss) h = refl
-
-  pub placing_added : (ss : List CodeStep) → (length ss == 0) ≡ false → (path : List Branch) (old one two new : List Step) → path ≡ replicate (length at.conditions) First →
-      one ≡ old ++ below_path path (ordering (code_entries at ss) (from_entries at)) → two ≡ one ++ below_path path (opening at.frame (code_entries at ss)) →
-      new ≡ two ++ settling_all (length at.frame) at.conditions (opened_back at (code_entries at ss)) → new ≡ old ++ placing at (codes.Steps ss)
-  placing_added ss some path old one two new p a b c =
-      filters_added old two new (settling_all (length at.frame) at.conditions (opened_back at (code_entries at ss))) (placing at (codes.Steps ss)) (length at.conditions) path
-      (ordering (code_entries at ss) (from_entries at) ++ opening at.frame (code_entries at ss)) p
-      (both_added path old (ordering (code_entries at ss) (from_entries at)) (opening at.frame (code_entries at ss)) one two a b) c (placing_is ss some)
+  pub placing_added : (ss : List CodeStep) (path : List Branch) (old mid new : List Step) → path ≡ replicate (length at.conditions) First →
+      mid ≡ old ++ below_path path (arranging at (code_entries at (left_steps at ss)) (code_entries at (inner_steps at ss))) →
+      new ≡ mid ++ settling_all (length at.frame) at.conditions (all_opened at (code_entries at (inner_steps at ss))) → new ≡ old ++ placing at (codes.Steps ss)
+  placing_added ss path old mid new p a c =
+      filters_added old mid new (settling_all (length at.frame) at.conditions (all_opened at (code_entries at (inner_steps at ss)))) (placing at (codes.Steps ss)) (length at.conditions) path
+      (arranging at (code_entries at (left_steps at ss)) (code_entries at (inner_steps at ss))) p a c refl

@@ -1,4 +1,4 @@
--- The entries of an admissible code: each entry of the query, once.
+-- The entries of an admissible code before the left joined ones: each of them, once.
 use Rattle.std.proofs.Common.{◌≡◌, ◌∙◌, refl, sym, ap, ℕ, zero, suc, ◌+◌, ◌-◌, ◌<◌, ◌≤◌, ◌⊎◌, inl, inr, Bool, true, false, ◌&&◌, ◌||◌, not, ◌==◌, nat_lt, nat_le, List, [], ◌∷◌, ◌++◌, length, map, reverse, if◌then◌else◌, arith}
 use Rattle.std.specs.List.{list_all, range_with_len}
 use Rattle.std.proofs.lemmas.Bool.{both_ways, cases_lt, eqb-true, eq-eqb, leb-true, lt-ltb, ltb-true, not-true, or_cases, or_left, or_right, or_parts}
@@ -9,7 +9,7 @@ use Rattle.predicates.proofs.Movables.{and_left, and_right}
 use Rattle.predicates.proofs.Keeping.{both}
 use Rattle.trailcheck.specs.Admissible.{is_connected, is_next, is_allowed_access, is_allowed_method, is_allowed_step, are_allowed_steps}
 use Rattle.trailcheck.specs.Entries.{is_among}
-use Rattle.trailcheck.specs.Settings.{Setting}
+use Rattle.trailcheck.specs.Settings.{Setting, inner_count}
 use Rattle.trailcheck.specs.Shapes.{entry_index}
 use Rattle.trailcheck.proofs.Numbers.{numbers_more}
 use Rattle.trailcheck.proofs.Placed.{among_more}
@@ -94,15 +94,15 @@ index_below count n h =
     let b = leb-true n count (and_right (nat_le 1 n) (nat_le n count) h) in
     omega (arith, a, b)
 
-pub are_new : (at : Setting) (placed : List ℕ) (ss : List CodeStep) → are_allowed_steps at placed ss ≡ true → AreNew (length at.frame) placed ss
+pub are_new : (at : Setting) (placed : List ℕ) (ss : List CodeStep) → are_allowed_steps at placed ss ≡ true → AreNew (inner_count at) placed ss
 are_new at placed [] h = tt
 are_new at placed (s ∷ ss) h =
     let i = entry_index s in
     let step = and_left (is_allowed_step at placed s) (are_allowed_steps at (placed ++ i ∷ []) ss) h in
     let order = and_left (is_next at placed s && is_connected at placed i) (is_allowed_access at i s.access && is_allowed_method at placed i s.method) step in
     let next = and_left (is_next at placed s) (is_connected at placed i) order in
-    let there = nat_le 1 s.entry && nat_le s.entry (length at.frame) in (
-      index_below (length at.frame) s.entry (and_left there (not (is_among placed i)) next),
+    let there = nat_le 1 s.entry && nat_le s.entry (inner_count at) in (
+      index_below (inner_count at) s.entry (and_left there (not (is_among placed i)) next),
       not-true (is_among placed i) (and_right there (not (is_among placed i)) next),
       are_new at (placed ++ i ∷ []) ss (and_right (is_allowed_step at placed s) (are_allowed_steps at (placed ++ i ∷ []) ss) h),
     )
@@ -130,21 +130,21 @@ pub same_back : (ss : List CodeStep) (placed js : List ℕ) → ((k : ℕ) → i
 same_back [] placed js same k = same k
 same_back (s ∷ ss) placed js same k = same_back ss (placed ++ entry_index s ∷ []) (entry_index s ∷ js) (λ m. among_more placed (entry_index s) m ∙ ap (λ b. (entry_index s == m) || b) (same m)) k
 
--- what is known of the entries of the steps of an admissible code
-module _ (at : Setting) (ss : List CodeStep) (as_many : length ss ≡ length at.frame) (new : AreNew (length at.frame) [] ss) where
+-- what is known of the entries of the steps that come before the left joined ones, of an admissible code
+module _ (at : Setting) (ss : List CodeStep) (as_many : length ss ≡ inner_count at) (new : AreNew (inner_count at) [] ss) where
   pub code_distinct : Distinct (code_entries at ss)
-  code_distinct = distinct_back (length at.frame) ss [] [] (λ k. refl) new tt
+  code_distinct = distinct_back (inner_count at) ss [] [] (λ k. refl) new tt
 
   pub code_count : length (code_entries at ss) ≡ length (from_entries at)
-  code_count = length-reverse (map entry_index ss) ∙ length-map ss entry_index ∙ as_many ∙ sym (from_count (length at.frame))
+  code_count = length-reverse (map entry_index ss) ∙ length-map ss entry_index ∙ as_many ∙ sym (from_count (inner_count at))
 
   pub code_within : list_all (is_among (from_entries at)) (code_entries at ss) ≡ true
   code_within =
-      all_follow (λ i. nat_lt i (length at.frame)) (is_among (from_entries at)) (λ i h. from_has (length at.frame) i (ltb-true i (length at.frame) h)) (code_entries at ss)
-      (below_back (length at.frame) ss [] [] new refl)
+      all_follow (λ i. nat_lt i (inner_count at)) (is_among (from_entries at)) (λ i h. from_has (inner_count at) i (ltb-true i (inner_count at) h)) (code_entries at ss)
+      (below_back (inner_count at) ss [] [] new refl)
 
-  -- each entry of the query is placed in the end
-  pub all_placed : (k : ℕ) → k < length at.frame → is_among (placed_after [] ss) k ≡ true
+  -- each of these entries is placed in the end
+  pub all_placed : (k : ℕ) → k < inner_count at → is_among (placed_after [] ss) k ≡ true
   all_placed k h =
       same_back ss [] [] (λ m. refl) k
-      ∙ each_has (code_entries at ss) (from_entries at) code_count code_distinct code_within k (from_has (length at.frame) k h)
+      ∙ each_has (code_entries at ss) (from_entries at) code_count code_distinct code_within k (from_has (inner_count at) k h)

@@ -1,12 +1,12 @@
--- The empty term, where a condition is never true or there is no entry.
-use Rattle.std.proofs.Common.{◌≡◌, ◌∙◌, refl, sym, ap, ℕ, zero, suc, ◌+◌, ◌<◌, ◌≤◌, ◌⊎◌, inl, inr, Bool, true, false, ◌||◌, cond, ◌==◌, List, [], ◌∷◌, ◌++◌, length, filter, Ok, if◌then◌else◌, arith}
+-- The empty term, where a condition is never true.
+use Rattle.std.proofs.Common.{◌≡◌, ◌∙◌, refl, sym, ap, ℕ, zero, suc, ◌+◌, ◌-◌, ◌<◌, ◌≤◌, ◌⊎◌, inl, inr, Bool, true, false, ◌||◌, cond, ◌==◌, List, [], ◌∷◌, ◌++◌, length, filter, Ok, if◌then◌else◌, arith}
 use Rattle.std.specs.List.{list_any, range_with_len}
 use Rattle.std.proofs.lemmas.Bool.{cases_lt, eq-eqb, or_left, or_right}
 use Rattle.memory.specs.Results.{and_then}
 use Rattle.expr.specs.Bound.{BoundExpr}
 use Rattle.predicates.specs.Equalities.{is_never_true}
-use Rattle.row_terms.specs.Terms.{Term, Filtered, Empty, covers}
-use Rattle.row_terms.specs.Written.{joins, filters}
+use Rattle.row_terms.specs.Terms.{Term, Filtered, LeftJoined, Empty, covers}
+use Rattle.row_terms.specs.Written.{all_joins, guarded_entry, joins, filters, left_joins}
 use Rattle.algebra.specs.Rules.{where_met}
 use Rattle.algebra.specs.Runs.{emptied}
 use Rattle.tuples.specs.Guards.{Guard}
@@ -38,7 +38,7 @@ range_has a (suc n) (suc k) h =
 abbrev pub HasFirst : ℕ → Term → Type 0
 HasFirst n x = (k : ℕ) → k < n → covers x k ≡ true
 
-abbrev pub none_of : ℕ → Term
+abbrev none_of : ℕ → Term
 none_of n = Empty (range_with_len 0 n)
 
 emptied_is : (n : ℕ) (x : Term) → HasFirst n x → emptied n x ≡ none_of n
@@ -47,7 +47,7 @@ emptied_is n x has = ap Empty (all_kept (covers x) 0 n (λ k h. let e : 0 + k �
 none_has : (n : ℕ) → HasFirst n (none_of n)
 none_has n k h = let e : k ≡ 0 + k = omega arith in ap (λ m. list_any (λ i. i == m) (range_with_len 0 n)) e ∙ range_has 0 n k h
 
-pub joins_have : (n : ℕ) → HasFirst n (joins n)
+joins_have : (n : ℕ) → HasFirst n (joins n)
 joins_have zero k h = absurd (omega arith)
 joins_have (suc zero) k h = let e : 0 ≡ k = omega arith in eq-eqb 0 k e
 joins_have (suc (suc n)) k h = go (cases_lt k (suc n)) (λ m. joins_have (suc n) k m)
@@ -56,13 +56,27 @@ joins_have (suc (suc n)) k h = go (cases_lt k (suc n)) (λ m. joins_have (suc n)
     go (inl less) rest = or_left (covers (joins (suc n)) k) (suc n == k) (rest less)
     go (inr more) rest = or_right (covers (joins (suc n)) k) (suc n == k) (let e : suc n ≡ k = omega arith in eq-eqb (suc n) k e)
 
+lefts_have : (ons : List BoundExpr) (i : ℕ) (x : Term) → HasFirst i x → HasFirst (i + length ons) (left_joins i ons x)
+lefts_have [] i x has k h = has k (omega arith)
+lefts_have (on ∷ ons) i x has k h = lefts_have ons (suc i) (LeftJoined on x (guarded_entry i)) next k (omega arith)
+  where
+    next : HasFirst (suc i) (LeftJoined on x (guarded_entry i))
+    next j m = go (cases_lt j i)
+      where
+        go : (j < i) ⊎ (i ≤ j) → covers x j || (i == j) ≡ true
+        go (inl less) = or_left (covers x j) (i == j) (has j less)
+        go (inr more) = or_right (covers x j) (i == j) (let e : i ≡ j = omega arith in eq-eqb i j e)
+
+pub all_have : (n : ℕ) (ons : List BoundExpr) → HasFirst n (all_joins n ons)
+all_have n ons k h = lefts_have ons (n - length ons) (joins (n - length ons)) (joins_have (n - length ons)) k (omega arith)
+
 -- ---- the steps
 
 module _ (frame : List Guard) where
   cleared : (e : BoundExpr) → led frame (at_root 16 ∷ []) (Filtered e (none_of (length frame))) ≡ Ok (none_of (length frame))
   cleared e = ap Ok (emptied_is (length frame) (Filtered e (none_of (length frame))) (none_has (length frame)))
 
-  pub all_cleared : (es : List BoundExpr) → led frame (clearing (length es)) (filters es (none_of (length frame))) ≡ Ok (none_of (length frame))
+  all_cleared : (es : List BoundExpr) → led frame (clearing (length es)) (filters es (none_of (length frame))) ≡ Ok (none_of (length frame))
   all_cleared [] = refl
   all_cleared (e ∷ es) =
       led_then frame (below_filters (length es) (at_root 16 ∷ [])) (clearing (length es)) (filters es (Filtered e (none_of (length frame)))) (filters es (none_of (length frame)))

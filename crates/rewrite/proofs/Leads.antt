@@ -52,6 +52,9 @@ module _ (frame : List Guard) where
   pub led_kept : (on : BoundExpr) (z : Term) (ss : List Step) (x y : Term) → led frame ss x ≡ Ok y → led frame (all_down First ss) (LeftJoined on x z) ≡ Ok (LeftJoined on y z)
   led_kept on z = led_inside First (λ x. LeftJoined on x z) (λ s x. refl)
 
+  pub led_side : (on : BoundExpr) (z : Term) (ss : List Step) (x y : Term) → led frame ss x ≡ Ok y → led frame (all_down Second ss) (LeftJoined on z x) ≡ Ok (LeftJoined on z y)
+  led_side on z = led_inside Second (LeftJoined on z) (λ s x. refl)
+
   pub led_filters : (es : List BoundExpr) (ss : List Step) (x y : Term) → led frame ss x ≡ Ok y → led frame (below_filters (length es) ss) (filters es x) ≡ Ok (filters es y)
   led_filters [] ss x y h = h
   led_filters (e ∷ es) ss x y h = led_filters es (all_down First ss) (Filtered e x) (Filtered e y) (led_filter e ss x y h)

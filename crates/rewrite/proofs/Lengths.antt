@@ -1,7 +1,6 @@
 -- How many steps place the conditions.
-use Rattle.std.proofs.Common.{◌≡◌, ◌∙◌, refl, subst, ℕ, zero, suc, ◌+◌, ◌≤◌, max, Bool, true, false, ◌&&◌, not, ◌==◌, List, [], ◌∷◌, ◌++◌, length, length-append, if◌then◌else◌, arith}
-use Rattle.std.proofs.lemmas.Bool.{eqb-true}
-use Rattle.std.proofs.lemmas.List.{length-map}
+use Rattle.std.proofs.Common.{◌≡◌, ◌∙◌, refl, sym, subst, map, ℕ, zero, suc, ◌+◌, ◌≤◌, max, Bool, true, false, ◌&&◌, not, ◌==◌, List, [], ◌∷◌, ◌++◌, length, length-append, if◌then◌else◌, arith}
+use Rattle.std.proofs.lemmas.List.{length-map, length-reverse}
 use Rattle.predicates.proofs.Movables.{and_left, and_right}
 use Rattle.value.specs.Limits.{most_conjuncts, most_entries}
 use Rattle.expr.specs.declared.code.CodeStep.{CodeStep}
@@ -17,13 +16,16 @@ use Rattle.algebra.specs.Rules.{is_open}
 use Rattle.algebra.specs.Runs.{reads_only}
 use Rattle.algebra.specs.Steps.{Step}
 use Rattle.tuples.specs.Guards.{Guard}
-use Rattle.trailcheck.specs.Admissible.{is_refuted, is_admissible, are_allowed_steps}
+use Rattle.trailcheck.specs.Admissible.{is_admissible}
 use Rattle.std.specs.List.{list_all}
 use Rattle.trailcheck.specs.Entries.{is_among, is_over}
-use Rattle.trailcheck.specs.Settings.{Setting}
+use Rattle.trailcheck.specs.Settings.{Setting, inner_count}
+use Rattle.trailcheck.specs.Shapes.{entry_index, inner_steps, left_steps}
 use Rattle.rewrite.specs.Trails.{at_root, down, all_down, below_filters}
-use Rattle.rewrite.specs.Placing.{without, exchanging, raising, ordering, opening_one, opening, opened, opened_back, passes, sunk, sinking, settled, settling, settling_all, clearing, emptying, from_entries, code_entries, placing}
-use Rattle.rewrite.proofs.Distinct.{Distinct, AreNew, are_new, length-without, without_have, from_count, code_distinct, code_count, code_within}
+use Rattle.rewrite.specs.Placing.{without, exchanging, raising, ordering, opening_one, opening, below_lefts, opened, opened_back, opened_lefts, all_opened, joining, arranging, passes, sunk, sinking, settled, settling, settling_all, clearing, emptying, from_entries, code_entries, placing}
+use Rattle.rewrite.proofs.Distinct.{Distinct, AreNew, length-without, without_have, from_count, code_distinct, code_within}
+use Rattle.rewrite.proofs.Opened.{left_count}
+use Rattle.rewrite.proofs.Places.{all_lefts, as_many, has_allowed, has_last, has_many, new}
 
 -- ---- steps further down
 
@@ -97,13 +99,13 @@ opening_short frame (i ∷ (j ∷ is)) =
 
 -- ---- the conditions
 
--- the most nodes above a raw entry
+-- the most nodes above a raw entry that is not of the right side of a left join
 abbrev pub height : Term → ℕ
 height (Raw i) = 0
 height (Guarded i x) = suc (height x)
 height (Filtered e x) = suc (height x)
 height (Joined x y) = suc (max (height x) (height y))
-height (LeftJoined on x y) = suc (max (height x) (height y))
+height (LeftJoined on x y) = suc (height x)
 height (Empty is) = 0
 
 -- so many conditions, each with one step more than the one before
@@ -138,7 +140,7 @@ module _ (count : ℕ) where
       go false false h k = omega arith
   sinking_short e (LeftJoined on x y) = go (reads_only x e) (sinking_short e x)
     where
-      go : (b : Bool) → length (sinking count e x) ≤ height x → length (if b then at_root 20 ∷ all_down First (sinking count e x) else []) ≤ suc (max (height x) (height y))
+      go : (b : Bool) → length (sinking count e x) ≤ height x → length (if b then at_root 20 ∷ all_down First (sinking count e x) else []) ≤ suc (height x)
       go true h = let d = length-down First (sinking count e x) in omega (arith, d)
       go false h = omega arith
 
@@ -160,7 +162,7 @@ module _ (count : ℕ) where
       go false false h k = omega arith
   sunk_high e (LeftJoined on x y) = go (reads_only x e) (sunk_high e x)
     where
-      go : (b : Bool) → height (sunk count e x) ≤ suc (height x) → height (if b then LeftJoined on (sunk count e x) y else Filtered e (LeftJoined on x y)) ≤ suc (suc (max (height x) (height y)))
+      go : (b : Bool) → height (sunk count e x) ≤ suc (height x) → height (if b then LeftJoined on (sunk count e x) y else Filtered e (LeftJoined on x y)) ≤ suc (suc (height x))
       go true h = omega arith
       go false h = omega arith
 
@@ -237,27 +239,59 @@ module _ (at : Setting) where
       let b = opened_low i in
       omega (arith, a, b)
 
+  lefts_low : (ons : List BoundExpr) (i : ℕ) (x : Term) → height (opened_lefts at i ons x) ≡ length ons + height x
+  lefts_low [] i x = omega arith
+  lefts_low (on ∷ ons) i x = let a = lefts_low ons (suc i) (LeftJoined on x (opened at i)) in omega (arith, a)
+
+  below_lefts_short : (is : List ℕ) (steps : List Step) → length (below_lefts at.frame is steps) ≤ length is + length steps
+  below_lefts_short [] steps = omega arith
+  below_lefts_short (i ∷ is) steps =
+      let a = length-append (all_down Second (opening_one at.frame i)) (all_down First (below_lefts at.frame is steps)) in
+      let b = length-down Second (opening_one at.frame i) in
+      let c = opening_one_short at.frame i in
+      let d = length-down First (below_lefts at.frame is steps) in
+      let f = below_lefts_short is steps in
+      omega (arith, a, b, c, d, f)
+
+  entries_count : (ss : List CodeStep) → length (code_entries at ss) ≡ length ss
+  entries_count ss = length-reverse (map entry_index ss) ∙ length-map ss entry_index
+
+  joining_short : (ss : List CodeStep) → length ss ≡ inner_count at → AreNew (inner_count at) [] ss → length (joining at (code_entries at ss)) ≤ descending (inner_count at) + inner_count at
+  joining_short ss as_many new =
+      let cs = code_entries at ss in
+      let a = length-append (ordering cs (from_entries at)) (opening at.frame cs) in
+      let b : length (ordering cs (from_entries at)) ≤ descending (inner_count at) =
+      subst (λ n. length (ordering cs (from_entries at)) ≤ descending n) (from_count (inner_count at)) (ordering_short cs (from_entries at) (code_distinct at ss as_many new) (code_within at ss as_many new))
+      in
+      let c = opening_short at.frame cs in
+      let n = entries_count ss in
+      omega (arith, a, b, c, n, as_many)
+
   module _ (few_entries : length at.frame ≤ most_entries) (few_conditions : length at.conditions ≤ most_conjuncts) where
-    stepped_short : (s : CodeStep) (ss : List CodeStep) → length (s ∷ ss) ≡ length at.frame → AreNew (length at.frame) [] (s ∷ ss) → length (placing at (codes.Steps (s ∷ ss))) ≤ most_placing
-    stepped_short s ss as_many new =
-        let cs = code_entries at (s ∷ ss) in
-        let n : length cs ≡ length at.frame = code_count at (s ∷ ss) as_many new ∙ from_count (length at.frame) in
-        let order = ordering cs (from_entries at) in
-        let a = length-append (below_filters (length at.conditions) (order ++ opening at.frame cs)) (settling_all (length at.frame) at.conditions (opened_back at cs)) in
-        let b = length-below (length at.conditions) (order ++ opening at.frame cs) in
-        let c = length-append order (opening at.frame cs) in
-        let d = ordering_short cs (from_entries at) (code_distinct at (s ∷ ss) as_many new) (code_within at (s ∷ ss) as_many new) in
-        let f : descending (length (from_entries at)) ≤ descending most_entries = descending_more (length (from_entries at)) most_entries (let m = from_count (length at.frame) in omega (arith, m)) in
-        let g = opening_short at.frame cs in
-        let h = joined_low cs in
-        let k = settling_all_short (length at.frame) at.conditions (opened_back at cs) most_entries (omega (arith, h, n)) in
-        let l : ascending (length at.conditions) most_entries ≤ ascending most_conjuncts most_entries = ascending_more (length at.conditions) most_conjuncts most_entries most_entries few_conditions (omega arith) in
-        omega (arith, a, b, c, d, f, g, k, l, n)
+    stepped_short : (ss : List CodeStep) → is_admissible at (codes.Steps ss) ≡ true → length (placing at (codes.Steps ss)) ≤ most_placing
+    stepped_short ss h =
+        let inner = inner_steps at ss in
+        let many = has_many at ss h in
+        let allowed = has_allowed at ss h in
+        let last = has_last at ss h in
+        let as_many_inner = as_many at ss many allowed last in
+        let lefts = all_lefts at ss many allowed last in
+        let left_entries = code_entries at (left_steps at ss) in
+        let way = arranging at left_entries (code_entries at inner) in
+        let x = all_opened at (code_entries at inner) in
+        let a = length-append (below_filters (length at.conditions) way) (settling_all (length at.frame) at.conditions x) in
+        let b = length-below (length at.conditions) way in
+        let c = below_lefts_short left_entries (joining at (code_entries at inner)) in
+        let d = joining_short inner as_many_inner (new at ss many allowed last) in
+        let f : length left_entries ≡ length at.lefts = entries_count (left_steps at ss) ∙ sym (left_count at (inner_count at) at.lefts (left_steps at ss) last) in
+        let g : descending (inner_count at) ≤ descending most_entries = descending_more (inner_count at) most_entries (omega (arith, lefts)) in
+        let k = lefts_low at.lefts (inner_count at) (opened_back at (code_entries at inner)) in
+        let l = joined_low (code_entries at inner) in
+        let m = entries_count inner in
+        let n = settling_all_short (length at.frame) at.conditions x most_entries (omega (arith, k, l, m, as_many_inner, lefts)) in
+        let o : ascending (length at.conditions) most_entries ≤ ascending most_conjuncts most_entries = ascending_more (length at.conditions) most_conjuncts most_entries most_entries few_conditions (omega arith) in
+        omega (arith, a, b, c, d, f, g, n, o, lefts)
 
     pub placing_short : (code : Code) → is_admissible at code ≡ true → length (placing at code) ≤ most_placing
     placing_short codes.Empty h = let a = emptying_short at.conditions in omega (arith, a)
-    placing_short (codes.Steps []) h = let a = clearing_short (length at.conditions) in omega (arith, a)
-    placing_short (codes.Steps (s ∷ ss)) h =
-        let k = and_right (not (is_refuted at)) ((length (s ∷ ss) == length at.frame) && are_allowed_steps at [] (s ∷ ss)) h in
-        stepped_short s ss (eqb-true (length (s ∷ ss)) (length at.frame) (and_left (length (s ∷ ss) == length at.frame) (are_allowed_steps at [] (s ∷ ss)) k))
-        (are_new at [] (s ∷ ss) (and_right (length (s ∷ ss) == length at.frame) (are_allowed_steps at [] (s ∷ ss)) k))
+    placing_short (codes.Steps ss) h = stepped_short ss h

@@ -1,9 +1,11 @@
 pub mod Accepting
 pub mod Added
+pub mod AllSettled
 pub mod Below
 pub mod Distinct
 pub mod Emptied
 pub mod Leads
+pub mod LeftSettled
 pub mod Lengths
 pub mod Limited
 pub mod Opened

@@ -1,5 +1,5 @@
 -- The combinations of the shape of a plan are those of the written term.
-use Rattle.std.proofs.Common.{◌≡◌, ◌∙◌, refl, sym, ap, subst, ℕ, zero, suc, ◌-◌, true, List, [], ◌∷◌, ◌++◌, map, filter, length, Ok, Err, arith}
+use Rattle.std.proofs.Common.{◌≡◌, ◌∙◌, refl, sym, ap, subst, ℕ, zero, suc, ◌-◌, ◌&&◌, true, List, [], ◌∷◌, ◌++◌, map, filter, length, Ok, Err, arith}
 use Rattle.std.specs.List.Sorted.{IsPermutation}
 use Rattle.std.proofs.lemmas.List.Sorted.{IsPermutation-refl, IsPermutation-trans}
 use Rattle.memory.specs.Results.{and_then}
@@ -13,9 +13,9 @@ use Rattle.predicates.specs.Laws.{OffsetsKeepValue}
 use Rattle.predicates.specs.Offsets.{without_offsets}
 use Rattle.predicates.proofs.Keeping.{both}
 use Rattle.tuples.specs.Guards.{Guard}
-use Rattle.row_terms.specs.Terms.{Term, Filtered}
+use Rattle.row_terms.specs.Terms.{Term, Filtered, LeftJoined}
 use Rattle.row_terms.specs.Means.{mean}
-use Rattle.row_terms.specs.Written.{joins, filters, left_conditions, all_joins, written}
+use Rattle.row_terms.specs.Written.{guarded_entry, joins, left_joins, filters, left_conditions, all_joins, written}
 use Rattle.algebra.specs.Keeping.{MeanSame, is_movable_term}
 use Rattle.algebra.specs.PlanningList.{planning_list}
 use Rattle.algebra.specs.Rewrites.{applied}
@@ -44,12 +44,16 @@ filters_movable : (kept : OffsetsKeepValue) (es : List BoundExpr) → Each (λ e
 filters_movable kept [] h x m = m
 filters_movable kept (e ∷ es) h x m = filters_movable kept es h.1 (Filtered (without_offsets e) x) (both (movable (without_offsets e)) (is_movable_term x) (kept.stays_movable e h.0) m)
 
--- a query without left joins has joins alone
-pub joins_alone : (n : ℕ) (q : BoundQuery) → left_ons q ≡ [] → all_joins n (left_conditions q) ≡ joins n
-joins_alone n q none = let all : n - 0 ≡ n = omega arith in ap (λ lefts. all_joins n (map without_offsets (filter movable lefts))) none ∙ ap joins all
+left_joins_movable : (kept : OffsetsKeepValue) (ons : List BoundExpr) → Each (λ e. movable e ≡ true) ons → (i : ℕ) (x : Term) → is_movable_term x ≡ true → is_movable_term (left_joins i (map without_offsets ons) x) ≡ true
+left_joins_movable kept [] h i x m = m
+left_joins_movable kept (on ∷ ons) h i x m =
+    left_joins_movable kept ons h.1 (suc i) (LeftJoined (without_offsets on) x (guarded_entry i)) (both (movable (without_offsets on)) (is_movable_term x && true) (kept.stays_movable on h.0) (both (is_movable_term x) true m refl))
 
-written_movable : OffsetsKeepValue → (n : ℕ) (q : BoundQuery) → left_ons q ≡ [] → is_movable_term (written n q) ≡ true
-written_movable kept n q none = filters_movable kept (movable_conjuncts q) (each-passes movable (conjuncts q)) (all_joins n (left_conditions q)) (ap is_movable_term (joins_alone n q none) ∙ joins_movable n)
+written_movable : OffsetsKeepValue → (n : ℕ) (q : BoundQuery) → is_movable_term (written n q) ≡ true
+written_movable kept n q =
+    let first = n - length (left_conditions q) in
+    filters_movable kept (movable_conjuncts q) (each-passes movable (conjuncts q)) (all_joins n (left_conditions q))
+    (left_joins_movable kept (filter movable (left_ons q)) (each-passes movable (left_ons q)) first (joins first) (joins_movable first))
 
 -- ---- steps keep the bag
 
@@ -68,15 +72,18 @@ led_keeps frame (s ∷ ss) x y m h = at (applied frame s x) refl h (λ z n k. le
 
 -- ---- from the written term to the shape
 
-pub simplified : (frame : List Guard) (n : ℕ) (q : BoundQuery) → left_ons q ≡ [] → led frame (simplifying q) (written n q) ≡ Ok (filters (planning_list q) (joins n))
-simplified frame n q none = simplifies_each frame n q ∙ ap (λ x. Ok (filters (planning_list q) x)) (joins_alone n q none)
+module _ (at : Setting) (q : BoundQuery) (code : Code) (lefts : at.lefts ≡ left_conditions q) (listed : at.conditions ≡ planning_list q) (fits : is_admissible at code ≡ true) where
+  placed : led at.frame (placing at code) (filters (planning_list q) (all_joins (length at.frame) (left_conditions q))) ≡ Ok (shape at code)
+  placed =
+      ap (λ es. led at.frame (placing at code) (filters es (all_joins (length at.frame) (left_conditions q)))) (sym listed)
+      ∙ ap (λ ons. led at.frame (placing at code) (filters at.conditions (all_joins (length at.frame) ons))) (sym lefts)
+      ∙ places_each at code fits
 
-module _ (at : Setting) (q : BoundQuery) (code : Code) (none : left_ons q ≡ []) (listed : at.conditions ≡ planning_list q) (fits : is_admissible at code ≡ true) where
-  placed : led at.frame (placing at code) (filters (planning_list q) (joins (length at.frame))) ≡ Ok (shape at code)
-  placed = ap (λ es. led at.frame (placing at code) (filters es (joins (length at.frame)))) (sym listed) ∙ places_each at code fits
-
-  whole : led at.frame (simplifying q ++ placing at code) (written (length at.frame) q) ≡ Ok (shape at code)
-  whole = led_then at.frame (simplifying q) (placing at code) (written (length at.frame) q) (filters (planning_list q) (joins (length at.frame))) (simplified at.frame (length at.frame) q none) ∙ placed
+  pub whole : led at.frame (simplifying q ++ placing at code) (written (length at.frame) q) ≡ Ok (shape at code)
+  whole =
+      led_then at.frame (simplifying q) (placing at code) (written (length at.frame) q) (filters (planning_list q) (all_joins (length at.frame) (left_conditions q))) (simplifies_each at.frame (length at.frame) q)
+      ∙ placed
 
 pub shapes_mean_same : OffsetsKeepValue → ShapesMeanSame
-shapes_mean_same kept at q code none listed fits = led_keeps at.frame (simplifying q ++ placing at code) (written (length at.frame) q) (shape at code) (written_movable kept (length at.frame) q none) (whole at q code none listed fits)
+shapes_mean_same kept at q code lefts listed fits =
+    led_keeps at.frame (simplifying q ++ placing at code) (written (length at.frame) q) (shape at code) (written_movable kept (length at.frame) q) (whole at q code lefts listed fits)

@@ -1,5 +1,5 @@
--- A condition that settles in the shape under some conditions makes the shape under one more.
-use Rattle.std.proofs.Common.{◌≡◌, ◌∙◌, refl, sym, ap, ap₂, subst, ℕ, ◌<◌, ◌⊎◌, inl, inr, Bool, true, false, ◌&&◌, ◌||◌, not, cond, ◌==◌, nat_lt, List, [], ◌∷◌, ◌++◌, length, filter, append-nil, append_assoc, if◌then◌else◌}
+-- A condition that sinks in the entries that are not left joined, under some conditions, makes these under one more.
+use Rattle.std.proofs.Common.{◌≡◌, ◌∙◌, refl, sym, ap, ap₂, subst, ℕ, ◌<◌, ◌⊎◌, inl, inr, Bool, true, false, ◌&&◌, ◌||◌, not, cond, ◌==◌, nat_lt, List, [], ◌∷◌, ◌++◌, length, filter, append-nil, append_assoc, if◌then◌else◌, arith}
 use Rattle.std.specs.List.{list_all}
 use Rattle.std.proofs.lemmas.Bool as bools
 use Rattle.std.proofs.lemmas.Bool.{both_ways, eqb-true, lt-ltb, ltb-true, or_cases, or_from, or_left, or_right}
@@ -7,7 +7,6 @@ use Rattle.std.proofs.lemmas.List.Elements.{filter-append}
 use Rattle.expr.specs.declared.bound.ColumnId.{ColumnId}
 use Rattle.expr.specs.declared.code.CodeStep.{CodeStep}
 use Rattle.expr.specs.Bound.{BoundExpr}
-use Rattle.expr.specs.Codes as codes
 use Rattle.expr.specs.Columns.{columns}
 use Rattle.predicates.proofs.Movables.{and_left, and_right}
 use Rattle.predicates.proofs.Keeping.{both}
@@ -16,9 +15,9 @@ use Rattle.row_terms.specs.Written.{filters}
 use Rattle.algebra.specs.Rules.{is_open}
 use Rattle.algebra.specs.Runs.{reads_only}
 use Rattle.trailcheck.specs.Entries.{is_among, names_entry, names_some, names_within, names_none, only_of, joins, is_over}
-use Rattle.trailcheck.specs.Settings.{Setting}
-use Rattle.trailcheck.specs.Shapes.{entry_index, under_guard, scan, with_entry, joined_on, shape}
-use Rattle.rewrite.specs.Placing.{goes_deeper, passes, sunk, settled, all_settled}
+use Rattle.trailcheck.specs.Settings.{Setting, inner_count}
+use Rattle.trailcheck.specs.Shapes.{entry_index, under_guard, scan, with_entry, joined_on}
+use Rattle.rewrite.specs.Placing.{goes_deeper, passes, sunk}
 use Rattle.trailcheck.proofs.Placed.{among_more}
 use Rattle.rewrite.proofs.Distinct.{AreNew, placed_after}
 use Rattle.rewrite.proofs.Opened.{under}
@@ -26,17 +25,17 @@ use Rattle.rewrite.proofs.Tests.{all_alike, all_follow, all_some, equal_turned, 
 
 -- ---- one condition more
 
-filter_without : (test : BoundExpr → Bool) (known : List BoundExpr) (e : BoundExpr) → test e ≡ false → filter test (known ++ e ∷ []) ≡ filter test known
+pub filter_without : (test : BoundExpr → Bool) (known : List BoundExpr) (e : BoundExpr) → test e ≡ false → filter test (known ++ e ∷ []) ≡ filter test known
 filter_without test known e h = filter-append test known (e ∷ []) ∙ ap (λ b. filter test known ++ cond b (e ∷ []) []) h ∙ append-nil (filter test known)
 
-filter_with : (test : BoundExpr → Bool) (known : List BoundExpr) (e : BoundExpr) → test e ≡ true → filter test (known ++ e ∷ []) ≡ filter test known ++ e ∷ []
+pub filter_with : (test : BoundExpr → Bool) (known : List BoundExpr) (e : BoundExpr) → test e ≡ true → filter test (known ++ e ∷ []) ≡ filter test known ++ e ∷ []
 filter_with test known e h = filter-append test known (e ∷ []) ∙ ap (λ b. filter test known ++ cond b (e ∷ []) []) h
 
-filters_with : (fs : List BoundExpr) (e : BoundExpr) (x : Term) → filters (fs ++ e ∷ []) x ≡ Filtered e (filters fs x)
+pub filters_with : (fs : List BoundExpr) (e : BoundExpr) (x : Term) → filters (fs ++ e ∷ []) x ≡ Filtered e (filters fs x)
 filters_with [] e x = refl
 filters_with (a ∷ fs) e x = filters_with fs e (Filtered a x)
 
-covers_filters : (fs : List BoundExpr) (x : Term) (k : ℕ) → covers (filters fs x) k ≡ covers x k
+pub covers_filters : (fs : List BoundExpr) (x : Term) (k : ℕ) → covers (filters fs x) k ≡ covers x k
 covers_filters [] x k = refl
 covers_filters (a ∷ fs) x k = covers_filters fs (Filtered a x) k
 
@@ -107,42 +106,53 @@ module _ (at : Setting) where
   abbrev count : ℕ
   count = length at.frame
 
-  -- only entries that are there are placed
-  abbrev AreThere : List ℕ → Type 0
-  AreThere placed = (k : ℕ) → is_among placed k ≡ true → nat_lt k count ≡ true
+  -- so many come before the left joined ones
+  abbrev inner : ℕ
+  inner = inner_count at
 
-  there_next : (placed : List ℕ) (i : ℕ) → AreThere placed → i < count → AreThere (placed ++ i ∷ [])
+  -- only entries that are there are placed
+  abbrev pub AreThere : List ℕ → Type 0
+  AreThere placed = (k : ℕ) → is_among placed k ≡ true → nat_lt k inner ≡ true
+
+  pub there_next : (placed : List ℕ) (i : ℕ) → AreThere placed → i < inner → AreThere (placed ++ i ∷ [])
   there_next placed i there less k h = go (or_cases (i == k) (is_among placed k) (sym (among_more placed i k) ∙ h))
     where
-      go : ((i == k) ≡ true) ⊎ (is_among placed k ≡ true) → nat_lt k count ≡ true
-      go (inl e) = subst (λ j. nat_lt j count ≡ true) (eqb-true i k e) (lt-ltb i count less)
+      go : ((i == k) ≡ true) ⊎ (is_among placed k ≡ true) → nat_lt k inner ≡ true
+      go (inl e) = subst (λ j. nat_lt j inner ≡ true) (eqb-true i k e) (lt-ltb i inner less)
       go (inr m) = there k m
 
-  own_is_there : (i : ℕ) → i < count → (k : ℕ) → (k == i) ≡ true → nat_lt k count ≡ true
-  own_is_there i less k h = subst (λ j. nat_lt j count ≡ true) (sym (eqb-true k i h)) (lt-ltb i count less)
+  own_is_there : (i : ℕ) → i < inner → (k : ℕ) → (k == i) ≡ true → nat_lt k inner ≡ true
+  own_is_there i less k h = subst (λ j. nat_lt j inner ≡ true) (sym (eqb-true k i h)) (lt-ltb i inner less)
 
-  only_is_over : (i : ℕ) → i < count → (a : BoundExpr) → only_of a i ≡ true → is_over count a ≡ true
+  only_is_over : (i : ℕ) → i < inner → (a : BoundExpr) → only_of a i ≡ true → is_over inner a ≡ true
   only_is_over i less a h =
-      both (not (names_none a)) (list_all (λ id. nat_lt id.entry count) (columns a))
+      both (not (names_none a)) (list_all (λ id. nat_lt id.entry inner) (columns a))
       (some_there (λ (id : ColumnId). id.entry == i) (columns a) (and_left (names_entry a i) (is_local i a) h))
-      (all_follow (λ (id : ColumnId). id.entry == i) (λ id. nat_lt id.entry count) (λ id q. own_is_there i less id.entry q) (columns a) (and_right (names_entry a i) (is_local i a) h))
+      (all_follow (λ (id : ColumnId). id.entry == i) (λ id. nat_lt id.entry inner) (λ id q. own_is_there i less id.entry q) (columns a) (and_right (names_entry a i) (is_local i a) h))
 
-  joining_is_over : (placed : List ℕ) (i : ℕ) → AreThere placed → i < count → (a : BoundExpr) → joins a placed i ≡ true → is_over count a ≡ true
+  joining_is_over : (placed : List ℕ) (i : ℕ) → AreThere placed → i < inner → (a : BoundExpr) → joins a placed i ≡ true → is_over inner a ≡ true
   joining_is_over placed i there less a h =
-      both (not (names_none a)) (list_all (λ id. nat_lt id.entry count) (columns a))
+      both (not (names_none a)) (list_all (λ id. nat_lt id.entry inner) (columns a))
       (some_there (λ (id : ColumnId). id.entry == i) (columns a) (and_left (names_entry a i) (names_some a placed) (and_left (names_entry a i && names_some a placed) (names_within a placed i) h)))
-      (all_follow (λ (id : ColumnId). (id.entry == i) || is_among placed id.entry) (λ id. nat_lt id.entry count) (λ id q. go id.entry (or_cases (id.entry == i) (is_among placed id.entry) q)) (columns a)
+      (all_follow (λ (id : ColumnId). (id.entry == i) || is_among placed id.entry) (λ id. nat_lt id.entry inner) (λ id q. go id.entry (or_cases (id.entry == i) (is_among placed id.entry) q)) (columns a)
       (and_right (names_entry a i && names_some a placed) (names_within a placed i) h))
     where
-      go : (k : ℕ) → ((k == i) ≡ true) ⊎ (is_among placed k ≡ true) → nat_lt k count ≡ true
+      go : (k : ℕ) → ((k == i) ≡ true) ⊎ (is_among placed k ≡ true) → nat_lt k inner ≡ true
       go k (inl q) = own_is_there i less k q
       go k (inr q) = there k q
 
-  covers_guard : (b : Bool) (i : ℕ) (x : Term) (k : ℕ) → covers (if b then x else Guarded i x) k ≡ covers x k
+  pub over_more : (a : BoundExpr) → is_over inner a ≡ true → is_over count a ≡ true
+  over_more a h =
+      both (not (names_none a)) (list_all (λ id. nat_lt id.entry count) (columns a))
+      (and_left (not (names_none a)) (list_all (λ id. nat_lt id.entry inner) (columns a)) h)
+      (all_follow (λ (id : ColumnId). nat_lt id.entry inner) (λ id. nat_lt id.entry count) (λ id q. let l = ltb-true id.entry inner q in lt-ltb id.entry count (omega (arith, l))) (columns a)
+      (and_right (not (names_none a)) (list_all (λ id. nat_lt id.entry inner) (columns a)) h))
+
+  pub covers_guard : (b : Bool) (i : ℕ) (x : Term) (k : ℕ) → covers (if b then x else Guarded i x) k ≡ covers x k
   covers_guard true i x k = refl
   covers_guard false i x k = refl
 
-  covers_scan : (known : List BoundExpr) (i k : ℕ) → covers (scan (under at known) i) k ≡ (i == k)
+  pub covers_scan : (known : List BoundExpr) (i k : ℕ) → covers (scan (under at known) i) k ≡ (i == k)
   covers_scan known i k =
       covers_guard (is_open at.frame i) i (filters (filter (λ a. only_of a i) known) (Raw i)) k
       ∙ covers_filters (filter (λ a. only_of a i) known) (Raw i) k
@@ -152,10 +162,10 @@ module _ (at : Setting) where
       all_alike (λ (id : ColumnId). covers (scan (under at known) i) id.entry) (λ id. id.entry == i) (λ id. covers_scan known i id.entry ∙ equal_turned i id.entry) (columns e)
 
   -- the term has the placed entries
-  abbrev Covers : Term → List ℕ → Type 0
+  abbrev pub Covers : Term → List ℕ → Type 0
   Covers x placed = (k : ℕ) → covers x k ≡ is_among placed k
 
-  covers_next : (known : List BoundExpr) (placed : List ℕ) (i : ℕ) (x : Term) → Covers x placed → Covers (with_entry (under at known) placed x i) (placed ++ i ∷ [])
+  pub covers_next : (known : List BoundExpr) (placed : List ℕ) (i : ℕ) (x : Term) → Covers x placed → Covers (with_entry (under at known) placed x i) (placed ++ i ∷ [])
   covers_next known placed i x fits k =
       covers_filters (filter (λ a. joins a placed i) known) (Joined x (scan (under at known) i)) k
       ∙ ap₂ ◌||◌ (fits k) (covers_scan known i k)
@@ -170,13 +180,13 @@ module _ (at : Setting) where
 
   -- ---- a condition that sinks through filters
 
-  sunk_passes : (e : BoundExpr) (fs : List BoundExpr) (x : Term) → list_all (λ a. passes count e a x) fs ≡ true → sunk count e (filters fs x) ≡ filters fs (sunk count e x)
+  pub sunk_passes : (e : BoundExpr) (fs : List BoundExpr) (x : Term) → list_all (λ a. passes count e a x) fs ≡ true → sunk count e (filters fs x) ≡ filters fs (sunk count e x)
   sunk_passes e [] x h = refl
   sunk_passes e (a ∷ fs) x h =
       sunk_passes e fs (Filtered a x) (and_right (passes count e a x) (list_all (λ a. passes count e a x) fs) h)
       ∙ ap (λ b. filters fs (if b then Filtered a (sunk count e x) else Filtered e (Filtered a x))) (and_left (passes count e a x) (list_all (λ a. passes count e a x) fs) h)
 
-  sunk_stays : (e : BoundExpr) (fs : List BoundExpr) (x : Term) → list_all (is_over count) fs ≡ true → goes_deeper e x ≡ false → sunk count e x ≡ Filtered e x → sunk count e (filters fs x) ≡ Filtered e (filters fs x)
+  pub sunk_stays : (e : BoundExpr) (fs : List BoundExpr) (x : Term) → list_all (is_over count) fs ≡ true → goes_deeper e x ≡ false → sunk count e x ≡ Filtered e x → sunk count e (filters fs x) ≡ Filtered e (filters fs x)
   sunk_stays e [] x h d s = s
   sunk_stays e (a ∷ fs) x h d s =
       sunk_stays e fs (Filtered a x) (and_right (is_over count a) (list_all (is_over count) fs) h) d
@@ -198,12 +208,12 @@ module _ (at : Setting) where
     guard_sinks true i x = refl
     guard_sinks false i x = refl
 
-    scan_sinks : (i : ℕ) → i < count → only_of e i ≡ true → sunk count e (scan less i) ≡ scan more i
+    scan_sinks : (i : ℕ) → i < inner → only_of e i ≡ true → sunk count e (scan less i) ≡ scan more i
     scan_sinks i below h =
         let test : BoundExpr → Bool = λ a. only_of a i in
         guard_sinks (is_open at.frame i) i (filters (filter test known) (Raw i))
         ∙ ap (under_guard at i)
-        (sunk_stays e (filter test known) (Raw i) (kept_pass test (is_over count) (only_is_over i below) known) refl refl
+        (sunk_stays e (filter test known) (Raw i) (kept_pass test (is_over count) (λ a k. over_more a (only_is_over i below a k)) known) refl refl
         ∙ sym (filters_with (filter test known) e (Raw i))
         ∙ ap (λ l. filters l (Raw i)) (sym (filter_with test known e h)))
 
@@ -212,7 +222,7 @@ module _ (at : Setting) where
     entry_same : (placed : List ℕ) (x : Term) (i : ℕ) → joins e placed i ≡ false → only_of e i ≡ false → with_entry more placed x i ≡ with_entry less placed x i
     entry_same placed x i j o = ap₂ (λ l t. filters l (Joined x t)) (filter_without (λ a. joins a placed i) known e j) (scan_same i o)
 
-    module _ (placed : List ℕ) (x : Term) (i : ℕ) (fits : Covers x placed) (fresh : is_among placed i ≡ false) (below : i < count) where
+    module _ (placed : List ℕ) (x : Term) (i : ℕ) (fits : Covers x placed) (fresh : is_among placed i ≡ false) (below : i < inner) where
       abbrev test : BoundExpr → Bool
       test a = joins a placed i
 
@@ -247,7 +257,7 @@ module _ (at : Setting) where
         stays_there there other =
             let p = left_reads ∙ waits in
             let q = scan_reads known i e ∙ other in
-            sunk_stays e (filter test known) (Joined x (scan less i)) (kept_pass test (is_over count) (joining_is_over placed i there below) known)
+            sunk_stays e (filter test known) (Joined x (scan less i)) (kept_pass test (is_over count) (λ a k. over_more a (joining_is_over placed i there below a k)) known)
             (or_from (reads_only x e) (reads_only (scan less i) e) p q) (ap₂ on_joined p q)
             ∙ sym (filters_with (filter test known) e (Joined x (scan less i)))
             ∙ ap₂ (λ l t. filters l (Joined x t)) (sym (filter_with test known e (does_join placed i fresh e waits within other)))
@@ -263,7 +273,7 @@ module _ (at : Setting) where
     -- ---- all entries
 
     -- the entries of the condition are placed
-    goes_below : (ss : List CodeStep) (placed : List ℕ) (x : Term) → Covers x placed → AreNew count placed ss → is_ready placed e ≡ true → sunk count e (joined_on less placed x ss) ≡ joined_on more placed (sunk count e x) ss
+    goes_below : (ss : List CodeStep) (placed : List ℕ) (x : Term) → Covers x placed → AreNew inner placed ss → is_ready placed e ≡ true → sunk count e (joined_on less placed x ss) ≡ joined_on more placed (sunk count e x) ss
     goes_below [] placed x fits new ready = refl
     goes_below (s ∷ ss) placed x fits new ready =
         let i = entry_index s in
@@ -272,7 +282,7 @@ module _ (at : Setting) where
         ∙ ap (λ t. joined_on more (placed ++ i ∷ []) t ss) (goes_left placed x i fits new.1 new.0 ready)
 
     -- some will be placed
-    comes_later : (ss : List CodeStep) (placed : List ℕ) (x : Term) → Covers x placed → AreThere placed → AreNew count placed ss → is_ready placed e ≡ false → is_ready (placed_after placed ss) e ≡ true →
+    comes_later : (ss : List CodeStep) (placed : List ℕ) (x : Term) → Covers x placed → AreThere placed → AreNew inner placed ss → is_ready placed e ≡ false → is_ready (placed_after placed ss) e ≡ true →
         sunk count e (joined_on less placed x ss) ≡ joined_on more placed x ss
     comes_later [] placed x fits there new waits in_end = absurd (both_ways (is_ready placed e) waits in_end)
     comes_later (s ∷ ss) placed x fits there new waits in_end =
@@ -292,21 +302,18 @@ module _ (at : Setting) where
             further (ready_next placed (entry_index s) e ∙ far)
             ∙ ap (λ t. joined_on more (placed ++ entry_index s ∷ []) t ss) (sym (entry_same placed x (entry_index s) (far_joins_no placed (entry_index s) e far) (far_only_no placed (entry_index s) e far)))
 
-    -- it is not over entries of the query
-    not_among : (ss : List CodeStep) (placed : List ℕ) (x : Term) → AreThere placed → AreNew count placed ss → is_over count e ≡ false → joined_on more placed x ss ≡ joined_on less placed x ss
+    -- it is not over these entries
+    not_among : (ss : List CodeStep) (placed : List ℕ) (x : Term) → AreThere placed → AreNew inner placed ss → is_over inner e ≡ false → joined_on more placed x ss ≡ joined_on less placed x ss
     not_among [] placed x there new other = refl
     not_among (s ∷ ss) placed x there new other =
         let i = entry_index s in
         ap (λ t. joined_on more (placed ++ i ∷ []) t ss)
-        (entry_same placed x i (not_then (joins e placed i) (is_over count e) (joining_is_over placed i there new.0 e) other) (not_then (only_of e i) (is_over count e) (only_is_over i new.0 e) other))
+        (entry_same placed x i (not_then (joins e placed i) (is_over inner e) (joining_is_over placed i there new.0 e) other) (not_then (only_of e i) (is_over inner e) (only_is_over i new.0 e) other))
         ∙ not_among ss (placed ++ i ∷ []) (with_entry less placed x i) (there_next placed i there new.0) new.2 other
 
-    module _ (s : CodeStep) (ss : List CodeStep) (new : AreNew count [] (s ∷ ss)) (all : (k : ℕ) → k < count → is_among (placed_after [] (s ∷ ss)) k ≡ true) where
+    module _ (s : CodeStep) (ss : List CodeStep) (new : AreNew inner [] (s ∷ ss)) (all : (k : ℕ) → k < inner → is_among (placed_after [] (s ∷ ss)) k ≡ true) where
       abbrev first : ℕ
       first = entry_index s
-
-      abbrev on_top : BoundExpr → Bool
-      on_top a = not (is_over count a)
 
       first_there : AreThere (first ∷ [])
       first_there = there_next [] first (λ k h. absurd (cc)) new.0
@@ -318,11 +325,11 @@ module _ (at : Setting) where
           alone true = refl
           alone false = refl
 
-      sinks_in : is_over count e ≡ true → sunk count e (joined_on less (first ∷ []) (scan less first) ss) ≡ joined_on more (first ∷ []) (scan more first) ss
+      pub sinks_in : is_over inner e ≡ true → sunk count e (joined_on less (first ∷ []) (scan less first) ss) ≡ joined_on more (first ∷ []) (scan more first) ss
       sinks_in over = go (is_ready (first ∷ []) e) refl
         where
           some : not (names_none e) ≡ true
-          some = and_left (not (names_none e)) (list_all (λ id. nat_lt id.entry count) (columns e)) over
+          some = and_left (not (names_none e)) (list_all (λ id. nat_lt id.entry inner) (columns e)) over
 
           alone : is_ready (first ∷ []) e ≡ is_local first e
           alone = ready_next [] first e ∙ all_alike (λ (id : ColumnId). (id.entry == first) || false) (λ id. id.entry == first) (λ id. or_none (id.entry == first)) (columns e)
@@ -333,8 +340,8 @@ module _ (at : Setting) where
 
           in_end : is_ready (placed_after (first ∷ []) ss) e ≡ true
           in_end =
-              all_follow (λ (id : ColumnId). nat_lt id.entry count) (λ id. is_among (placed_after (first ∷ []) ss) id.entry) (λ id q. all id.entry (ltb-true id.entry count q)) (columns e)
-              (and_right (not (names_none e)) (list_all (λ id. nat_lt id.entry count) (columns e)) over)
+              all_follow (λ (id : ColumnId). nat_lt id.entry inner) (λ id. is_among (placed_after (first ∷ []) ss) id.entry) (λ id q. all id.entry (ltb-true id.entry inner q)) (columns e)
+              (and_right (not (names_none e)) (list_all (λ id. nat_lt id.entry inner) (columns e)) over)
 
           go : (b : Bool) → is_ready (first ∷ []) e ≡ b → sunk count e (joined_on less (first ∷ []) (scan less first) ss) ≡ joined_on more (first ∷ []) (scan more first) ss
           go true ready =
@@ -346,34 +353,7 @@ module _ (at : Setting) where
               comes_later ss (first ∷ []) (scan less first) first_covers first_there new.2 waits in_end
               ∙ ap (λ t. joined_on more (first ∷ []) t ss) (sym (scan_same first (bools.and_right (names_entry e first) (is_local first e) (sym alone ∙ waits))))
 
-      stays_out : is_over count e ≡ false → joined_on more (first ∷ []) (scan more first) ss ≡ joined_on less (first ∷ []) (scan less first) ss
+      pub stays_out : is_over inner e ≡ false → joined_on more (first ∷ []) (scan more first) ss ≡ joined_on less (first ∷ []) (scan less first) ss
       stays_out other =
-          ap (λ t. joined_on more (first ∷ []) t ss) (scan_same first (not_then (only_of e first) (is_over count e) (only_is_over first new.0 e) other))
+          ap (λ t. joined_on more (first ∷ []) t ss) (scan_same first (not_then (only_of e first) (is_over inner e) (only_is_over first new.0 e) other))
           ∙ not_among ss (first ∷ []) (scan less first) first_there new.2 other
-
-      pub settles_in : settled count e (shape less (codes.Steps (s ∷ ss))) ≡ shape more (codes.Steps (s ∷ ss))
-      settles_in = go (is_over count e) refl
-        where
-          tops : List BoundExpr
-          tops = filter on_top known
-
-          inner : Term
-          inner = joined_on less (first ∷ []) (scan less first) ss
-
-          go : (b : Bool) → is_over count e ≡ b → (if b then sunk count e (shape less (codes.Steps (s ∷ ss))) else Filtered e (shape less (codes.Steps (s ∷ ss)))) ≡ shape more (codes.Steps (s ∷ ss))
-          go true over =
-              sunk_passes e (filter on_top known) (joined_on less (first ∷ []) (scan less first) ss)
-              (kept_pass on_top (λ a. passes count e a (joined_on less (first ∷ []) (scan less first) ss)) (λ a q. or_left (not (is_over count a)) (goes_deeper e (joined_on less (first ∷ []) (scan less first) ss)) q) known)
-              ∙ ap₂ (λ l t. filters l t) (sym (filter_without on_top known e (ap not over))) (sinks_in over)
-          go false other =
-              sym (filters_with (filter on_top known) e (joined_on less (first ∷ []) (scan less first) ss))
-              ∙ ap₂ (λ l t. filters l t) (sym (filter_with on_top known e (ap not other))) (sym (stays_out other))
-
-  -- all conditions, one after another
-  pub all_settle_in : (s : CodeStep) (ss : List CodeStep) → AreNew count [] (s ∷ ss) → ((k : ℕ) → k < count → is_among (placed_after [] (s ∷ ss)) k ≡ true) → (es known : List BoundExpr) →
-      all_settled count es (shape (under at known) (codes.Steps (s ∷ ss))) ≡ shape (under at (known ++ es)) (codes.Steps (s ∷ ss))
-  all_settle_in s ss new all [] known = ap (λ l. shape (under at l) (codes.Steps (s ∷ ss))) (sym (append-nil known))
-  all_settle_in s ss new all (e ∷ es) known =
-      ap (all_settled count es) (settles_in known e s ss new all)
-      ∙ all_settle_in s ss new all es (known ++ e ∷ [])
-      ∙ ap (λ l. shape (under at l) (codes.Steps (s ∷ ss))) (append_assoc known (e ∷ []) es)

@@ -17,9 +17,10 @@ use Rattle.algebra.specs.Steps.{Step}
 use Rattle.tuples.specs.Guards.{Guard}
 use Rattle.trailcheck.specs.Entries.{is_over}
 use Rattle.trailcheck.specs.Settings.{Setting}
+use Rattle.trailcheck.specs.Shapes.{inner_steps, left_steps}
 use Rattle.rewrite.specs.Trails.{at_root, at_root_with, down, all_down, below_filters}
 use Rattle.rewrite.specs.Simplifying.{simplifying_each, repeated, parting, parting_each, from_top, adding, adding_each, adding_all, dropping, simplifying_steps, simplifying_from, simplifying}
-use Rattle.rewrite.specs.Placing.{without, exchanging, raising, ordering, opening_one, opening, opened_back, passes, sinking, settled, settling, settling_all, clearing, emptying, from_entries, code_entries, placing}
+use Rattle.rewrite.specs.Placing.{without, exchanging, raising, ordering, opening_one, opening, below_lefts, all_opened, joining, arranging, passes, sinking, settled, settling, settling_all, clearing, emptying, from_entries, code_entries, placing}
 use Rattle.rewrite.proofs.SimplifiedLength.{is_few, length-adding_each, length-adding_all}
 
 -- a rule below 64, with at most two arguments, none of them more than conditions may be
@@ -207,15 +208,21 @@ emptying_small (e ∷ es) = go (is_never_true e) (emptying_small es)
     go true h = both (below_filters (length es) (at_root 15 ∷ [])) (clearing (length es)) (small_below (length es) (at_root 15 ∷ []) (one_root 15 (omega arith))) (clearing_small (length es))
     go false h = h
 
+below_lefts_small : (frame : List Guard) (is : List ℕ) (steps : List Step) → AreSmall steps → AreSmall (below_lefts frame is steps)
+below_lefts_small frame [] steps h = h
+below_lefts_small frame (i ∷ is) steps h =
+    both (all_down Second (opening_one frame i)) (all_down First (below_lefts frame is steps)) (small_all Second (opening_one frame i) (opening_one_small frame i)) (small_all First (below_lefts frame is steps) (below_lefts_small frame is steps h))
+
 placing_small : (at : Setting) (code : Code) → AreSmall (placing at code)
 placing_small at codes.Empty = emptying_small at.conditions
-placing_small at (codes.Steps []) = clearing_small (length at.conditions)
-placing_small at (codes.Steps (s ∷ ss)) =
-    let cs = code_entries at (s ∷ ss) in
+placing_small at (codes.Steps ss) =
+    let cs = code_entries at (inner_steps at ss) in
     let order = ordering cs (from_entries at) in
-    both (below_filters (length at.conditions) (order ++ opening at.frame cs)) (settling_all (length at.frame) at.conditions (opened_back at cs))
-    (small_below (length at.conditions) (order ++ opening at.frame cs) (both order (opening at.frame cs) (ordering_small cs (from_entries at)) (opening_small at.frame cs)))
-    (settling_all_small (length at.frame) at.conditions (opened_back at cs))
+    let way = arranging at (code_entries at (left_steps at ss)) cs in
+    both (below_filters (length at.conditions) way) (settling_all (length at.frame) at.conditions (all_opened at cs))
+    (small_below (length at.conditions) way
+    (below_lefts_small at.frame (code_entries at (left_steps at ss)) (joining at cs) (both order (opening at.frame cs) (ordering_small cs (from_entries at)) (opening_small at.frame cs))))
+    (settling_all_small (length at.frame) at.conditions (all_opened at cs))
 
 -- ---- all of it
 

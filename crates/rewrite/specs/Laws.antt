@@ -1,11 +1,11 @@
 -- Where the trails of a planner lead.
-use Rattle.std.specs.Prelude.{◌≡◌, ◌≤◌, ℕ, true, List, [], ◌++◌, length, Ok}
+use Rattle.std.specs.Prelude.{◌≡◌, ◌≤◌, ℕ, true, List, ◌++◌, length, Ok}
 use Rattle.value.specs.Limits.{most_conjuncts, most_entries}
 use Rattle.expr.specs.BoundQuery.{BoundQuery}
 use Rattle.expr.specs.Codes.{Code}
-use Rattle.expr.specs.Conjuncts.{left_ons, movable_conjuncts}
+use Rattle.expr.specs.Conjuncts.{movable_conjuncts}
 use Rattle.tuples.specs.Guards.{Guard}
-use Rattle.row_terms.specs.Written.{written, joins, filters, left_conditions, all_joins}
+use Rattle.row_terms.specs.Written.{written, filters, left_conditions, all_joins}
 use Rattle.algebra.specs.Keeping.{MeanSame}
 use Rattle.algebra.specs.PlanningList.{planning_list}
 use Rattle.trailcheck.specs.Admissible.{is_admissible}
@@ -21,18 +21,18 @@ use Rattle.rewrite.specs.Placing.{placing}
 abbrev pub SimplifiesEach : Type 0
 SimplifiesEach = (frame : List Guard) (count : ℕ) (q : BoundQuery) → led frame (simplifying q) (written count q) ≡ Ok (filters (planning_list q) (all_joins count (left_conditions q)))
 
--- and those that place them lead from there to the shape, of every admissible code, where there are no left joins
+-- and those that place them lead from there to the shape, of every admissible code
 abbrev pub PlacesEach : Type 0
-PlacesEach = (at : Setting) (code : Code) → is_admissible at code ≡ true → led at.frame (placing at code) (filters at.conditions (joins (length at.frame))) ≡ Ok (shape at code)
+PlacesEach = (at : Setting) (code : Code) → is_admissible at code ≡ true → led at.frame (placing at code) (filters at.conditions (all_joins (length at.frame) at.lefts)) ≡ Ok (shape at code)
 
--- so the shape of an admissible code means the bag of the written term of a query without left joins, in every content
+-- so the shape of an admissible code means the bag of the written term, in every content
 abbrev pub ShapesMeanSame : Type 0
-ShapesMeanSame = (at : Setting) (q : BoundQuery) (code : Code) → left_ons q ≡ [] → at.conditions ≡ planning_list q → is_admissible at code ≡ true → MeanSame at.frame (written (length at.frame) q) (shape at code)
+ShapesMeanSame = (at : Setting) (q : BoundQuery) (code : Code) → at.lefts ≡ left_conditions q → at.conditions ≡ planning_list q → is_admissible at code ≡ true → MeanSame at.frame (written (length at.frame) q) (shape at code)
 
--- the checker accepts both together, of a query without left joins that is within the limits
+-- the checker accepts both together, of a query within the limits
 abbrev pub PlansAreAccepted : Type 0
 PlansAreAccepted =
-    (at : Setting) (q : BoundQuery) (code : Code) → left_ons q ≡ [] → at.conditions ≡ planning_list q → length at.frame ≤ most_entries → length (movable_conjuncts q) ≤ most_conjuncts → is_admissible at code ≡ true
+    (at : Setting) (q : BoundQuery) (code : Code) → at.lefts ≡ left_conditions q → length at.lefts ≤ length at.frame → at.conditions ≡ planning_list q → length at.frame ≤ most_entries → length (movable_conjuncts q) ≤ most_conjuncts → is_admissible at code ≡ true
     → verdict at (written (length at.frame) q) (simplifying q ++ placing at code) code ≡ Accepted
 
 -- the most steps of both together

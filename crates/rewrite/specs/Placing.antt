@@ -14,8 +14,8 @@ use Rattle.algebra.specs.Rules.{is_open}
 use Rattle.algebra.specs.Runs.{reads_only}
 use Rattle.algebra.specs.Steps.{Step}
 use Rattle.trailcheck.specs.Entries.{is_over}
-use Rattle.trailcheck.specs.Settings.{Setting}
-use Rattle.trailcheck.specs.Shapes.{entry_index}
+use Rattle.trailcheck.specs.Settings.{Setting, inner_count}
+use Rattle.trailcheck.specs.Shapes.{entry_index, inner_steps, left_steps}
 use Rattle.rewrite.specs.Trails.{at_root, all_down, below_filters}
 
 -- ---- the order of the entries; lists of entries have the last one first
@@ -56,6 +56,11 @@ abbrev pub opening : List Guard → List ℕ → List Step
 opening frame [] = []
 opening frame (i ∷ []) = opening_one frame i
 opening frame (i ∷ (j ∷ more)) = all_down Second (opening_one frame i) ++ all_down First (opening frame (j ∷ more))
+
+-- steps below left joined entries, the last first, whose guards are opened on the way down
+abbrev pub below_lefts : List Guard → List ℕ → List Step → List Step
+below_lefts frame [] steps = steps
+below_lefts frame (i ∷ is) steps = all_down Second (opening_one frame i) ++ all_down First (below_lefts frame is steps)
 
 -- ---- one condition, from the top of a term to its place in it
 
@@ -121,9 +126,9 @@ emptying (e ∷ es) = if is_never_true e then below_filters (length es) (at_root
 -- ---- all of it
 
 module _ (at : Setting) where
-  -- the entries in the order of FROM, the last first
+  -- the entries that are not left joined in the order of FROM, the last first
   abbrev pub from_entries : List ℕ
-  from_entries = reverse (range_with_len 0 (length at.frame))
+  from_entries = reverse (range_with_len 0 (inner_count at))
 
   -- the entries of the steps of a code, the last first
   abbrev pub code_entries : List CodeStep → List ℕ
@@ -138,9 +143,25 @@ module _ (at : Setting) where
   opened_back (i ∷ []) = opened i
   opened_back (i ∷ (j ∷ more)) = Joined (opened_back (j ∷ more)) (opened i)
 
+  -- the left joined entries from a number on, one after another
+  abbrev pub opened_lefts : ℕ → (ons : List BoundExpr) → Term → Term
+  opened_lefts i [] x = x
+  opened_lefts i (on ∷ ons) x = opened_lefts (suc i) ons (LeftJoined on x (opened i))
+
+  -- the entries that are not left joined, the last first, and then the left joined ones
+  abbrev pub all_opened : List ℕ → Term
+  all_opened is = opened_lefts (inner_count at) at.lefts (opened_back is)
+
+  -- from the joins in the order of FROM to those of the entries, the last first
+  abbrev pub joining : List ℕ → List Step
+  joining is = ordering is from_entries ++ opening at.frame is
+
+  -- and the same below the left joined entries, the last first
+  abbrev pub arranging : (lefts inner : List ℕ) → List Step
+  arranging lefts inner = below_lefts at.frame lefts (joining inner)
+
   abbrev pub placing : Code → List Step
   placing codes.Empty = emptying at.conditions
-  placing (codes.Steps []) = clearing (length at.conditions)
-  placing (codes.Steps (s ∷ ss)) =
-      below_filters (length at.conditions) (ordering (code_entries (s ∷ ss)) from_entries ++ opening at.frame (code_entries (s ∷ ss)))
-      ++ settling_all (length at.frame) at.conditions (opened_back (code_entries (s ∷ ss)))
+  placing (codes.Steps ss) =
+      below_filters (length at.conditions) (arranging (code_entries (left_steps at ss)) (code_entries (inner_steps at ss)))
+      ++ settling_all (length at.frame) at.conditions (all_opened (code_entries (inner_steps at ss)))

@@ -11,18 +11,18 @@ ghost use Rattle.trailcheck.specs.View.{setting_of};
 ghost use Rattle.rewrite.specs.Placing as spec;
 ghost use Rattle.rewrite.specs.Trails.{below_path};
 
-use crate::nodes::{guarded, joined};
+use crate::nodes::{guarded, joined, left_joined};
 use crate::steps::{further, push_step};
 use algebra::Step;
 use expr::CodeStep;
 use memory::{Heap, Items};
 use row_terms::{Branch, Term};
 use std::alloc::AllocError;
-use trailcheck::{Setting, entry_index};
+use trailcheck::{Setting, entry_index, inner_count};
 use tuples::Guard;
 
-/// The first so many entries, the last first.
-pub(crate) fn from_entries<A: Heap>(alloc: A, count: usize) -> Result<Items<usize, A>, AllocError>
+// The first so many entries, the last first.
+fn from_entries<A: Heap>(alloc: A, count: usize) -> Result<Items<usize, A>, AllocError>
     ensures { IfOk result (λ l. l ≡ reverse (range_with_len 0 count)) }
 {
     let mut entries = Items::new(alloc);
@@ -107,8 +107,8 @@ fn push_raising<A: Heap>(
     push_exchanging(alloc, trail, path, below)
 }
 
-/// Adds the steps from the joins of the entries to those of the wanted ones.
-pub(crate) fn push_ordering<A: Heap>(
+// Adds the steps from the joins of the entries to those of the wanted ones.
+fn push_ordering<A: Heap>(
     alloc: A,
     trail: &mut Items<Step<A>, A>,
     path: &[Branch],
@@ -150,8 +150,8 @@ fn push_opening_one<A: Heap>(
     }
 }
 
-/// Adds the steps that drop the guards of the entries that show all rows.
-pub(crate) fn push_opening<A: Heap>(
+// Adds the steps that drop the guards of the entries that show all rows.
+fn push_opening<A: Heap>(
     alloc: A,
     trail: &mut Items<Step<A>, A>,
     path: &[Branch],
@@ -172,6 +172,43 @@ pub(crate) fn push_opening<A: Heap>(
     }
 }
 
+// Adds the steps from the joins in the order of FROM to those of the entries, the last first, with a guard only where it hides a row.
+fn push_joining<A: Heap>(
+    alloc: A,
+    setting: &Setting<A>,
+    trail: &mut Items<Step<A>, A>,
+    path: &[Branch],
+    inner: &[usize],
+) -> Result<(), AllocError>
+    ensures { OnOk result (map step_of trail.new ≡ map step_of trail.old ++ below_path path.now (spec.joining (setting_of setting.now) inner.now)) }
+{
+    let entries = from_entries(alloc, inner_count(setting))?;
+    push_ordering(alloc, trail, path, inner, entries.as_slice())?;
+    push_opening(alloc, trail, path, setting.frame.as_slice(), inner)
+}
+
+/// Adds the steps from the joins and left joins in the order of FROM to those of the entries, the last first, with a guard only
+/// where it hides a row.
+pub(crate) fn push_arranging<A: Heap>(
+    alloc: A,
+    setting: &Setting<A>,
+    trail: &mut Items<Step<A>, A>,
+    path: &[Branch],
+    lefts: &[usize],
+    inner: &[usize],
+) -> Result<(), AllocError>
+    ensures { OnOk result (map step_of trail.new ≡ map step_of trail.old ++ below_path path.now (spec.arranging (setting_of setting.now) lefts.now inner.now)) }
+{
+    let [entry, lefts @ ..] = lefts else {
+        return push_joining(alloc, setting, trail, path, inner);
+    };
+    let side = further(alloc, path, Branch::Second)?;
+    let frame = setting.frame.as_slice();
+    push_opening_one(alloc, trail, side.as_slice(), frame, *entry)?;
+    let deeper = further(alloc, path, Branch::First)?;
+    push_arranging(alloc, setting, trail, deeper.as_slice(), lefts, inner)
+}
+
 // The rows of an entry, under its guard unless that shows all.
 fn opened<A: Heap>(alloc: A, setting: &Setting<A>, entry: usize) -> Result<Term<A>, AllocError>
     ensures { IfOk result (λ t. term_of t ≡ spec.opened (setting_of setting.now) entry) }
@@ -184,8 +221,8 @@ fn opened<A: Heap>(alloc: A, setting: &Setting<A>, entry: usize) -> Result<Term<
     }
 }
 
-/// The joins of the entries, with a guard only where it hides a row; the last entry is the first of the list.
-pub(crate) fn opened_back<A: Heap>(
+// The joins of the entries, with a guard only where it hides a row; the last entry is the first of the list.
+fn opened_back<A: Heap>(
     alloc: A,
     setting: &Setting<A>,
     entries: &[usize],
@@ -203,4 +240,22 @@ pub(crate) fn opened_back<A: Heap>(
             joined(alloc, left, right)
         }
     }
+}
+
+/// The same below the left joined entries, one after another.
+pub(crate) fn all_opened<A: Heap>(
+    alloc: A,
+    setting: &Setting<A>,
+    entries: &[usize],
+) -> Result<Term<A>, AllocError>
+    ensures { IfOk result (λ t. term_of t ≡ spec.all_opened (setting_of setting.now) entries.now) }
+{
+    let mut term = opened_back(alloc, setting, entries)?;
+    let mut entry = inner_count(setting);
+    for on in setting.lefts.as_slice() {
+        let right = opened(alloc, setting, entry)?;
+        term = left_joined(alloc, on.copy(alloc)?, term, right)?;
+        entry += 1;
+    }
+    Ok(term)
 }

@@ -8,7 +8,7 @@ ghost use Rattle.trailcheck.specs.View.{setting_of};
 ghost use Rattle.expr.specs.Codes as codes;
 ghost use Rattle.rewrite.specs.Placing as spec;
 
-use crate::arranging::{code_entries, from_entries, opened_back, push_opening, push_ordering};
+use crate::arranging::{all_opened, code_entries, push_arranging};
 use crate::settling::settle;
 use crate::steps::{path_below, push_step};
 use algebra::Step;
@@ -17,7 +17,7 @@ use memory::{Heap, Items};
 use predicates::is_never_true;
 use row_terms::Term;
 use std::alloc::AllocError;
-use trailcheck::Setting;
+use trailcheck::{Setting, inner_steps, left_steps};
 
 // Adds the steps from the term under so many filters down to the empty term.
 fn push_clearing<A: Heap>(
@@ -82,28 +82,19 @@ fn push_placing<A: Heap>(
 ) -> Result<(), AllocError>
     ensures { OnOk result (map step_of trail.new ≡ map step_of trail.old ++ spec.placing (setting_of setting.now) (codes.Steps steps.now)) }
 {
-    if steps.is_empty() {
-        return push_clearing(alloc, trail, setting.conditions.len());
-    }
-    let count = setting.frame.len();
     let path = path_below(alloc, setting.conditions.len())?;
-    let wanted = code_entries(alloc, steps)?;
-    let entries = from_entries(alloc, count)?;
-    push_ordering(
+    let lefts = code_entries(alloc, left_steps(setting, steps))?;
+    let inner = code_entries(alloc, inner_steps(setting, steps))?;
+    push_arranging(
         alloc,
+        setting,
         trail,
         path.as_slice(),
-        wanted.as_slice(),
-        entries.as_slice(),
+        lefts.as_slice(),
+        inner.as_slice(),
     )?;
-    push_opening(
-        alloc,
-        trail,
-        path.as_slice(),
-        setting.frame.as_slice(),
-        wanted.as_slice(),
-    )?;
-    let term = opened_back(alloc, setting, wanted.as_slice())?;
+    let term = all_opened(alloc, setting, inner.as_slice())?;
+    let count = setting.frame.len();
     settle_all(alloc, count, trail, setting.conditions.as_slice(), term)
 }
 

@@ -21,9 +21,9 @@ use Rattle.tuples.specs.Slots.{slot_at}
 use Rattle.tuples.specs.World.{GuardedTable, World, combination_at}
 use Rattle.tuples.specs.declared.slot.Slot.{Slot}
 use Rattle.tuples.specs.declared.slot.Slot.TheVariants as slot
-use Rattle.tuples.proofs.OneEntry.{outcome_alike}
-use Rattle.row_marks.specs.Marked.{among, entry_of, mark_on, marked_entry, one_entry, rows_in}
-use Rattle.row_marks.specs.Marks.{AreMarked, AreMarkedArguments, AreMarks, IsMarked, IsMarkedIf, argument_in, arguments_of, exprs_of, mark_at, mark_in, mark_of, mark_or, outcome_if, outcome_in, seen_of}
+use Rattle.tuples.proofs.OneEntry.{null_alike, outcome_alike}
+use Rattle.row_marks.specs.Marked.{among, entry_of, mark_on, mark_on_null, marked_entry, one_entry, rows_in}
+use Rattle.row_marks.specs.Marks.{AreMarked, AreMarkedArguments, AreMarks, IsMarked, IsMarkedIf, argument_in, arguments_of, exprs_of, mark_at, mark_by, mark_in, mark_or, null_mark, outcome_if, outcome_in, seen_of}
 use Rattle.row_marks.specs.declared.mark_column.MarkColumn.{MarkColumn}
 use Rattle.row_marks.specs.declared.marked.Marked.{Marked}
 use Rattle.row_marks.specs.declared.marked.MarkedArgument.{MarkedArgument}
@@ -80,10 +80,21 @@ mark_is w e i own slots n has =
     let there = table_there w.tables i is.below in
     outcome_alike w.tables w.role i there.0 there.1 e is.all slots n has ∙ ap (λ o. meaning (cells_of (row_at (rows_in o) n)) w.role e) (sym there.1)
 
-module _ {A : Type 0} (w : World) (e : BoundExpr) (i : ℕ) (own : marked_entry w e ≡ Some i) (c : MarkColumn A) (are : AreMarks (mark_on w i e) c) (slots : List Slot) where
-  in_slot : (s : Slot) → slot_at slots i ≡ s → mark_or (mark_in c s) (meaning (joined_cells (combination_at w.tables slots)) w.role e) ≡ meaning (joined_cells (combination_at w.tables slots)) w.role e
+pub null_mark_is : (w : World) (e : BoundExpr) (i : ℕ) → marked_entry w e ≡ Some i → (slots : List Slot) → slot_at slots i ≡ slot.NullRow → meaning (joined_cells (combination_at w.tables slots)) w.role e ≡ mark_on_null w e
+null_mark_is w e i own slots has =
+    let is = own_entry w e i own in
+    let there = table_there w.tables i is.below in
+    null_alike w.tables w.role i there.0 there.1 e is.all slots has
+
+module _ {A : Type 0} (w : World) (e : BoundExpr) (i : ℕ) (own : marked_entry w e ≡ Some i) (c : MarkColumn A) (are : AreMarks (mark_on w i e) c) (on_null : Option Outcome) (null_is : (o : Outcome) → on_null ≡ Some o → o ≡ mark_on_null w e)
+    (slots : List Slot) where
+  in_slot : (s : Slot) → slot_at slots i ≡ s → mark_or (mark_in c on_null s) (meaning (joined_cells (combination_at w.tables slots)) w.role e) ≡ meaning (joined_cells (combination_at w.tables slots)) w.role e
   in_slot slot.Absent has = refl
-  in_slot slot.NullRow has = refl
+  in_slot slot.NullRow has = made on_null refl
+    where
+      made : (o : Option Outcome) → on_null ≡ o → mark_or o (meaning (joined_cells (combination_at w.tables slots)) w.role e) ≡ meaning (joined_cells (combination_at w.tables slots)) w.role e
+      made None is = refl
+      made (Some m) is = null_is m is ∙ sym (null_mark_is w e i own slots has)
   in_slot (slot.Row n) has = made (mark_at c n) refl
     where
       made : (o : Option Outcome) → mark_at c n ≡ o → mark_or o (meaning (joined_cells (combination_at w.tables slots)) w.role e) ≡ meaning (joined_cells (combination_at w.tables slots)) w.role e
@@ -97,9 +108,9 @@ outcome_is {A} w m slots are = go m.entry refl
     e : BoundExpr
     e = bound_expr_of m.expression.now
 
-    go : (o : Option ℕ) → m.entry ≡ o → mark_or (mark_of m.marks o slots) (meaning (joined_cells (combination_at w.tables slots)) w.role e) ≡ meaning (joined_cells (combination_at w.tables slots)) w.role e
+    go : (o : Option ℕ) → m.entry ≡ o → mark_or (mark_by m.marks (null_mark m) o slots) (meaning (joined_cells (combination_at w.tables slots)) w.role e) ≡ meaning (joined_cells (combination_at w.tables slots)) w.role e
     go None is = refl
-    go (Some i) is = in_slot w e i (are i is).0 m.marks (are i is).1 slots (slot_at slots i) refl
+    go (Some i) is = in_slot w e i (are i is).0 m.marks (are i is).1 (null_mark m) (are i is).2 slots (slot_at slots i) refl
 
 -- ---- several of them
 

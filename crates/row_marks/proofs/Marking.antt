@@ -5,9 +5,10 @@ use Rattle.expr.specs.View.{bound_expr_of}
 use Rattle.expr.specs.Aggregates.{AggregateCall}
 use Rattle.expr.specs.Bound.{BoundExpr}
 use Rattle.expr.specs.BoundQuery.{BoundItem}
+use Rattle.eval.specs.Marks.{outcome_of}
 use Rattle.groups.proofs.SameGroups.{map-map}
 use Rattle.tuples.specs.World.{World}
-use Rattle.row_marks.specs.Marked.{drops_by, drops_first, mark_on, marked_entry}
+use Rattle.row_marks.specs.Marked.{drops_by, drops_first, mark_on, mark_on_null, marked_entry}
 use Rattle.row_marks.specs.Marks.{AreMarked, AreMarks, AreMarkedArguments, AreMarksOf, IsMarked, IsMarkedIf, argument_seen, arguments_of, exprs_of, seen_of}
 use Rattle.row_marks.specs.declared.marked.Marked.{Marked}
 use Rattle.row_marks.specs.declared.marked.MarkedArgument.{MarkedArgument}
@@ -57,11 +58,14 @@ marked_set w (m ∷ ms) zero old new is keep are = (keep (subst (IsMarked w) (sy
 marked_set w (m ∷ ms) (suc i) old new is keep are = (are.0, marked_set w ms i old new is keep are.1)
 
 -- what is seen of it and its marks are all that counts
-pub still_marked : {A : Type 0} (w : World) (old new : Marked A) → seen_of new ≡ seen_of old → new.marks ≡ old.marks → IsMarked w old → IsMarked w new
-still_marked w old new seen marks is entry at =
+pub still_marked : {A : Type 0} (w : World) (old new : Marked A) → seen_of new ≡ seen_of old → new.marks ≡ old.marks → new.on_null ≡ old.on_null → IsMarked w old → IsMarked w new
+still_marked w old new seen marks null is entry at =
     let was = is entry (sym (ap (λ s. s.1) seen) ∙ at) in
-    let e = ap (λ s. s.0) seen in
-    (ap (marked_entry w) e ∙ was.0, subst (λ c. AreMarks (mark_on w entry (bound_expr_of new.expression.now)) c) (sym marks) (subst (λ b. AreMarks (mark_on w entry b) old.marks) (sym e) was.1))
+    let e = ap (λ s. s.0) seen in (
+      ap (marked_entry w) e ∙ was.0,
+      subst (λ c. AreMarks (mark_on w entry (bound_expr_of new.expression.now)) c) (sym marks) (subst (λ b. AreMarks (mark_on w entry b) old.marks) (sym e) was.1),
+      λ o h. was.2 o (ap (option_map (λ mark. outcome_of mark)) (sym null) ∙ h) ∙ ap (mark_on_null w) (sym e),
+    )
 
 pub arguments_set : {A : Type 0} (w : World) (as_ : List (MarkedArgument A)) (i : ℕ) (old new : MarkedArgument A) → old ≡ get_or as_ i old → (IsMarkedIf w old.marked → IsMarkedIf w new.marked) → AreMarkedArguments w as_ → AreMarkedArguments w (slice_set as_ i new)
 arguments_set w [] i old new is keep are = tt

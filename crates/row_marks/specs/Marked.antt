@@ -1,5 +1,5 @@
 -- Expressions over one entry, and the rows that the first fragile conjunct drops.
-use Rattle.std.specs.Prelude.{ℕ, ◌==◌, nat_lt, Bool, false, not, ◌&&◌, List, [], ◌∷◌, length, slice_get, Option, Some, None, Ok, Err, if◌then◌else◌}
+use Rattle.std.specs.Prelude.{ℕ, ◌-◌, ◌==◌, nat_le, nat_lt, Bool, false, not, ◌&&◌, List, [], ◌∷◌, length, slice_get, Option, Some, None, Ok, Err, if◌then◌else◌}
 use Rattle.std.specs.List.{list_all}
 use Rattle.value.specs.Datum.{Row, row_at}
 use Rattle.value.specs.Conditions.{truth_at}
@@ -55,6 +55,10 @@ entry_rows w entry = rows_in (slice_get w.tables entry)
 abbrev pub mark_on : World → (entry : ℕ) → BoundExpr → (number : ℕ) → Outcome
 mark_on w entry e number = meaning (cells_of (row_at (entry_rows w entry) number)) w.role e
 
+-- on the null row
+abbrev pub mark_on_null : World → BoundExpr → Outcome
+mark_on_null w e = meaning (cells_of []) w.role e
+
 -- ---- the rows that the role sees
 
 -- a table has the row of this number, and its guard shows it
@@ -88,9 +92,14 @@ abbrev pub drops_first : World → List BoundExpr → (entry number : ℕ) → B
 drops_first w [] entry number = false
 drops_first w (e ∷ es) entry number = drops_by w e entry number
 
--- by the first fragile conjunct in written order, of which no other drops a row: an earlier one could fault
+-- the entry is left joined in the text: these are the last
+abbrev pub is_left : World → (entry : ℕ) → Bool
+is_left w entry = nat_le (length w.tables - w.query.left_count) entry
+
+-- by the first fragile conjunct in written order, of which no other drops a row: an earlier one could fault; and none of a left joined
+-- entry, where the null row would take its place
 abbrev pub drops : World → (entry number : ℕ) → Bool
-drops w entry number = drops_first w (fragile_conjuncts w.query) entry number
+drops w entry number = not (is_left w entry) && drops_first w (fragile_conjuncts w.query) entry number
 
 -- the rows that a run is asked for
 abbrev pub keeps_row : World → (entry number : ℕ) → Bool

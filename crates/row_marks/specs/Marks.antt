@@ -12,7 +12,7 @@ use Rattle.tuples.specs.Slots.{slot_at}
 use Rattle.tuples.specs.World.{World}
 use Rattle.tuples.specs.declared.slot.Slot.{Slot}
 use Rattle.tuples.specs.declared.slot.Slot.TheVariants as slot
-use Rattle.row_marks.specs.Marked.{computed_entry, mark_on, marked_entry, seen_mark}
+use Rattle.row_marks.specs.Marked.{computed_entry, mark_on, mark_on_null, marked_entry, seen_mark}
 use Rattle.row_marks.specs.Calls.{query_aggregates}
 use Rattle.row_marks.specs.declared.mark_column.MarkColumn.{MarkColumn}
 use Rattle.row_marks.specs.declared.marked.Marked.{Marked}
@@ -54,9 +54,16 @@ argument_seen a = option_map (λ m. seen_of m) a.marked
 abbrev pub arguments_of : {A : Type 0} → List (MarkedArgument A) → List (Option BoundExpr)
 arguments_of as_ = map (λ a. option_map (λ s. s.0) (argument_seen a)) as_
 
--- its marks are outcomes on the rows of its entry, which is the one that its columns are all of
+-- its mark on the null row of its entry, if it is made
+abbrev pub null_mark : {A : Type 0} → Marked A → Option Outcome
+null_mark m = option_map (λ mark. outcome_of mark) m.on_null
+
+-- its marks are outcomes on the rows of its entry, which is the one that its columns are all of, and on the null row
 abbrev pub IsMarked : {A : Type 0} → World → Marked A → Type 0
-IsMarked w m = (entry : ℕ) → m.entry ≡ Some entry → (marked_entry w (bound_expr_of m.expression.now) ≡ Some entry) × AreMarks (mark_on w entry (bound_expr_of m.expression.now)) m.marks
+IsMarked w m =
+    (entry : ℕ) → m.entry ≡ Some entry
+    → (marked_entry w (bound_expr_of m.expression.now) ≡ Some entry) × AreMarks (mark_on w entry (bound_expr_of m.expression.now)) m.marks
+    × ((o : Outcome) → null_mark m ≡ Some o → o ≡ mark_on_null w (bound_expr_of m.expression.now))
 
 abbrev pub AreMarked : {A : Type 0} → World → List (Marked A) → Type 0
 AreMarked w [] = ⊤
@@ -70,9 +77,11 @@ abbrev pub AreMarkedArguments : {A : Type 0} → World → List (MarkedArgument 
 AreMarkedArguments w [] = ⊤
 AreMarkedArguments w (a ∷ as_) = IsMarkedIf w a.marked × AreMarkedArguments w as_
 
--- its marks are made on the rows of its entry that the role sees, and on no other
+-- its marks are made on the rows of its entry that the role sees, and on no other; and that on the null row
 abbrev pub IsMade : {A : Type 0} → World → Marked A → Type 0
-IsMade w m = (entry : ℕ) → m.entry ≡ Some entry → (number : ℕ) → mark_at m.marks number ≡ seen_mark w entry (bound_expr_of m.expression.now) number
+IsMade w m =
+    (entry : ℕ) → m.entry ≡ Some entry
+    → ((number : ℕ) → mark_at m.marks number ≡ seen_mark w entry (bound_expr_of m.expression.now) number) × (null_mark m ≡ Some (mark_on_null w (bound_expr_of m.expression.now)))
 
 abbrev pub IsMadeIf : {A : Type 0} → World → Option (Marked A) → Type 0
 IsMadeIf w None = ⊤
@@ -86,15 +95,18 @@ AreMadeArguments w as_ = All (λ a. IsMadeIf w a.marked) as_
 
 -- ---- its outcome on a combination
 
--- the mark of the row in the slot of its entry, if it is made
-abbrev pub mark_in : {A : Type 0} → MarkColumn A → Slot → Option Outcome
-mark_in c slot.Absent = None
-mark_in c slot.NullRow = None
-mark_in c (slot.Row number) = mark_at c number
+-- the mark of the row, or of the null row, in the slot of its entry, if it is made
+abbrev pub mark_in : {A : Type 0} → MarkColumn A → (on_null : Option Outcome) → Slot → Option Outcome
+mark_in c on_null slot.Absent = None
+mark_in c on_null slot.NullRow = on_null
+mark_in c on_null (slot.Row number) = mark_at c number
 
-abbrev pub mark_of : {A : Type 0} → MarkColumn A → Option ℕ → List Slot → Option Outcome
-mark_of c None slots = None
-mark_of c (Some entry) slots = mark_in c (slot_at slots entry)
+abbrev pub mark_by : {A : Type 0} → MarkColumn A → (on_null : Option Outcome) → Option ℕ → List Slot → Option Outcome
+mark_by c on_null None slots = None
+mark_by c on_null (Some entry) slots = mark_in c on_null (slot_at slots entry)
+
+abbrev pub mark_of : {A : Type 0} → Marked A → List Slot → Option Outcome
+mark_of m slots = mark_by m.marks (null_mark m) m.entry slots
 
 abbrev pub mark_or : Option Outcome → Outcome → Outcome
 mark_or None outcome = outcome
@@ -102,7 +114,7 @@ mark_or (Some outcome) other = outcome
 
 -- its mark, else what it is on the cells
 abbrev pub outcome_in : {A : Type 0} → Cells → Name → List Slot → Marked A → Outcome
-outcome_in cells role slots m = mark_or (mark_of m.marks m.entry slots) (meaning cells role (bound_expr_of m.expression.now))
+outcome_in cells role slots m = mark_or (mark_of m slots) (meaning cells role (bound_expr_of m.expression.now))
 
 -- that of an argument: count(*) counts a value that is never null
 abbrev pub outcome_if : {A : Type 0} → Cells → Name → List Slot → Option (Marked A) → Outcome
@@ -115,7 +127,7 @@ argument_in cells role slots a = outcome_if cells role slots a.marked
 -- it is there already: count(*), or one whose mark on the combination is made
 abbrev pub IsThereIf : {A : Type 0} → List Slot → Option (Marked A) → Type 0
 IsThereIf slots None = ⊤
-IsThereIf slots (Some m) = IsSome (mark_of m.marks m.entry slots)
+IsThereIf slots (Some m) = IsSome (mark_of m slots)
 
 abbrev pub IsThere : {A : Type 0} → List Slot → MarkedArgument A → Type 0
 IsThere slots a = IsThereIf slots a.marked

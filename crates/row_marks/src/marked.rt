@@ -11,7 +11,7 @@ ghost use Rattle.tuples.specs.Slots.{slot_at};
 ghost use Rattle.tuples.specs.View.{world_of};
 ghost use Rattle.tuples.specs.declared.slot.Slot.TheVariants as slots;
 ghost use Rattle.row_marks.specs.Marked as spec;
-ghost use Rattle.row_marks.specs.Marks.{IsMade, IsMarked, StayMade, mark_at, mark_of, outcome_in, seen_of};
+ghost use Rattle.row_marks.specs.Marks.{IsMade, IsMarked, StayMade, mark_at, mark_of, null_mark, outcome_in, seen_of};
 
 use crate::mark_column::MarkColumn;
 use eval::{Mark, Row, eval, mark};
@@ -31,6 +31,8 @@ pub struct Marked<'w, A: Heap> {
     // False where no more marks are made for combinations.
     pub is_kept: bool,
     pub marks: MarkColumn<A>,
+    // The mark on the null row of the entry, if it is made.
+    pub on_null: Option<Mark<A>>,
 }
 
 /// The argument of an aggregate, with its marks; count(*) has none.
@@ -136,6 +138,35 @@ fn mark_on<A: Heap>(
     mark(alloc, expression, &row, world.role)
 }
 
+// The cells of a null row.
+struct NullCells {}
+
+impl<A: Heap> Row<A> for NullCells {
+    ghost use Rattle.std.specs.Prelude.{[]};
+    ghost use Rattle.tuples.specs.Rows.{cells_of};
+
+    ghost cells = { λ _. cells_of [] };
+
+    fn cell(&self, _id: ColumnId) -> Val<'_, A> {
+        Val::Null
+    }
+
+    fn aggregate(&self, _offset: u32) -> Val<'_, A> {
+        Val::Null
+    }
+}
+
+// The mark of an expression on the null row of its entry.
+fn mark_on_null<A: Heap>(
+    alloc: A,
+    world: &World<'_, A>,
+    expression: &BoundExpr<A>,
+) -> Result<Mark<A>, AllocError>
+    ensures { IfOk result (λ m. outcome_of m ≡ spec.mark_on_null (world_of world.now) (bound_expr_of expression.now)) }
+{
+    mark(alloc, expression, &NullCells {}, world.role)
+}
+
 // Puts the mark of an expression on a row of an entry, if the role sees it.
 fn put_if_seen<A: Heap>(
     alloc: A,
@@ -205,6 +236,7 @@ impl<'w, A: Heap> Marked<'w, A> {
             entry: marked_entry(alloc, world, expression)?,
             is_kept: true,
             marks: MarkColumn::new(alloc),
+            on_null: None,
         })
     }
 
@@ -222,6 +254,7 @@ impl<'w, A: Heap> Marked<'w, A> {
             entry: computed_entry(alloc, world, expression)?,
             is_kept: true,
             marks: MarkColumn::new(alloc),
+            on_null: None,
         })
     }
 
@@ -246,15 +279,32 @@ impl<'w, A: Heap> Marked<'w, A> {
         self.marks.put(number, mark)
     }
 
-    /// Makes its marks anew: on the rows of its entry that the role sees, and on no other.
+    // Makes the mark on the null row of its entry, unless it is made.
+    fn make_on_null(&mut self, alloc: A, world: &World<'_, A>) -> Result<(), AllocError>
+        ensures seen { seen_of self.new ≡ seen_of self.old }
+        ensures marked { IsMarked (world_of world.now) self.old → IsMarked (world_of world.now) self.new }
+        ensures made { OnOk result (IsSome (null_mark self.new)) }
+        ensures marks { self.new.marks ≡ self.old.marks }
+    {
+        if self.on_null.is_some() {
+            return Ok(());
+        }
+        self.on_null = Some(mark_on_null(alloc, world, self.expression)?);
+        Ok(())
+    }
+
+    /// Makes its marks anew: on the rows of its entry that the role sees, and on no other; and on the null row.
     pub fn make_seen(&mut self, alloc: A, world: &World<'_, A>) -> Result<(), AllocError>
         ensures seen { seen_of self.new ≡ seen_of self.old }
         ensures marked { IsMarked (world_of world.now) self.old → IsMarked (world_of world.now) self.new }
         ensures made { OnOk result (IsMade (world_of world.now) self.new) }
     {
-        if let Some(entry) = self.entry {
-            self.marks = seen_marks(alloc, world, self.expression, entry)?;
-        }
+        let Some(entry) = self.entry else {
+            return Ok(());
+        };
+        let on_null = mark_on_null(alloc, world, self.expression)?;
+        self.marks = seen_marks(alloc, world, self.expression, entry)?;
+        self.on_null = Some(on_null);
         Ok(())
     }
 
@@ -314,6 +364,7 @@ impl<'w, A: Heap> Marked<'w, A> {
     pub fn forgo(&mut self, entry: usize)
         ensures seen { seen_of self.new ≡ seen_of self.old }
         ensures marks { self.new.marks ≡ self.old.marks }
+        ensures on_null { self.new.on_null ≡ self.old.on_null }
         ensures others { self.old.entry ≢ Some entry → self.new ≡ self.old }
     {
         if self.entry == Some(entry) {
@@ -321,7 +372,7 @@ impl<'w, A: Heap> Marked<'w, A> {
         }
     }
 
-    /// Makes the mark on the row that a combination has of its entry, unless it is made or `forgo` was called.
+    /// Makes the mark on the row, or the null row, that a combination has of its entry, unless it is made or `forgo` was called.
     pub fn make(
         &mut self,
         alloc: A,
@@ -341,17 +392,19 @@ impl<'w, A: Heap> Marked<'w, A> {
         }
         match combination.row(entry) {
             Slot::Row(number) => self.make_on(alloc, world, entry, number),
-            Slot::Absent | Slot::NullRow => Ok(()),
+            Slot::NullRow => self.make_on_null(alloc, world),
+            Slot::Absent => Ok(()),
         }
     }
 
-    // The mark on the row that a combination has of its entry, if it is made.
+    // The mark on the row, or the null row, that a combination has of its entry, if it is made.
     fn mark(&self, combination: &Combo<A>) -> Option<&Mark<A>>
-        ensures { option_map (λ m. outcome_of m.now) result ≡ mark_of self.now.marks self.now.entry combination.now }
+        ensures { option_map (λ m. outcome_of m.now) result ≡ mark_of self.now combination.now }
     {
         match combination.row(self.entry?) {
             Slot::Row(number) => self.marks.get(number),
-            Slot::Absent | Slot::NullRow => None,
+            Slot::NullRow => self.on_null.as_ref(),
+            Slot::Absent => None,
         }
     }
 
@@ -365,7 +418,7 @@ impl<'w, A: Heap> Marked<'w, A> {
         role: &'r str,
     ) -> Result<Val<'r, A>, Failure<Fault>>
         ensures value { Gives datum_of result (outcome_in (R.cells row.now) role.now combination.now self.now) }
-        ensures in_place { IsSome (mark_of self.now.marks self.now.entry combination.now) → HasMemory result }
+        ensures in_place { IsSome (mark_of self.now combination.now) → HasMemory result }
     {
         match self.mark(combination) {
             Some(Mark::Value(value)) => Ok(value.as_val()),

@@ -1,10 +1,12 @@
 //! The marks of a query.
 
-ghost use Rattle.std.specs.Prelude.{◌≡◌, ℕ, IfOk, OnOk, false, map, option_map, true};
+ghost use Rattle.std.specs.Prelude.{◌≡◌, ℕ, IfOk, OnOk, false, map, not, option_map, true};
+ghost use Rattle.expr.specs.Conjuncts.{fragile_conjuncts};
 ghost use Rattle.expr.specs.View.{aggregate_call_of, aggregate_calls_of, bound_expr_of, bound_items_of};
 ghost use Rattle.tuples.specs.View.{world_of};
 ghost use Rattle.tuples.specs.World as spec_world;
-ghost use Rattle.row_marks.specs.Marked.{computed_entry, keeps_row, marked_entry};
+ghost use Rattle.row_marks.specs.Marked as marked;
+ghost use Rattle.row_marks.specs.Marked.{computed_entry, drops_first, keeps_row, marked_entry};
 ghost use Rattle.row_marks.specs.Marks.{AllMade, AreMade, AreMadeArguments, AreMarked, AreMarkedArguments, AreMarksOf, IsMadeIf, IsMarkedIf, argument_seen, seen_of};
 ghost use Rattle.row_marks.specs.Calls as spec;
 
@@ -105,6 +107,13 @@ fn marked_arguments<'w, A: Heap>(
     Ok(marked)
 }
 
+// True where the entry is left joined in the text.
+fn is_left<A: Heap>(world: &World<'_, A>, entry: usize) -> bool
+    ensures { result ≡ marked.is_left (world_of world.now) entry }
+{
+    world.tables.len().saturating_sub(world.query.left_count) <= entry
+}
+
 impl<'w, A: Heap> Marks<'w, A> {
     /// Of a query with these aggregates, before the first is made. It fails where memory runs out.
     pub fn new(
@@ -162,13 +171,38 @@ impl<'w, A: Heap> Marks<'w, A> {
     pub fn chooses(&self, entry: usize) -> bool
         ensures { (w : spec_world.World) → AreMarksOf w self.now → result ≡ false → (number : ℕ) → keeps_row w entry number ≡ true }
     {
+        self.first_chooses(entry)
+    }
+
+    // False only where the first fragile conjunct is false or null on no row of an entry that it is over alone.
+    fn first_chooses(&self, entry: usize) -> bool
+        ensures { (w : spec_world.World) → AreMarksOf w self.now → result ≡ false → (number : ℕ) → not (drops_first w (fragile_conjuncts w.query) entry number) ≡ true }
+    {
         match self.conditions.first() {
             Some(first) => first.entry == Some(entry),
             None => false,
         }
     }
 
-    /// False where the first fragile conjunct drops a row of an entry: it is false or null on it. A fault drops nothing.
+    // False where the first fragile conjunct is over an entry alone, and false or null on its row of a number.
+    fn first_keeps_row(
+        &mut self,
+        alloc: A,
+        world: &World<'_, A>,
+        entry: usize,
+        number: u32,
+    ) -> Result<bool, AllocError>
+        ensures kept { AreMarksOf (world_of world.now) self.old → IfOk result (λ b. b ≡ not (drops_first (world_of world.now) (fragile_conjuncts (world_of world.now).query) entry number)) }
+        ensures marks { AreMarksOf (world_of world.now) self.old → AreMarksOf (world_of world.now) self.new }
+    {
+        if self.conditions.is_empty() {
+            return Ok(true);
+        }
+        self.conditions[0].keeps_row(alloc, world, entry, number)
+    }
+
+    /// False where the first fragile conjunct drops a row of an entry that is not left joined: it is false or null on it. A fault drops
+    /// nothing.
     pub fn keeps_row(
         &mut self,
         alloc: A,
@@ -179,10 +213,10 @@ impl<'w, A: Heap> Marks<'w, A> {
         ensures kept { AreMarksOf (world_of world.now) self.old → IfOk result (λ b. b ≡ keeps_row (world_of world.now) entry number) }
         ensures marks { AreMarksOf (world_of world.now) self.old → AreMarksOf (world_of world.now) self.new }
     {
-        if self.conditions.is_empty() {
+        if is_left(world, entry) {
             return Ok(true);
         }
-        self.conditions[0].keeps_row(alloc, world, entry, number)
+        self.first_keeps_row(alloc, world, entry, number)
     }
 
     /// Makes no more marks for combinations on the rows of an entry; those that are made stay.
@@ -210,6 +244,22 @@ impl<'w, A: Heap> Marks<'w, A> {
         }
     }
 
+    // What `first_keeps_row` answers, by the marks that are made.
+    fn first_keeps(
+        &self,
+        alloc: A,
+        world: &World<'_, A>,
+        entry: usize,
+        number: u32,
+    ) -> Result<bool, AllocError>
+        ensures { AreMarksOf (world_of world.now) self.now → IfOk result (λ b. b ≡ not (drops_first (world_of world.now) (fragile_conjuncts (world_of world.now).query) entry number)) }
+    {
+        match self.conditions.first() {
+            Some(first) => first.keeps(alloc, world, entry, number),
+            None => Ok(true),
+        }
+    }
+
     /// What `keeps_row` answers, by the marks that are made: where that of the first fragile conjunct on the row is not, the conjunct is
     /// evaluated. It fails where memory runs out.
     pub fn keeps(
@@ -221,10 +271,10 @@ impl<'w, A: Heap> Marks<'w, A> {
     ) -> Result<bool, AllocError>
         ensures { AreMarksOf (world_of world.now) self.now → IfOk result (λ b. b ≡ keeps_row (world_of world.now) entry number) }
     {
-        match self.conditions.first() {
-            Some(first) => first.keeps(alloc, world, entry, number),
-            None => Ok(true),
+        if is_left(world, entry) {
+            return Ok(true);
         }
+        self.first_keeps(alloc, world, entry, number)
     }
 }
 

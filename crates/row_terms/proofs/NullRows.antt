@@ -3,8 +3,8 @@ use Rattle.std.proofs.Common.{◌≡◌, ◌⊎◌, inl, inr, ℕ, zero, suc, Bo
 use Rattle.std.specs.List.{list_any}
 use Rattle.tuples.specs.declared.slot.Slot.{Slot}
 use Rattle.tuples.specs.declared.slot.Slot.TheVariants.{Absent, NullRow, Row}
-use Rattle.tuples.specs.Slots.{slot_at, or_else, joined}
-use Rattle.row_terms.specs.Means.{lone_null, null_rows}
+use Rattle.tuples.specs.Slots.{slot_at, lone_null, or_else, joined}
+use Rattle.row_terms.specs.Means.{null_rows}
 
 or_absent : (p : Slot) → or_else p Absent ≡ p
 or_absent Absent = refl

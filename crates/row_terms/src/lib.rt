@@ -8,5 +8,5 @@ mod term;
 
 pub use laws::law_written_means;
 pub use path::Branch;
-pub use query_term::written;
+pub use query_term::{left_conditions, written};
 pub use term::{Term, covers};

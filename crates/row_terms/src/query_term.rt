@@ -112,8 +112,9 @@ fn push_left_conditions<A: Heap>(
     Ok(())
 }
 
-// The ONs of the left joined entries without their offsets, those that cannot fault.
-fn left_conditions<A: Heap>(
+/// The ONs of the left joined entries without their offsets, those that cannot fault; of an admitted query these are all. It fails
+/// where memory runs out.
+pub fn left_conditions<A: Heap>(
     alloc: A,
     query: &BoundQuery<A>,
 ) -> Result<Items<MovableExpr<A>, A>, AllocError>

@@ -103,12 +103,14 @@ pub(crate) fn setting(
     indexes: u64,
 ) -> Result<Setting<Global>, AllocError>
     requires { entries ≤ most_entries }
-    ensures { IfOk result (λ s. length s.frame ≡ entries) }
+    ensures entries { IfOk result (λ s. length s.frame ≡ entries) }
+    ensures lefts { IfOk result (λ s. length s.lefts ≡ 0) }
 {
     Ok(Setting {
         frame: frame(alloc, entries)?,
         indexed: indexed(alloc, entries, indexes)?,
         conditions: conditions(alloc, shape, entries)?,
+        lefts: Items::new(alloc),
     })
 }
 

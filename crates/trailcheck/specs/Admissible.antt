@@ -11,11 +11,12 @@ use Rattle.expr.specs.declared.code.Method.TheVariants.{Nested, Hash, Merge}
 use Rattle.expr.specs.declared.code.CodeStep.{CodeStep}
 use Rattle.expr.specs.Bound.{BoundExpr, Column, Literal, Comparison}
 use Rattle.expr.specs.Codes.{Code, Empty, Steps}
+use Rattle.expr.specs.Conjuncts.{conjuncts_of}
 use Rattle.predicates.specs.Equalities.{column_sides, is_never_true}
 use Rattle.predicates.specs.Numbered.{numbered}
 use Rattle.trailcheck.specs.Entries.{is_among, joins}
-use Rattle.trailcheck.specs.Settings.{Setting}
-use Rattle.trailcheck.specs.Shapes.{entry_index}
+use Rattle.trailcheck.specs.Settings.{Setting, inner_count}
+use Rattle.trailcheck.specs.Shapes.{entry_index, inner_steps, left_steps}
 
 -- ---- how the rows of an entry are read
 
@@ -54,6 +55,29 @@ are_across placed entry None = false
 abbrev pub equates : (placed : List ℕ) → (entry : ℕ) → BoundExpr → Bool
 equates placed entry e = are_across placed entry (column_sides e)
 
+-- ---- how left joined entries are joined
+
+abbrev pub is_full : Access → Bool
+is_full Full = true
+is_full _ = false
+
+-- by nested loops, or by a hash table of a conjunct of the ON, by its number, from 1, that equates a column of an earlier entry with one
+-- of the entry
+abbrev pub is_left_method : (entry : ℕ) → (on : BoundExpr) → Method → Bool
+is_left_method i on Nested = true
+is_left_method i on (Hash conjunct) = is_some_and (equates (range_with_len 0 i) i) (numbered (conjuncts_of on) conjunct)
+is_left_method i on (Merge conjunct) = false
+
+-- it reads all rows of the entry, and joins it so
+abbrev pub is_left_step : (entry : ℕ) → (on : BoundExpr) → CodeStep → Bool
+is_left_step i on s = (s.entry == suc i) && (is_full s.access && is_left_method i on s.method)
+
+-- a step for each left joined entry from a number on
+abbrev pub are_left_steps : ℕ → (ons : List BoundExpr) → List CodeStep → Bool
+are_left_steps i [] [] = true
+are_left_steps i (on ∷ ons) (s ∷ ss) = is_left_step i on s && are_left_steps (suc i) ons ss
+are_left_steps i _ _ = false
+
 module _ (at : Setting) where
   -- some condition is never true
   abbrev pub is_refuted : Bool
@@ -89,15 +113,15 @@ module _ (at : Setting) where
 
   -- some entry waits that is joined to the placed ones
   abbrev pub some_waiting : (placed : List ℕ) → Bool
-  some_waiting placed = list_any (is_waiting placed) (range_with_len 0 (length at.frame))
+  some_waiting placed = list_any (is_waiting placed) (range_with_len 0 (inner_count at))
 
   -- the entry is joined to the placed ones, or none that waits is
   abbrev pub is_connected : (placed : List ℕ) → (entry : ℕ) → Bool
   is_connected placed entry = is_joined placed entry || not (some_waiting placed)
 
-  -- the number, from 1, of an entry that has no place yet
+  -- the number, from 1, of an entry that is not left joined and has no place yet
   abbrev pub is_next : (placed : List ℕ) → CodeStep → Bool
-  is_next placed s = (nat_le 1 s.entry && nat_le s.entry (length at.frame)) && not (is_among placed (entry_index s))
+  is_next placed s = (nat_le 1 s.entry && nat_le s.entry (inner_count at)) && not (is_among placed (entry_index s))
 
   abbrev pub is_allowed_step : (placed : List ℕ) → CodeStep → Bool
   is_allowed_step placed s = (is_next placed s && is_connected placed (entry_index s)) && (is_allowed_access (entry_index s) s.access && is_allowed_method placed (entry_index s) s.method)
@@ -107,7 +131,7 @@ module _ (at : Setting) where
   are_allowed_steps placed [] = true
   are_allowed_steps placed (s ∷ ss) = is_allowed_step placed s && are_allowed_steps (placed ++ entry_index s ∷ []) ss
 
-  -- no rows where some condition is never true; else a step for each entry
+  -- no rows where some condition is never true; else a step for each entry, the left joined ones last
   abbrev pub is_admissible : Code → Bool
   is_admissible Empty = is_refuted
-  is_admissible (Steps ss) = not is_refuted && ((length ss == length at.frame) && are_allowed_steps [] ss)
+  is_admissible (Steps ss) = not is_refuted && ((length ss == length at.frame) && (are_allowed_steps [] (inner_steps at ss) && are_left_steps (inner_count at) at.lefts (left_steps at ss)))

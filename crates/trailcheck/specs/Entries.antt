@@ -1,5 +1,5 @@
 -- The entries that conditions name.
-use Rattle.std.specs.Prelude.{ℕ, Bool, not, nat_lt, ◌==◌, ◌&&◌, ◌||◌, List, length}
+use Rattle.std.specs.Prelude.{ℕ, Bool, not, nat_le, nat_lt, ◌==◌, ◌&&◌, ◌||◌, List, length}
 use Rattle.std.specs.List.{list_all, list_any}
 use Rattle.expr.specs.Bound.{BoundExpr}
 use Rattle.expr.specs.Columns.{columns}
@@ -27,6 +27,10 @@ only_of e i = names_entry e i && list_all (λ id. id.entry == i) (columns e)
 -- it names the entry and some of the list, and no other
 abbrev pub joins : BoundExpr → List ℕ → ℕ → Bool
 joins e entries i = (names_entry e i && names_some e entries) && names_within e entries i
+
+-- it names the entry, and no later one
+abbrev pub completes : ℕ → BoundExpr → Bool
+completes i e = names_entry e i && list_all (λ id. nat_le id.entry i) (columns e)
 
 -- it names no entry
 abbrev pub names_none : BoundExpr → Bool

@@ -9,9 +9,9 @@ ghost use Rattle.trailcheck.specs.View.{setting_of};
 
 use crate::access::is_allowed_access;
 use crate::entries::{is_among, joins};
-use crate::methods::is_allowed_method;
-use crate::setting::Setting;
-use crate::shapes::entry_index;
+use crate::methods::{are_left_steps, is_allowed_method};
+use crate::setting::{Setting, inner_count};
+use crate::shapes::{entry_index, inner_steps, left_steps};
 use expr::{Code, CodeStep, MovableExpr};
 use memory::{Heap, Items};
 use predicates::is_never_true;
@@ -64,7 +64,7 @@ fn some_waiting<A: Heap>(
 ) -> Result<bool, AllocError>
     ensures { IfOk result (λ b. b ≡ spec.some_waiting (setting_of setting.now) placed.now) }
 {
-    let count = setting.frame.len();
+    let count = inner_count(setting);
     for entry in 0..count {
         if is_waiting(alloc, setting, placed, entry)? {
             return Ok(true);
@@ -88,11 +88,11 @@ fn is_connected<A: Heap>(
     Ok(!some_waiting(alloc, setting, placed)?)
 }
 
-// True where the step's entry is the number of one that has no place yet.
+// True where the step's entry is the number of one that is not left joined and has no place yet.
 fn is_next<A: Heap>(setting: &Setting<A>, placed: &[usize], step: CodeStep) -> bool
     ensures { result ≡ spec.is_next (setting_of setting.now) placed.now step }
 {
-    let count = setting.frame.len() as u64;
+    let count = inner_count(setting) as u64;
     1 <= step.entry && step.entry <= count && !is_among(placed, entry_index(step))
 }
 
@@ -137,7 +137,7 @@ fn are_allowed_steps<A: Heap>(
 }
 
 /// True where a plan may have the code: no rows where a condition is never true; else a step for each entry, in an order in
-/// which each entry that can be joined to those before comes before the others, each read and joined as it can be.
+/// which each entry that can be joined to those before comes before the others, each read and joined as it can be, the left joined ones last in the order of FROM.
 pub fn is_admissible<A: Heap>(
     alloc: A,
     setting: &Setting<A>,
@@ -155,7 +155,17 @@ pub fn is_admissible<A: Heap>(
             if steps.len() != setting.frame.len() {
                 return Ok(false);
             }
-            are_allowed_steps(alloc, setting, steps.as_slice())
+            let steps = steps.as_slice();
+            if !are_allowed_steps(alloc, setting, inner_steps(setting, steps))? {
+                return Ok(false);
+            }
+            let lefts = setting.lefts.as_slice();
+            are_left_steps(
+                alloc,
+                inner_count(setting),
+                lefts,
+                left_steps(setting, steps),
+            )
         }
     }
 }

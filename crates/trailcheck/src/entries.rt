@@ -1,6 +1,6 @@
 //! The entries that conditions name.
 
-ghost use Rattle.std.specs.Prelude.{◌≡◌, ◌==◌, ◌&&◌, ◌||◌, IfOk, nat_lt};
+ghost use Rattle.std.specs.Prelude.{◌≡◌, ◌==◌, ◌&&◌, ◌||◌, IfOk, nat_le, nat_lt};
 ghost use Rattle.std.specs.List.{list_all, list_any};
 ghost use Rattle.expr.specs.Columns.{columns};
 ghost use Rattle.trailcheck.specs.Entries as spec;
@@ -88,6 +88,25 @@ pub(crate) fn joins<A: Heap>(
 {
     let columns = columns_of(alloc, condition)?;
     Ok(are_joining(columns.as_slice(), entries, entry))
+}
+
+// True where each column is of the entry or of one before it.
+fn all_up_to(columns: &[ColumnId], entry: usize) -> bool
+    ensures { result ≡ list_all (λ id. nat_le id.entry entry) columns.now }
+{
+    columns.iter().all(|id| id.entry <= entry)
+}
+
+/// True where the condition names the entry, and no later one.
+pub(crate) fn completes<A: Heap>(
+    alloc: A,
+    condition: &MovableExpr<A>,
+    entry: usize,
+) -> Result<bool, AllocError>
+    ensures { IfOk result (λ b. b ≡ spec.completes entry condition.now) }
+{
+    let columns = columns_of(alloc, condition)?;
+    Ok(some_of(columns.as_slice(), entry) && all_up_to(columns.as_slice(), entry))
 }
 
 // True where each column is of one of the first so many entries.

@@ -21,6 +21,6 @@ pub use admissible::{is_admissible, some_never_true};
 pub use judging::judge;
 pub use laws::{law_accepted_means_same, law_same_term_is_equal};
 pub use same_term::is_same_term;
-pub use setting::Setting;
-pub use shapes::{Wanted, entry_index, is_wanted, shape};
+pub use setting::{Setting, inner_count};
+pub use shapes::{Wanted, entry_index, inner_steps, is_wanted, left_steps, shape};
 pub use verdict::{Reason, Refusal, Verdict};

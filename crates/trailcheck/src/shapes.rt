@@ -1,15 +1,17 @@
 //! The shape of a code: the term that its plan computes, under the conditions of the planning list.
 
 ghost use Rattle.std.specs.Prelude.{◌≡◌, IfOk, filter, if◌then◌else◌};
+ghost use Rattle.std.specs.List.{range_with_len};
 ghost use Rattle.expr.specs.View.{code_of};
 ghost use Rattle.row_terms.specs.Terms as terms;
 ghost use Rattle.row_terms.specs.Written.{filters};
 ghost use Rattle.row_terms.specs.View.{term_of};
+ghost use Rattle.trailcheck.specs.Settings as settings;
 ghost use Rattle.trailcheck.specs.Shapes as spec;
 ghost use Rattle.trailcheck.specs.View.{setting_of, wanted_by};
 
-use crate::entries::{is_over, joins, only_of};
-use crate::setting::Setting;
+use crate::entries::{completes, is_over, joins, only_of};
+use crate::setting::{Setting, inner_count};
 use expr::{Code, CodeStep, MovableExpr};
 use memory::{Heap, Items, boxed};
 use row_terms::Term;
@@ -21,6 +23,8 @@ use tuples::Guard;
 pub enum Wanted<'p> {
     /// The entry, and no other.
     Alone { entry: usize },
+    /// The entry, and no later one.
+    Completing { entry: usize },
     /// The entry and some of the placed ones, and no other.
     Joining { placed: &'p [usize], entry: usize },
     /// No entry, of so many that there are.
@@ -37,6 +41,7 @@ pub fn is_wanted<A: Heap>(
 {
     match wanted {
         Wanted::Alone { entry } => only_of(alloc, condition, entry),
+        Wanted::Completing { entry } => completes(alloc, condition, entry),
         Wanted::Joining { placed, entry } => joins(alloc, condition, placed, entry),
         Wanted::OnTop { count } => Ok(!is_over(alloc, condition, count)?),
     }
@@ -135,6 +140,22 @@ fn with_entry<A: Heap>(
     filtered_by(alloc, wanted, setting.conditions.as_slice(), both)
 }
 
+/// The steps of the entries that are not left joined, which come first.
+pub fn inner_steps<'s, A: Heap>(setting: &Setting<A>, steps: &'s [CodeStep]) -> &'s [CodeStep]
+    ensures { result.now ≡ spec.inner_steps (setting_of setting.now) steps.now }
+{
+    let count = inner_count(setting);
+    &steps[..count.min(steps.len())]
+}
+
+/// Those of the left joined entries.
+pub fn left_steps<'s, A: Heap>(setting: &Setting<A>, steps: &'s [CodeStep]) -> &'s [CodeStep]
+    ensures { result.now ≡ spec.left_steps (setting_of setting.now) steps.now }
+{
+    let count = inner_count(setting);
+    &steps[count.min(steps.len())..]
+}
+
 /// The index of a step's entry, which the step counts from 1.
 pub fn entry_index(step: CodeStep) -> usize
     ensures { result ≡ spec.entry_index step }
@@ -162,6 +183,56 @@ fn joined_from<A: Heap>(
     Ok(term)
 }
 
+// The combinations of the term, each with the rows of a left joined entry on which its ON is true, or with the null row; those on
+// which the conditions are true whose last entry it is.
+fn with_left<A: Heap>(
+    alloc: A,
+    setting: &Setting<A>,
+    entry: usize,
+    on: &MovableExpr<A>,
+    term: Term<A>,
+) -> Result<Term<A>, AllocError>
+    ensures { IfOk result (λ t. term_of t ≡ spec.with_left (setting_of setting.now) entry on.now (term_of term)) }
+{
+    let right = under_guard(alloc, setting, entry, Term::Raw { entry })?;
+    let both = Term::LeftJoined {
+        on: on.copy(alloc)?,
+        left: boxed(alloc, term)?,
+        right: boxed(alloc, right)?,
+    };
+    let wanted = Wanted::Completing { entry };
+    filtered_by(alloc, wanted, setting.conditions.as_slice(), both)
+}
+
+// The left joined entries, one after another.
+fn left_over<A: Heap>(alloc: A, setting: &Setting<A>, term: Term<A>) -> Result<Term<A>, AllocError>
+    ensures { IfOk result (λ t. term_of t ≡ spec.left_over (setting_of setting.now) (settings.inner_count (setting_of setting.now)) setting.now.lefts (term_of term)) }
+{
+    let mut term = term;
+    let mut entry = inner_count(setting);
+    for on in setting.lefts.as_slice() {
+        term = with_left(alloc, setting, entry, on, term)?;
+        entry += 1;
+    }
+    Ok(term)
+}
+
+// The entries of the steps, one after another.
+fn joined_all<A: Heap>(
+    alloc: A,
+    setting: &Setting<A>,
+    steps: &[CodeStep],
+) -> Result<Term<A>, AllocError>
+    ensures { IfOk result (λ t. term_of t ≡ spec.joined_all (setting_of setting.now) steps.now) }
+{
+    match steps {
+        [] => Ok(Term::Empty {
+            entries: Items::new(alloc),
+        }),
+        [first, rest @ ..] => joined_from(alloc, setting, entry_index(*first), rest),
+    }
+}
+
 // The term under the conditions that are not over entries of the query.
 fn under_others<A: Heap>(
     alloc: A,
@@ -176,31 +247,37 @@ fn under_others<A: Heap>(
     filtered_by(alloc, wanted, setting.conditions.as_slice(), term)
 }
 
-// No combination of any entry.
-fn no_rows<A: Heap>(alloc: A, setting: &Setting<A>) -> Result<Term<A>, AllocError>
-    ensures { IfOk result (λ t. term_of t ≡ spec.no_rows (setting_of setting.now)) }
+// So many numbers, from 0 on.
+pub(crate) fn first_entries<A: Heap>(alloc: A, count: usize) -> Result<Items<usize, A>, AllocError>
+    ensures { IfOk result (λ entries. entries ≡ range_with_len 0 count) }
 {
-    let count = setting.frame.len();
     let mut entries = Items::new(alloc);
     for entry in 0..count {
         entries.push(entry)?;
     }
+    Ok(entries)
+}
+
+// No combination of any entry.
+fn no_rows<A: Heap>(alloc: A, setting: &Setting<A>) -> Result<Term<A>, AllocError>
+    ensures { IfOk result (λ t. term_of t ≡ spec.no_rows (setting_of setting.now)) }
+{
+    let entries = first_entries(alloc, setting.frame.len())?;
     Ok(Term::Empty { entries })
 }
 
-/// The shape of a code: each entry under its conditions and its guard, joined in the order of the steps, the other
-/// conditions where all the entries that they name are there.
+/// The shape of a code: each entry under its conditions and its guard, joined in the order of the steps, the left joined ones
+/// last, each under its guard alone; the other conditions where all the entries that they name are there.
 pub fn shape<A: Heap>(alloc: A, setting: &Setting<A>, code: &Code<A>) -> Result<Term<A>, AllocError>
     ensures { IfOk result (λ t. term_of t ≡ spec.shape (setting_of setting.now) (code_of code.now)) }
 {
     match code {
         Code::Empty => no_rows(alloc, setting),
-        Code::Steps(steps) => match steps.as_slice() {
-            [] => no_rows(alloc, setting),
-            [first, rest @ ..] => {
-                let term = joined_from(alloc, setting, entry_index(*first), rest)?;
-                under_others(alloc, setting, term)
-            }
-        },
+        Code::Steps(steps) => {
+            let inner = inner_steps(setting, steps.as_slice());
+            let term = joined_all(alloc, setting, inner)?;
+            let term = left_over(alloc, setting, term)?;
+            under_others(alloc, setting, term)
+        }
     }
 }

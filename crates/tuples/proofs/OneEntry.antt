@@ -24,20 +24,26 @@ all_contained {X} p (other ∷ xs) h x (zero, below, is) = let e : other ≡ x =
 all_contained p (other ∷ xs) h x (suc k, below, is) = all_contained p xs (and_right (p other) (list_all p xs) h) x (k, omega (arith, below), is)
 
 module _ (tables : List GuardedTable) (role : Name) (i : ℕ) (t : GuardedTable) (at : slice_get tables i ≡ Some t) where
-  -- an expression over the entry alone has the same outcome on a row as on a combination with this row
-  pub outcome_alike : (e : BoundExpr) → list_all (λ (id : ColumnId). id.entry == i) (columns e) ≡ true → (slots : List Slot) (n : ℕ) → slot_at slots i ≡ slot.Row n
-      → meaning (joined_cells (combination_at tables slots)) role e ≡ meaning (cells_of (row_at t.rows n)) role e
-  outcome_alike e only slots n has =
-      same_meaning (joined_cells (combination_at tables slots)) (cells_of (row_at t.rows n)) role e
-      record {
-        columns = λ id inside. own id (eqb-true id.entry i (all_contained (λ (c : ColumnId). c.entry == i) (columns e) only id inside));
-        aggregates = λ offset. refl;
-      }
-    where
-      own : (id : ColumnId) → id.entry ≡ i → cell (slice_index_or (combination_at tables slots) id.entry []) id.column ≡ cell (row_at t.rows n) id.column
-      own id e =
-          ap (λ (row : Row). cell row id.column)
-          (ap (λ (k : ℕ). slice_index_or (combination_at tables slots) k []) e
-          ∙ at_slot tables slots i
-          ∙ ap (λ o. row_of_slot o (slot_at slots i)) at
-          ∙ ap (row_of_slot (Some t)) has)
+  module _ (e : BoundExpr) (only : list_all (λ (id : ColumnId). id.entry == i) (columns e) ≡ true) (slots : List Slot) where
+    -- an expression over the entry alone has the same outcome on the row in a slot as on a combination with that slot
+    in_slot : (s : Slot) → slot_at slots i ≡ s → meaning (joined_cells (combination_at tables slots)) role e ≡ meaning (cells_of (row_of_slot (Some t) s)) role e
+    in_slot s has =
+        same_meaning (joined_cells (combination_at tables slots)) (cells_of (row_of_slot (Some t) s)) role e
+        record {
+          columns = λ id inside. own id (eqb-true id.entry i (all_contained (λ (c : ColumnId). c.entry == i) (columns e) only id inside));
+          aggregates = λ offset. refl;
+        }
+      where
+        own : (id : ColumnId) → id.entry ≡ i → cell (slice_index_or (combination_at tables slots) id.entry []) id.column ≡ cell (row_of_slot (Some t) s) id.column
+        own id e =
+            ap (λ (row : Row). cell row id.column)
+            (ap (λ (k : ℕ). slice_index_or (combination_at tables slots) k []) e
+            ∙ at_slot tables slots i
+            ∙ ap (λ o. row_of_slot o (slot_at slots i)) at
+            ∙ ap (row_of_slot (Some t)) has)
+
+    pub outcome_alike : (n : ℕ) → slot_at slots i ≡ slot.Row n → meaning (joined_cells (combination_at tables slots)) role e ≡ meaning (cells_of (row_at t.rows n)) role e
+    outcome_alike n has = in_slot (slot.Row n) has
+
+    pub null_alike : slot_at slots i ≡ slot.NullRow → meaning (joined_cells (combination_at tables slots)) role e ≡ meaning (cells_of []) role e
+    null_alike has = in_slot slot.NullRow has

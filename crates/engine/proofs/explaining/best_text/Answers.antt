@@ -5,6 +5,7 @@ use Rattle.expr.specs.View.{bound_query_of}
 use Rattle.scope.specs.View.{entries_of, entry_of}
 use Rattle.tuples.specs.View.{guard_of}
 use Rattle.stats.specs.View.{stats_of}
+use Rattle.row_terms.specs.Written.{left_conditions}
 use Rattle.trailcheck.specs.View.{setting_of}
 use Rattle.plan_texts.specs.View.{plan_of}
 use Rattle.bound_plans.specs.Entries.{plan_entries}
@@ -34,8 +35,16 @@ new-requires-clause-entries g c =
     let few = c.requires.few in
     omega (arith, same, as_many, few)
 
-pub new-requires-clause-joins : goal.new-requires-clause-joins
-new-requires-clause-joins g c = rw c.deref-2.ensures c.requires.joins
+pub new-requires-clause-lefts : goal.new-requires-clause-lefts
+new-requires-clause-lefts g c = ap (λ s. s.lefts) c.in_ok-setting.ensures.value ∙ ap (λ q. left_conditions (bound_query_of q)) (sym c.deref-2.ensures)
+
+pub new-requires-clause-among : goal.new-requires-clause-among
+new-requires-clause-among g c =
+    let same = as_long _ _ _ _ (c.in_ok-setting.ensures.shows []) in
+    let as_many = length-map c.args.bound.now.entries (λ e. entry_of e) in
+    let few = c.requires.lefts in
+    let lefts = ap (λ s. length s.lefts) c.in_ok-setting.ensures.value in
+    omega (arith, same, as_many, few, lefts)
 
 pub returns : goal.returns
 returns g c =
@@ -52,6 +61,6 @@ returns g c =
     let from = problem_is cat role b stats (setting_of c.in_ok-setting.setting) (map (λ s. stats_of s.now) c.deref-3.result.now) (bound_query_of c.deref-2.result.now) found.problem c.in_ok-found.ensures.problem set statistics query in
     let names = ap (λ es. plan_entries (entries_of es)) c.as_slice-entries.ensures in
     IfOk-weaker c.write_trail.result _ (λ v. v.items ≡ best_text cat role b stats)
-    (λ v h. h ∙ written_best cat role b stats found c.in_ok-plan.ensures.plan (c.in_ok-found.ensures.query ∙ query) from (entries_of c.as_slice-entries.result.now) c.as_slice.result.now (plan_entries (entries_of c.as_slice-entries.result.now)) (plan_of c.in_ok-plan.plan)
-    (ap entries_of c.as_slice-entries.ensures) (c.as_slice.ensures ∙ ap (λ s. s.conditions) set) names c.in_ok-plan.ensures.value)
+    (λ v h. h ∙ written_best cat role b stats found c.in_ok-plan.ensures.plan (c.in_ok-found.ensures.query ∙ query) from (entries_of c.as_slice-entries.result.now) c.as_slice-conditions.result.now c.as_slice-lefts.result.now (plan_entries (entries_of c.as_slice-entries.result.now)) (plan_of c.in_ok-plan.plan)
+    (ap entries_of c.as_slice-entries.ensures) (c.as_slice-conditions.ensures ∙ ap (λ s. s.conditions) set) (c.as_slice-lefts.ensures ∙ ap (λ s. s.lefts) set) names c.in_ok-plan.ensures.value)
     c.write_trail.ensures

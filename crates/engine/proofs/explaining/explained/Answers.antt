@@ -9,8 +9,13 @@ use Rattle.engine.specs.Known.{statistics_in}
 use Rattle.engine.proofs.Tables.{read_parsed}
 use Rattle.engine.proofs.explaining.explained.Goals as goal
 
-pub explained_query-explained-requires : goal.explained_query-explained-requires
-explained_query-explained-requires g c =
+pub explained_query-explained-requires-clause-from : goal.explained_query-explained-requires-clause-from
+explained_query-explained-requires-clause-from g c =
+    let read = (rw c.catalog.ensures.catalog at c.in_ok-query.ensures.read) in
+    c.law_queries_have_tables.ensures c.args.text.now (query_of c.in-Ok.query) (read_parsed c.args.store.now.catalog c.args.role.now c.args.text.now (query_of c.in-Ok.query) (sym read ∙ ap read_of c.in-Ok.is))
+
+pub explained_query-explained-requires-clause-limits : goal.explained_query-explained-requires-clause-limits
+explained_query-explained-requires-clause-limits g c =
     let read = (rw c.catalog.ensures.catalog at c.in_ok-query.ensures.read) in
     (c.law_parsing_is_determined.ensures.query.found c.args.text.now (query_of c.in-Ok.query) (read_parsed c.args.store.now.catalog c.args.role.now c.args.text.now (query_of c.in-Ok.query) (sym read ∙ ap read_of c.in-Ok.is))).2
 

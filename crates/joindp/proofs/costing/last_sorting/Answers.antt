@@ -1,4 +1,3 @@
-use Rattle.stats.specs.View.{members}
 use Rattle.joindp.specs.Best.{estimates}
 use Rattle.joindp.specs.View.{problem_of}
 use Rattle.joindp.proofs.Costs.{last_sorted}
@@ -7,5 +6,4 @@ use Rattle.joindp.proofs.costing.last_sorting.Goals as goal
 pub returns-in-Some-clause-value : goal.returns-in-Some-clause-value
 returns-in-Some-clause-value g c =
     let p = c.args.problem.now in
-    last_sorted (estimates (problem_of p)) c.args.order p.wanted c.in-Some.id (members c.all_entries.result) c.is_ordered_by.result c.size.result c.sorting_unless.result c.in-Some.is c.is_ordered_by.ensures c.all_entries.ensures c.size.ensures.value
-    c.sorting_unless.ensures.value
+    last_sorted (estimates (problem_of p)) c.args.order p.wanted c.in-Some.id c.is_ordered_by.result c.whole_size.result c.sorting_unless.result c.in-Some.is c.is_ordered_by.ensures c.whole_size.ensures.value c.sorting_unless.ensures.value

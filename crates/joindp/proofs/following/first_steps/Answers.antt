@@ -8,11 +8,12 @@ use Rattle.joindp.specs.View.{problem_of}
 use Rattle.joindp.proofs.Passing.{as_many, at_place, one_left, one_taken}
 use Rattle.joindp.proofs.following.first_steps.Goals as goal
 use Rattle.joindp.proofs.following.first_steps.Goals.{then-may_be_next+in_ok-push_first_steps, else-may_be_next}
+use Rattle.trailcheck.specs.Settings.{inner_count}
 
 pub loop-entry-init : goal.loop-entry-init
 loop-entry-init g c =
     let at = (problem_of c.args.problem.now).setting in
-    let count : length c.args.accesses.now - 0 ≡ length at.frame = omega (arith, as_many (spec.accesses at) (length at.frame) c.args.accesses.now c.requires) in
+    let count : length c.args.accesses.now - 0 ≡ inner_count at = omega (arith, as_many (spec.accesses at) (inner_count at) c.args.accesses.now c.requires) in
     rw c.new-steps.ensures (ap (λ n. flat_map (λ (entry : ℕ). map (spec.first_step entry) (spec.accesses at entry)) (filter (spec.may_be_next at (λ entry. false)) (range_with_len 0 n))) count)
 
 pub loop-entry-preserved : goal.loop-entry-preserved
@@ -23,7 +24,7 @@ loop-entry-preserved g c =
     let entry = c.loop-entry.entry in
     let count = length c.args.accesses.now in
     let more : count - entry ≡ suc (count - (entry + 1)) = omega (arith, c.loop-entry-test.true) in
-    let own = at_place (spec.accesses at) (length at.frame) c.args.accesses.now c.requires entry c.index-accesses-entry.result c.loop-entry-test.true c.index-accesses-entry.is in
+    let own = at_place (spec.accesses at) (inner_count at) c.args.accesses.now c.requires entry c.index-accesses-entry.result c.loop-entry-test.true c.index-accesses-entry.is in
     let test = c.may_be_next.ensures ∙ ap (λ (placed : Entries). spec.may_be_next at placed entry) (fun_ext c.none-placed.ensures.members) in
     elim c.if-may_be_next.branch [
       | then-may_be_next+in_ok-push_first_steps w ↦

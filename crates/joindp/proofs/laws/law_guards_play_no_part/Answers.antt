@@ -2,4 +2,5 @@ use Rattle.joindp.proofs.Guards.{admissible_alike, cost_alike}
 use Rattle.joindp.proofs.laws.law_guards_play_no_part.Goals as goal
 
 pub returns : goal.returns
-returns c = λ p q code frames indexes conditions statistics wanted. (admissible_alike p.setting q.setting code frames indexes conditions, cost_alike p q code conditions statistics wanted)
+returns c =
+    λ p q code frames indexes conditions lefts statistics wanted. (admissible_alike p.setting q.setting code frames indexes conditions lefts, cost_alike p q code conditions lefts statistics wanted)

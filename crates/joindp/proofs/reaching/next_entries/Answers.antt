@@ -1,6 +1,4 @@
 use Rattle.std.proofs.Common.{◌≡◌, ◌∙◌, ◌&&◌, ◌||◌, ◌==◌, nat_lt, ap, arith}
-use Rattle.std.proofs.lemmas.List.{length-map}
-use Rattle.trailcheck.specs.TuplesView.{guard_of}
 use Rattle.stats.specs.View.{members}
 use Rattle.joindp.specs.Following.{may_be_next}
 use Rattle.joindp.specs.Search.{entry_count}
@@ -15,6 +13,5 @@ loop-entry-preserved g c =
 
 pub returns : goal.returns
 returns g c =
-    let l = length-map c.args.problem.now.setting.now.frame guard_of in
-    let n : c.loop-entry.entry ≡ entry_count (problem_of c.args.problem.now) = omega (arith, l, c.len-count.ensures, c.loop-entry-test.false) in
+    let n : c.loop-entry.entry ≡ entry_count (problem_of c.args.problem.now) = omega (arith, c.inner_count-count.ensures.count, c.loop-entry-test.false) in
     λ i. c.loop-entry.invariant i ∙ ap (λ k. nat_lt i k && may_be_next (problem_of c.args.problem.now).setting (members c.args.placed) i) n

@@ -1,6 +1,4 @@
 use Rattle.std.proofs.Common.{◌≡◌, ◌∙◌, ◌^◌, ◌&&◌, ℕ, [], ◌∷◌, true, nat_lt, ap, subst, sym, length-append, arith}
-use Rattle.std.proofs.lemmas.List.{length-map}
-use Rattle.trailcheck.specs.TuplesView.{guard_of}
 use Rattle.joindp.specs.Following.{may_be_next}
 use Rattle.joindp.specs.Search.{entry_count, is_reached, set_of}
 use Rattle.joindp.specs.View.{problem_of}
@@ -22,7 +20,6 @@ loop-set-preserved g c =
 
 pub returns : goal.returns
 returns g c =
-    let l = length-map c.args.problem.now.setting.now.frame guard_of in
-    let n : c.len.result ≡ entry_count (problem_of c.args.problem.now) = omega (arith, l, c.len.ensures) in
+    let n = c.inner_count.ensures.count in
     let count : c.loop-set.set ≡ 2 ^ entry_count (problem_of c.args.problem.now) = let b = c.bit_of-sets.ensures ∙ ap (λ k. 2 ^ k) n in omega (arith, b, c.loop-set-test.false) in
     (c.loop-set.invariant.long ∙ count, λ set within. c.loop-set.invariant.each set 0 (omega (arith, within, count)))

@@ -1,7 +1,6 @@
 use Rattle.std.proofs.Common.{◌∙◌, ◌++◌, [], ◌∷◌, map, arith, ap, ap₂, sym}
 use Rattle.std.specs.List.{range_with_len}
-use Rattle.std.proofs.lemmas.List.{length-map, map-append}
-use Rattle.trailcheck.specs.TuplesView.{guard_of}
+use Rattle.std.proofs.lemmas.List.{map-append}
 use Rattle.trailcheck.specs.View.{setting_of}
 use Rattle.trailcheck.proofs.Numbers.{numbers_more}
 use Rattle.joindp.specs.Following.{accesses}
@@ -15,5 +14,4 @@ loop-entry-preserved g c =
 pub returns : goal.returns
 returns g c =
     let f = accesses (setting_of c.args.problem.now.setting.now) in
-    let l = length-map c.args.problem.now.setting.now.frame guard_of in
-    c.loop-entry.invariant ∙ ap (λ n. map f (range_with_len 0 n)) (omega (arith, l, c.len-count.ensures, c.loop-entry-test.false))
+    c.loop-entry.invariant ∙ ap (λ n. map f (range_with_len 0 n)) (omega (arith, c.inner_count-count.ensures.count, c.loop-entry-test.false))

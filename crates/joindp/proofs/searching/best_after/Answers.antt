@@ -20,7 +20,7 @@ rest_after-rest-requires-clause-allowed g c = may_come (problem_of c.args.inputs
 pub better-best-requires-clause-rest : goal.better-best-requires-clause-rest
 better-best-requires-clause-rest g c =
     let p = problem_of c.args.inputs.now.problem.now in
-    let few : entry_count p ≤ 12 = few_of _ c.args.inputs.now.problem.now.setting.now.frame c.args.inputs.now.problem.now.few in
+    let few : entry_count p ≤ 12 = few_of _ _ c.args.inputs.now.problem.now.setting.now.frame c.args.inputs.now.problem.now.few in
     let sets = few_sets p few in
     smaller _ 4096 (plan_of c.rest_after-rest.result.now) (omega (arith, sets)) c.rest_after-rest.ensures.small
 

@@ -12,7 +12,7 @@ pub returns-in-None : goal.returns-in-None
 returns-in-None g c =
     let inputs = c.args.inputs.now in
     let p = problem_of inputs.problem.now in
-    let few : entry_count p ≤ 12 = few_of _ inputs.problem.now.setting.now.frame inputs.problem.now.few in
+    let few : entry_count p ≤ 12 = few_of _ _ inputs.problem.now.setting.now.frame inputs.problem.now.few in
     let n = inputs.sized.0 in
     let nexts = inputs.nexts.now in
     let orders = inputs.orders.now in
@@ -29,7 +29,7 @@ pub returns-in_default : goal.returns-in_default
 returns-in_default g c =
     let inputs = c.args.inputs.now in
     let p = problem_of inputs.problem.now in
-    let few : entry_count p ≤ 12 = few_of _ inputs.problem.now.setting.now.frame inputs.problem.now.few in
+    let few : entry_count p ≤ 12 = few_of _ _ inputs.problem.now.setting.now.frame inputs.problem.now.few in
     let n = inputs.sized.0 in
     let nexts = inputs.nexts.now in
     let orders = inputs.orders.now in

@@ -16,7 +16,7 @@ use Rattle.joindp.proofs.searching.rest_after.Goals as goal
 pub overflow_add-set : goal.overflow_add-set
 overflow_add-set g c =
     let p = problem_of c.args.inputs.now.problem.now in
-    let few : entry_count p ≤ 12 = few_of _ c.args.inputs.now.problem.now.setting.now.frame c.args.inputs.now.problem.now.few in
+    let few : entry_count p ≤ 12 = few_of _ _ c.args.inputs.now.problem.now.setting.now.frame c.args.inputs.now.problem.now.few in
     let sets = few_sets p few in
     let b = bit_within p few (set_of c.args.set) c.args.candidate.now.step c.requires.allowed in
     rw c.requires.candidate.bit (omega (arith, b, sets, c.requires.within))
@@ -24,13 +24,13 @@ overflow_add-set g c =
 pub best_in-requires-clause-within : goal.best_in-requires-clause-within
 best_in-requires-clause-within g c =
     let p = problem_of c.args.inputs.now.problem.now in
-    let few : entry_count p ≤ 12 = few_of _ c.args.inputs.now.problem.now.setting.now.frame c.args.inputs.now.problem.now.few in
+    let few : entry_count p ≤ 12 = few_of _ _ c.args.inputs.now.problem.now.setting.now.frame c.args.inputs.now.problem.now.few in
     rw c.requires.candidate.bit (set_after p few c.args.set c.args.candidate.now.step c.requires.within c.requires.allowed)
 
 pub best_in-requires-clause-reached : goal.best_in-requires-clause-reached
 best_in-requires-clause-reached g c =
     let p = problem_of c.args.inputs.now.problem.now in
-    let few : entry_count p ≤ 12 = few_of _ c.args.inputs.now.problem.now.setting.now.frame c.args.inputs.now.problem.now.few in
+    let few : entry_count p ≤ 12 = few_of _ _ c.args.inputs.now.problem.now.setting.now.frame c.args.inputs.now.problem.now.few in
     rw c.requires.candidate.bit (reached_after p c.args.inputs.now.nexts.now c.args.inputs.now.following few c.args.set c.args.candidate.now.step c.requires.within c.requires.allowed c.requires.reached)
 
 pub best_in-requires-clause-index : goal.best_in-requires-clause-index
@@ -42,7 +42,7 @@ pub returns-clause-best : goal.returns-clause-best
 returns-clause-best g c =
     let p = problem_of c.args.inputs.now.problem.now in
     let s = c.args.candidate.now.step in
-    let few : entry_count p ≤ 12 = few_of _ c.args.inputs.now.problem.now.setting.now.frame c.args.inputs.now.problem.now.few in
+    let few : entry_count p ≤ 12 = few_of _ _ c.args.inputs.now.problem.now.setting.now.frame c.args.inputs.now.problem.now.few in
     let new = is_new p.setting (set_of c.args.set) s c.requires.allowed in
     let next = order_after p.setting.conditions (entry_index s) c.args.order s.method in
     let there = ap (slice_get c.args.inputs.now.orders.now) c.index_after-next.ensures ∙ c.requires.candidate.order c.args.index c.args.order c.requires.order in
@@ -54,7 +54,7 @@ pub returns-clause-small : goal.returns-clause-small
 returns-clause-small g c =
     let p = problem_of c.args.inputs.now.problem.now in
     let s = c.args.candidate.now.step in
-    let few : entry_count p ≤ 12 = few_of _ c.args.inputs.now.problem.now.setting.now.frame c.args.inputs.now.problem.now.few in
+    let few : entry_count p ≤ 12 = few_of _ _ c.args.inputs.now.problem.now.setting.now.frame c.args.inputs.now.problem.now.few in
     let new = is_new p.setting (set_of c.args.set) s c.requires.allowed in
     let next = order_after p.setting.conditions (entry_index s) c.args.order s.method in
     let there = ap (slice_get c.args.inputs.now.orders.now) c.index_after-next.ensures ∙ c.requires.candidate.order c.args.index c.args.order c.requires.order in

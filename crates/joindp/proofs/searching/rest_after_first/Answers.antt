@@ -14,13 +14,13 @@ use Rattle.joindp.proofs.searching.rest_after_first.Goals as goal
 pub best_in-requires-clause-within : goal.best_in-requires-clause-within
 best_in-requires-clause-within g c =
     let p = problem_of c.args.inputs.now.problem.now in
-    let few : entry_count p ≤ 12 = few_of _ c.args.inputs.now.problem.now.setting.now.frame c.args.inputs.now.problem.now.few in
+    let few : entry_count p ≤ 12 = few_of _ _ c.args.inputs.now.problem.now.setting.now.frame c.args.inputs.now.problem.now.few in
     rw (c.bit_of-set.ensures, c.entry_index-entry.ensures) (bit_within p few (λ entry. false) c.args.step c.requires.allowed)
 
 pub best_in-requires-clause-reached : goal.best_in-requires-clause-reached
 best_in-requires-clause-reached g c =
     let p = problem_of c.args.inputs.now.problem.now in
-    let few : entry_count p ≤ 12 = few_of _ c.args.inputs.now.problem.now.setting.now.frame c.args.inputs.now.problem.now.few in
+    let few : entry_count p ≤ 12 = few_of _ _ c.args.inputs.now.problem.now.setting.now.frame c.args.inputs.now.problem.now.few in
     rw (c.bit_of-set.ensures, c.entry_index-entry.ensures) (reached_first p c.args.inputs.now.nexts.now c.args.inputs.now.following few c.args.step c.requires.allowed)
 
 pub best_in-requires-clause-index : goal.best_in-requires-clause-index
@@ -30,7 +30,7 @@ pub returns-clause-best : goal.returns-clause-best
 returns-clause-best g c =
     let p = problem_of c.args.inputs.now.problem.now in
     let i = entry_index c.args.step in
-    let few : entry_count p ≤ 12 = few_of _ c.args.inputs.now.problem.now.setting.now.frame c.args.inputs.now.problem.now.few in
+    let few : entry_count p ≤ 12 = few_of _ _ c.args.inputs.now.problem.now.setting.now.frame c.args.inputs.now.problem.now.few in
     let new = is_new p.setting (λ entry. false) c.args.step c.requires.allowed in
     let set = c.bit_of-set.ensures ∙ ap (λ k. 2 ^ k) c.entry_index-entry.ensures in
     let order = c.order_of.ensures ∙ ap (λ k. order_of k c.args.step.access) c.entry_index-entry.ensures in
@@ -44,7 +44,7 @@ pub returns-clause-small : goal.returns-clause-small
 returns-clause-small g c =
     let p = problem_of c.args.inputs.now.problem.now in
     let i = entry_index c.args.step in
-    let few : entry_count p ≤ 12 = few_of _ c.args.inputs.now.problem.now.setting.now.frame c.args.inputs.now.problem.now.few in
+    let few : entry_count p ≤ 12 = few_of _ _ c.args.inputs.now.problem.now.setting.now.frame c.args.inputs.now.problem.now.few in
     let sets = few_sets p few in
     let new = is_new p.setting (λ entry. false) c.args.step c.requires.allowed in
     let set = c.bit_of-set.ensures ∙ ap (λ k. 2 ^ k) c.entry_index-entry.ensures in

@@ -1,6 +1,4 @@
 use Rattle.std.proofs.Common.{◌≡◌, ◌∙◌, ◌^◌, ◌≤◌, [], ◌∷◌, length-append, ap, arith}
-use Rattle.std.proofs.lemmas.List.{length-map}
-use Rattle.trailcheck.specs.TuplesView.{guard_of}
 use Rattle.joindp.specs.Best.{estimates}
 use Rattle.joindp.specs.Cost.{size}
 use Rattle.joindp.specs.Search.{entry_count, set_of}
@@ -18,7 +16,6 @@ loop-bits-preserved g c =
 
 pub returns : goal.returns
 returns g c =
-    let l = length-map c.args.problem.now.setting.now.frame guard_of in
-    let n : c.len.result ≡ entry_count (problem_of c.args.problem.now) = omega (arith, l, c.len.ensures) in
+    let n = c.inner_count.ensures.count in
     let count : c.loop-bits.bits ≡ 2 ^ entry_count (problem_of c.args.problem.now) = let b = c.bit_of-count.ensures ∙ ap (λ k. 2 ^ k) n in omega (arith, b, c.loop-bits-test.false) in
     (c.loop-bits.invariant.long ∙ count, λ set within. c.loop-bits.invariant.each set 0 (omega (arith, within, count)))

@@ -1,5 +1,6 @@
 use Rattle.std.proofs.Common.{[], ◌∷◌, ap, map, subst, sym, take, ◌∙◌, arith}
 use Rattle.std.proofs.lemmas.List.{map-append}
+use Rattle.std.proofs.lemmas.Result.{err_from_is_err_and}
 use Rattle.tuples.specs.View.{world_of}
 use Rattle.tuples.specs.World.{combination_at}
 use Rattle.row_marks.proofs.Marking.{all_taken}
@@ -21,3 +22,8 @@ returns g c = λ are same p.
     let w = world_of c.args.world.now in
     let all = all_taken c.args.combinations.now c.loop-combination.combination-index (omega arith) in
     c.end.ensures w _ same (subst (λ l. Took w c.loop-combination.answering (map (combination_at w.tables) l)) all (c.loop-combination.invariant are)) p
+
+pub returns-in_err-take_marked : goal.returns-in_err-take_marked
+returns-in_err-take_marked g c = λ are same q.
+    let p = err_from_is_err_and c.from_residual-in_err-take_marked.result c.from_residual-in_err-take_marked.ensures.1 in
+    rw (p.1, p.2) tt

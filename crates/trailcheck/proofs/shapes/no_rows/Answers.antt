@@ -1,6 +1,9 @@
-use Rattle.std.proofs.Common.{◌++◌, ◌∷◌, [], ap, sym, ◌∙◌}
-use Rattle.trailcheck.proofs.Numbers.{numbers_more}
+use Rattle.std.proofs.Common.{ap, sym, ◌∙◌}
+use Rattle.std.proofs.lemmas.List.{length-map}
+use Rattle.std.specs.List.{range_with_len}
+use Rattle.row_terms.specs.Terms.{Empty}
+use Rattle.tuples.specs.View.{guard_of}
 use Rattle.trailcheck.proofs.shapes.no_rows.Goals as goal
 
-pub loop-entry-preserved : goal.loop-entry-preserved
-loop-entry-preserved g c = c.in_ok-push.ensures.ok ∙ ap (λ l. l ++ c.loop-entry.entry ∷ []) c.loop-entry.invariant ∙ sym (numbers_more c.loop-entry.entry)
+pub returns : goal.returns
+returns g c = ap Empty (c.in_ok-entries.ensures ∙ ap (range_with_len 0) (c.len.ensures ∙ sym (length-map c.args.setting.now.frame guard_of)))

@@ -24,12 +24,13 @@ invariant_of-result g c =
     let known = subst (λ (p : Problem). cost ≡ joindp.cost (estimates p) code) same found.cost in
     let least = subst (λ (p : Problem). IsLeast p cost code) same found.least in
     let few : length at.frame ≤ most_entries = subst (λ n. n ≤ most_entries) (sym (length-map c.args.setting.now.frame (λ x. guard_of x))) c.requires.entries in
+    let among : length at.lefts ≤ length at.frame = subst (λ n. length at.lefts ≤ n) (sym (length-map c.args.setting.now.frame (λ x. guard_of x))) c.requires.among in
     let laws = c.law_plans_are_accepted.ensures in
     record {
       admissible = admissible;
       cost = known;
       best = c.law_least_is_best.ensures problem code admissible (subst (λ n. IsLeast problem n code) known least);
       steps = refl;
-      accepted = laws.accepted at q code c.requires.joins c.requires.conditions few c.requires.conjuncts admissible;
+      accepted = laws.accepted at q code c.requires.lefts among c.requires.conditions few c.requires.conjuncts admissible;
       short = laws.short at q code c.requires.conditions few c.requires.conjuncts admissible;
     }

@@ -15,7 +15,7 @@ returns-clause-marked g c = λ are i h.
     let w = world_of c.args.world.now in
     let e = bound_expr_of c.args.self.now.expression.now in
     let same : c.args.entry ≡ i = some_is c.args.entry i (sym c.requires ∙ h) in
-    ((are i h).0, c.put.ensures.marks (mark_on w i e) (are i h).1 (c.in_ok-mark.ensures ∙ ap (λ k. mark_on w k e c.args.number) same))
+    ((are i h).0, c.put.ensures.marks (mark_on w i e) (are i h).1 (c.in_ok-mark.ensures ∙ ap (λ k. mark_on w k e c.args.number) same), (are i h).2)
 
 pub returns-clause-made : goal.returns-clause-made
 returns-clause-made g c = λ are lt.

@@ -1,0 +1,5 @@
+pub mod Before
+pub mod BestTails
+pub mod Numbers
+pub mod Reduced
+pub mod TailCosts
