@@ -3,4 +3,4 @@ mod Findable
 mod Made
 mod Compared
 mod Marks
-mod Ons
+pub mod Ons

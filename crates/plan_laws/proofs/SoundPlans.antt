@@ -1,7 +1,6 @@
 -- The plan with an admissible code has a text, its filters are the planning list, and the checker accepts its trail.
 use Rattle.std.proofs.Common.{◌≡◌, ◌<◌, ◌≤◌, ◌^◌, ℕ, suc, ◌+◌, ◌-◌, true, ◌&&◌, List, [], ◌∷◌, ◌++◌, map, filter, length, Option, Some, None, option_map, refl, sym, ap, ap₂, subst, ◌∙◌, arith}
 use Rattle.std.specs.List.{All, AllByRecursion, slice_get}
-use Rattle.std.proofs.lemmas.Bool.{eq-eqb}
 use Rattle.std.proofs.lemmas.List.{length-map}
 use Rattle.std.proofs.lemmas.List.Elements.{All-from_recursion}
 use Rattle.std.proofs.lemmas.Option.{slice_get_within}
@@ -47,9 +46,10 @@ use Rattle.plan_texts.specs.Plans.{Plan, PlanEntry}
 use Rattle.plan_texts.specs.Reading.{AreAll, HasColumn, HasEntry, IsCode, IsFilter, IsPlan, IsSort, IsSound, IsStep, on_without_offsets, plan_without_offsets}
 use Rattle.bound_plans.specs.Entries.{plan_entries}
 use Rattle.bound_plans.specs.Filters.{are_filters}
-use Rattle.bound_plans.specs.LeftJoins.{MarksAreRight, are_conditions, are_marked, are_numbered, are_ons, inner_count, is_of_query, marked_code, named_ons, named_ons_from}
+use Rattle.bound_plans.specs.LeftJoins.{MarksAreRight, are_conditions, are_marked, are_ons, inner_count, is_of_query, marked_code, named_ons, named_ons_from}
 use Rattle.bound_plans.specs.Found.{AreFound, ColumnsAreFound, IsColumn, NamesBindBack, Unmistakable}
 use Rattle.bound_plans.specs.Named.{named}
+use Rattle.bound_plans.proofs.Ons.{numbers_are}
 use Rattle.plan_laws.proofs.OwnNames.{present}
 use Rattle.plan_laws.proofs.ReadBack.{filter_is, filters_are}
 use Rattle.plan_laws.proofs.SoundCode.{as_many_steps, code_sound}
@@ -66,12 +66,6 @@ step_sound s h = record { rule = let l = h.rule in omega (arith, l); arguments =
 steps_sound : (ss : List Step) → AreSmall ss → AreAll IsStep ss
 steps_sound [] h = tt
 steps_sound (s ∷ ss) h = (step_sound s h.0, steps_sound ss h.1)
-
--- ---- the ONs
-
-numbers_are : (entries : List Entry) (number : ℕ) (cs : List BoundExpr) → are_numbered number (map on_without_offsets (named_ons_from entries number cs)) ≡ true
-numbers_are entries number [] = refl
-numbers_are entries number (c ∷ cs) = ap₂ ◌&&◌ (eq-eqb number number refl) (numbers_are entries (suc number) cs)
 
 -- ---- what the plans of a query are made from
 

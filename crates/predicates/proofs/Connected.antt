@@ -1,9 +1,10 @@
 -- Conditions joined by AND and OR, and taken apart, hold where their parts do.
-use Rattle.std.proofs.Common.{◌≡◌, ◌∙◌, sym, ap, ap₂, refl, ℕ, Bool, true, false, ◌&&◌, ◌||◌, List, Option, Some, None, option_map, Result, Ok, Err, IsOk}
+use Rattle.std.proofs.Common.{◌≡◌, ◌∙◌, sym, ap, ap₂, refl, ℕ, zero, suc, Bool, true, false, ◌&&◌, ◌||◌, List, slice_get, Option, Some, None, option_map, Result, Ok, Err, IsOk}
 use Rattle.value.specs.Orders.{is_true}
 use Rattle.value.specs.declared.faults.Fault.{Fault}
 use Rattle.value.specs.declared.order.Truth.{Truth}
 use Rattle.value.specs.declared.order.Truth.TheVariants.{False, Unknown, True}
+use Rattle.expr.specs.Conjuncts.{conjuncts_of, members}
 use Rattle.expr.specs.Movable.{movable, all_movable}
 use Rattle.expr.specs.Bound.{BoundExpr, And, Or, BoundExprs, no_expr, one_expr}
 use Rattle.eval.specs.Meaning.{Cells, Outcome, meaning, condition, as_datum, unless_false, unless_true, is_true_outcome, holds}
@@ -123,6 +124,20 @@ module _ (cells : Cells) (role : List ℕ) where
   both_hold e f =
       and_of_holds (before (and_members e) (and_members f)) ∙ ap is_so (all_before cells role (and_members e) (and_members f)) ∙ so_and (all cells role (and_members e)) (all cells role (and_members f))
       ∙ ap₂ ◌&&◌ (members_hold e) (members_hold f)
+
+  -- where a condition is true each of its conjuncts is
+  members_true : (es : BoundExprs) (k : ℕ) (c : BoundExpr) → slice_get (members es) k ≡ Some c → is_so (all cells role es) ≡ true → holds cells role c ≡ true
+  members_true no_expr k c at h = absurd (cc)
+  members_true (one_expr e es) zero c at h =
+      ap (holds cells role) (sym (some_is e c at)) ∙ so_holds e
+      ∙ and_left (is_so (truth cells role e)) (is_so (all cells role es)) (sym (so_and (truth cells role e) (all cells role es)) ∙ h)
+  members_true (one_expr e es) (suc k) c at h =
+      members_true es k c at (and_right (is_so (truth cells role e)) (is_so (all cells role es)) (sym (so_and (truth cells role e) (all cells role es)) ∙ h))
+
+  pub conjunct_holds : (e : BoundExpr) (k : ℕ) (c : BoundExpr) → slice_get (conjuncts_of e) k ≡ Some c → holds cells role e ≡ true → holds cells role c ≡ true
+  conjunct_holds (And offset es) k c at h = members_true es k c at (sym (so_datum (all cells role es)) ∙ h)
+  conjunct_holds e zero c at h = ap (holds cells role) (sym (some_is e c at)) ∙ h
+  conjunct_holds e (suc k) c at h = absurd (cc)
 
   first_parts_hold : (es : BoundExprs) (a r : BoundExpr) → first_and_rest es ≡ Some (a, r) → is_so (all cells role es) ≡ holds cells role a && holds cells role r
   first_parts_hold no_expr a r q = absurd (cc)
