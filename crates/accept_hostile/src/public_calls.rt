@@ -2,7 +2,7 @@
 
 use crate::malicious_plans::{NODES, PATHS, STEPS, query_of};
 use crate::rows::{expanded, fields, number};
-use engine::{Bound, admit, check, read_query, read_trail, write_trail};
+use engine::{Bound, admit, check, plain_code, read_query, read_trail, write_trail};
 use fixtures::sales;
 use memory::Failure;
 use row_tokens::TokenError;
@@ -76,8 +76,9 @@ fn checked(
         }
         Err(Failure::OutOfMemory) => return Err(AllocError),
     };
+    let code = plain_code(alloc, &plan.code)?;
     let trail = plan.trail.as_slice();
-    match check(alloc, store.catalog(), "audit", bound, trail, &plan.code)? {
+    match check(alloc, store.catalog(), "audit", bound, trail, &code)? {
         Verdict::Accepted => line.push_str("accepted")?,
         Verdict::Refused(at) => {
             let reason = reason_number(at.reason);

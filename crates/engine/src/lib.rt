@@ -26,7 +26,7 @@ mod writing;
 pub use analysis::{admit, read_query, refusal};
 pub use asking::{ask, law_each_table_is_held, law_refusals_read_no_row, run_plan};
 pub use auditing::check;
-pub use bound_plans::{read_trail, write_trail};
+pub use bound_plans::{plain_code, read_trail, write_trail};
 pub use explaining::{explain, law_known_statistics};
 pub use plans::Plan;
 pub use preparing::plan;
