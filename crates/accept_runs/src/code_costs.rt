@@ -1,11 +1,11 @@
 //! Costs of codes.
 
+use code_costs::{MAX_ENTRIES, Problem, cost};
 use crate::planned::{Asked, Planned, column_of, lent, make_planned};
 use crate::rows::fields;
 use crate::stores::made;
 use expr::Code;
 use fixtures::code_of;
-use joindp::{MAX_ENTRIES, Problem, cost};
 use std::alloc::{AllocError, AllocGlobal, Global};
 use std::process::Abort;
 use std::test::Fail;

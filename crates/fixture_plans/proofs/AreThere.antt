@@ -12,7 +12,7 @@ use Rattle.tuples.specs.declared.world.GuardedTable as declared
 use Rattle.trailcheck.specs.Admissible.{is_indexed, is_listed}
 use Rattle.trailcheck.specs.Settings.{Setting}
 use Rattle.expr.proofs.Lists.{any_map}
-use Rattle.executor.specs.Indexed.{AreIndexes, of_entry}
+use Rattle.access_paths.specs.Indexed.{AreIndexes, of_entry}
 use Rattle.fixture_plans.specs.Worlds.{AreOf}
 use Rattle.fixture_plans.proofs.EachIndexed.{some_same}
 

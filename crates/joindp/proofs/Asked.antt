@@ -10,15 +10,16 @@ use Rattle.stats.specs.Card.{Entries}
 use Rattle.trailcheck.specs.Admissible.{is_some_and}
 use Rattle.trailcheck.specs.Shapes.{entry_index}
 use Rattle.joindp.specs.declared.candidates.Candidate.{Candidate}
-use Rattle.joindp.specs.Best.{Problem, estimates}
+use Rattle.code_costs.specs.Best.{Problem, estimates}
 use Rattle.joindp.specs.Candidates.{AreCandidates, Asks, IsCandidate, asked, sorting_for}
-use Rattle.joindp.specs.Cost.{Estimates, step_cost_of}
+use Rattle.code_costs.specs.Cost.{Estimates, step_cost_of}
 use Rattle.predicates.specs.Numbered.{numbered}
 use Rattle.joins.specs.Orders.{Order, facing, order_after, sides, sides_held}
 use Rattle.joindp.specs.Following.{equates_with, may_follow, may_join_by, span}
 use Rattle.joindp.specs.Search.{After, AreSizes, cost_of_step, entry_count, next, search, set_of}
 use Rattle.joindp.specs.Walks.{IsBestFrom, IsBestOf, IsPick, Plan, with_first}
-use Rattle.joindp.proofs.Improved.{each_few, improved, no_step}
+use Rattle.code_costs.proofs.Few.{no_step}
+use Rattle.joindp.proofs.Improved.{each_few, improved}
 use Rattle.joindp.proofs.Sized.{cost_is}
 
 -- ---- a join that is no merge

@@ -14,11 +14,11 @@ use Rattle.trailcheck.specs.Shapes.{inner_steps, left_steps}
 use Rattle.left_tails.proofs.Before.{equal_cmp, greater_cmp}
 use Rattle.left_tails.proofs.BestTails.{no_worse_with}
 use Rattle.joindp.specs.declared.best.Best.{Best}
-use Rattle.joindp.specs.Best.{Problem, estimates, plan_cmp, IsLeast}
-use Rattle.joindp.specs.Cost.{cost, first_left, left_cost, steps_cost}
+use Rattle.code_costs.specs.Best.{Problem, estimates, plan_cmp, IsLeast}
+use Rattle.code_costs.specs.Cost.{cost, first_left, left_cost, steps_cost}
 use Rattle.joindp.specs.Search.{Start, entry_count, plan_of, search}
 use Rattle.joindp.specs.Walks.{IsNoLater, IsNoWorse, Plan, numbers, IsPath, path_cost, IsBestFrom}
-use Rattle.joindp.proofs.Codes.{code_is, inner_are, inner_many, is_code, left_are, with_tail}
+use Rattle.code_costs.proofs.Codes.{code_is, inner_are, inner_many, is_code, left_are, with_tail}
 use Rattle.joindp.proofs.Paths.{path_of, steps_of, cost_of_all}
 use Rattle.joindp.proofs.SomeCode.{some_steps}
 

@@ -13,8 +13,8 @@ use Rattle.stats.specs.Card.{Entries}
 use Rattle.trailcheck.specs.Shapes.{entry_index}
 use Rattle.trailcheck.specs.Settings.{inner_count}
 use Rattle.joins.specs.Orders.{Order, is_ordered_by, merge_sorting, order_of, sides, sorting_unless}
-use Rattle.joindp.specs.Best.{Problem, estimates}
-use Rattle.joindp.specs.Cost.{access_cost, entry_size, join_cost, size}
+use Rattle.code_costs.specs.Best.{Problem, estimates}
+use Rattle.code_costs.specs.Cost.{access_cost, entry_size, join_cost, size}
 use Rattle.joindp.specs.FewSteps.{comes_by, few_steps, few_steps_to, few_with, hashes, is_before, least, least_from, lesser, lesser_by, merges, ordered_by_own, reading_numbers, step_by}
 use Rattle.joindp.specs.Following.{accesses, all_numbers, is_equality, may_be_next, may_follow, may_join_by, step_of}
 use Rattle.joindp.specs.Search.{After, search, set_of}

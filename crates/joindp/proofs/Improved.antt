@@ -2,12 +2,11 @@
 use Rattle.std.proofs.Common.{◌≡◌, ◌∙◌, refl, sym, ap, subst, ℕ, zero, suc, ◌+◌, ◌-◌, ◌^◌, ◌<◌, ◌≤◌, inl, inr, true, false, List, [], ◌∷◌, take, length, Option, Some, None, slice_index_or, arith}
 use Rattle.std.proofs.Math.Numerals.{add-one}
 use Rattle.std.proofs.Math.Seq.{take-suc}
-use Rattle.expr.specs.declared.code.Access.TheVariants.{Full}
-use Rattle.expr.specs.declared.code.Method.TheVariants.{Nested}
 use Rattle.expr.specs.declared.code.CodeStep.{CodeStep}
 use Rattle.stats.specs.Card.{Entries}
 use Rattle.trailcheck.specs.Settings.{Setting}
-use Rattle.joindp.specs.Best.{Problem}
+use Rattle.code_costs.specs.Best.{Problem}
+use Rattle.code_costs.proofs.Few.{no_step}
 use Rattle.joindp.specs.FewSteps.{few_steps}
 use Rattle.joindp.specs.Following.{first_steps, may_follow}
 use Rattle.joindp.specs.Search.{IsSmall, State, allows, cost_of_step, is_done, next, search}
@@ -28,10 +27,6 @@ take_all [] zero h = refl
 take_all [] (suc n) h = refl
 take_all (x ∷ xs) zero h = absurd (omega arith)
 take_all (x ∷ xs) (suc n) h = ap (λ ys. x ∷ ys) (take_all xs n (omega arith))
-
--- what a list of steps is read with
-abbrev pub no_step : CodeStep
-no_step = record { entry = 0; access = Full; method = Nested }
 
 -- each of the steps that may come first does so
 pub each_first : (at : Setting) (xs : List CodeStep) (i : ℕ) → xs ≡ first_steps at → i < length xs → may_follow at (λ entry. false) (slice_index_or xs i no_step) ≡ true

@@ -1,14 +1,10 @@
 pub mod Asked
 pub mod Bests
 pub mod Chosen
-pub mod Codes
-pub mod Costs
 pub mod Elements
 pub mod FewSteps
 pub mod Followed
-pub mod Guards
 pub mod Improved
-pub mod Lefts
 pub mod Listing
 pub mod LiveOrders
 pub mod NewSteps

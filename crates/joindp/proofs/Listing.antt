@@ -10,7 +10,7 @@ use Rattle.expr.specs.Bound.{BoundExpr, is_column}
 use Rattle.predicates.proofs.Equal.{column_exact}
 use Rattle.predicates.specs.Equalities.{column_sides}
 use Rattle.stats.specs.Card.{Entries}
-use Rattle.joindp.specs.Best.{Problem}
+use Rattle.code_costs.specs.Best.{Problem}
 use Rattle.joins.specs.Orders.{Order, facing, sides, sides_held}
 use Rattle.joindp.specs.Search.{AreKept, HasOrders, HasSides, IsListed, asks_for, is_live, is_wanted}
 

@@ -13,8 +13,8 @@ use Rattle.stats.specs.Card.{Entries}
 use Rattle.trailcheck.specs.Admissible.{is_some_and}
 use Rattle.trailcheck.specs.Shapes.{entry_index}
 use Rattle.joins.specs.Orders.{Order, facing, is_ordered_by, merge_sorting, order_after, order_of, sides, sides_held, sorting_unless}
-use Rattle.joindp.specs.Best.{Problem, estimates}
-use Rattle.joindp.specs.Cost.{access_cost, entry_size, join_cost, last_sorting, size, whole_size}
+use Rattle.code_costs.specs.Best.{Problem, estimates}
+use Rattle.code_costs.specs.Cost.{access_cost, entry_size, join_cost, last_sorting, size, whole_size}
 use Rattle.joindp.specs.Following.{equates_with, may_join_by, span}
 use Rattle.joindp.specs.Search.{After, IsKept, IsSmall, asks_for, entry_count, is_live, is_order_of, is_wanted, live_order, search, set_of}
 use Rattle.joindp.specs.Walks.{IsBestFrom, IsNoWorse, IsPath, Plan, path_cost}

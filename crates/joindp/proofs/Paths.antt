@@ -8,8 +8,8 @@ use Rattle.predicates.proofs.Keeping.{both}
 use Rattle.stats.specs.Card.{Entries}
 use Rattle.trailcheck.specs.Admissible.{is_allowed_step, are_allowed_steps}
 use Rattle.trailcheck.specs.Shapes.{entry_index}
-use Rattle.joindp.specs.Best.{Problem, estimates}
-use Rattle.joindp.specs.Cost.{access_cost, cost_after, step_cost, steps_cost}
+use Rattle.code_costs.specs.Best.{Problem, estimates}
+use Rattle.code_costs.specs.Cost.{access_cost, cost_after, step_cost, steps_cost}
 use Rattle.joins.specs.Orders.{Order, order_after, order_of}
 use Rattle.joindp.specs.Following.{may_follow}
 use Rattle.joindp.specs.Search.{After, Start, entry_count, search, set_of}

@@ -18,7 +18,7 @@ use Rattle.predicates.specs.Equalities.{column_sides}
 use Rattle.stats.specs.Card.{Entries}
 use Rattle.trailcheck.specs.Admissible.{is_some_and}
 use Rattle.trailcheck.specs.Shapes.{entry_index}
-use Rattle.joindp.specs.Best.{Problem}
+use Rattle.code_costs.specs.Best.{Problem}
 use Rattle.predicates.specs.Numbered.{numbered}
 use Rattle.joins.specs.Orders.{Order, facing, merged_order, order_after, order_of, sides_held}
 use Rattle.joindp.specs.Following.{equates_with, may_be_next, may_follow, may_join_by, span}

@@ -10,7 +10,7 @@ use Rattle.expr.specs.declared.code.CodeStep.{CodeStep}
 use Rattle.stats.proofs.EntrySets.{bits_of_all}
 use Rattle.trailcheck.specs.Shapes.{entry_index}
 use Rattle.joindp.specs.declared.best.Best.{Best}
-use Rattle.joindp.specs.Best.{Problem}
+use Rattle.code_costs.specs.Best.{Problem}
 use Rattle.joins.specs.Orders.{Order}
 use Rattle.joindp.specs.Following.{may_follow}
 use Rattle.joindp.specs.Search.{After, IsKept, IsRow, IsTable, Start, entry_count, is_order_of, is_reached, last_cost, plan_of, search, set_of}

@@ -8,8 +8,8 @@ use Rattle.expr.specs.declared.code.CodeStep.{CodeStep}
 use Rattle.stats.specs.Card.{Entries}
 use Rattle.stats.proofs.EntrySets.{set_within}
 use Rattle.trailcheck.specs.Shapes.{entry_index}
-use Rattle.joindp.specs.Best.{Problem, estimates}
-use Rattle.joindp.specs.Cost.{entry_size, size, step_cost, step_cost_of}
+use Rattle.code_costs.specs.Best.{Problem, estimates}
+use Rattle.code_costs.specs.Cost.{entry_size, size, step_cost, step_cost_of}
 use Rattle.joins.specs.Orders.{Order}
 use Rattle.joindp.specs.Following.{may_follow}
 use Rattle.joindp.specs.Search.{AreSizes, IsSmall, entry_count, set_of}
@@ -17,21 +17,9 @@ use Rattle.joindp.specs.Walks.{Plan}
 use Rattle.joindp.proofs.NewSteps.{is_new}
 use Rattle.joindp.proofs.OneBit.{lone_bit}
 
--- the entries that are not left joined are no more than the guards
-pub few_of : {X Y : Type 0} (n : ℕ) (f : X → Y) (xs : List X) → length xs ≤ 12 → length (map f xs) - n ≤ 12
-few_of n f xs h = let l = length-map xs f in omega (arith, l)
-
--- all entries are few
-pub few_all : {X Y : Type 0} (f : X → Y) (xs : List X) (i n : ℕ) → i ≡ length (map f xs) - n → n ≤ length xs → length xs ≤ 12 → i + n ≤ 12
-few_all f xs i n e h few = let l = length-map xs f in omega (arith, l, e, h, few)
-
 -- the left joined entries are no more than the guards
 pub fewer_of : {X Y : Type 0} {n : ℕ} (f : X → Y) (xs : List X) → n ≤ length xs → n ≤ length (map f xs)
 fewer_of f xs h = let l = length-map xs f in omega (arith, l, h)
-
--- the first left joined entry is that after the others
-pub first_of : {X Y Z W : Type 0} (n : ℕ) (f : X → Y) (g : Z → W) (xs : List X) (zs : List Z) → length xs ≡ length zs → length (map f xs) - n ≡ length (map g zs) - n
-first_of n f g xs zs e = let l = length-map xs f in let m = length-map zs g in omega (arith, l, m, e)
 
 -- at most 12 entries have at most 4096 sets
 pub few_sets : (p : Problem) → entry_count p ≤ 12 → 2 ^ entry_count p ≤ 4096

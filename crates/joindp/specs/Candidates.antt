@@ -5,8 +5,8 @@ use Rattle.trailcheck.specs.Shapes.{entry_index}
 use Rattle.joindp.specs.declared.best.Pick.{Pick}
 use Rattle.joindp.specs.declared.candidates.Candidate.{Candidate}
 use Rattle.joindp.specs.declared.candidates.MergeOrder.{MergeOrder}
-use Rattle.joindp.specs.Best.{Problem}
-use Rattle.joindp.specs.Cost.{Estimates, step_cost_of}
+use Rattle.code_costs.specs.Best.{Problem}
+use Rattle.code_costs.specs.Cost.{Estimates, step_cost_of}
 use Rattle.joins.specs.Orders.{Order, is_ordered_by, order_after}
 use Rattle.joindp.specs.FewSteps.{few_steps}
 use Rattle.joindp.specs.Search.{After, cost_of_step, set_of}

@@ -12,8 +12,8 @@ use Rattle.expr.specs.declared.code.CodeStep.{CodeStep}
 use Rattle.expr.specs.Codes.{step_numbers}
 use Rattle.stats.specs.Card.{Entries}
 use Rattle.joins.specs.Orders.{is_ordered_by, order_of, sides}
-use Rattle.joindp.specs.Best.{Problem, estimates}
-use Rattle.joindp.specs.Cost.{access_cost}
+use Rattle.code_costs.specs.Best.{Problem, estimates}
+use Rattle.code_costs.specs.Cost.{access_cost}
 use Rattle.joindp.specs.Following.{accesses, all_numbers, is_equality, may_be_next, step_of}
 use Rattle.trailcheck.specs.Settings.{inner_count}
 

@@ -11,8 +11,8 @@ use Rattle.stats.specs.Card.{Entries}
 use Rattle.trailcheck.specs.Settings.{inner_count}
 use Rattle.trailcheck.specs.Shapes.{entry_index}
 use Rattle.joindp.specs.declared.best.Best.{Best}
-use Rattle.joindp.specs.Best.{Problem, estimates}
-use Rattle.joindp.specs.Cost.{access_cost, last_sorting, size, step_cost}
+use Rattle.code_costs.specs.Best.{Problem, estimates}
+use Rattle.code_costs.specs.Cost.{access_cost, last_sorting, size, step_cost}
 use Rattle.joins.specs.Orders.{Order, is_ordered_by, order_after, order_of, sides}
 use Rattle.joindp.specs.Following.{accesses, may_be_next, may_follow}
 use Rattle.joindp.specs.Walks.{Walk, Plan, IsBestFrom}

@@ -2,20 +2,20 @@
 
 ghost use Rattle.std.specs.Prelude.{◌≡◌, ◌+◌, ◌<◌, ◌≤◌, ◌^◌, IfOk, slice_get, Some, true, ℕ};
 ghost use Rattle.trailcheck.specs.Shapes as shapes;
-ghost use Rattle.joindp.specs.Best.{estimates};
+ghost use Rattle.code_costs.specs.Best.{estimates};
 ghost use Rattle.joindp.specs.Candidates as spec;
 ghost use Rattle.joindp.specs.Candidates.{AreCandidates, Asks, IsCandidate};
-ghost use Rattle.joindp.specs.Cost as cost_spec;
+ghost use Rattle.code_costs.specs.Cost as cost_spec;
 ghost use Rattle.joins.specs.Orders.{Order};
 ghost use Rattle.joindp.specs.Following.{may_follow};
 ghost use Rattle.joindp.specs.Search.{HasOrders, entry_count, set_of};
-ghost use Rattle.joindp.specs.View.{problem_of};
+ghost use Rattle.code_costs.specs.View.{problem_of};
 
-use crate::costing::step_cost;
 use crate::few_steps::few_steps;
 use crate::inputs::Inputs;
 use crate::orders::order_index;
 use crate::reaching::bit_of;
+use code_costs::step_cost;
 use expr::{CodeStep, ColumnId, Method};
 use joins::{is_ordered_by, sides, sort_steps};
 use memory::{Heap, Items};

@@ -5,11 +5,10 @@ ghost use Rattle.stats.specs.View.{members};
 ghost use Rattle.joindp.specs.FewSteps as spec;
 ghost use Rattle.joindp.specs.Following as following;
 ghost use Rattle.joindp.specs.Search.{AreAccesses};
-ghost use Rattle.joindp.specs.View.{problem_of};
+ghost use Rattle.code_costs.specs.View.{problem_of};
 
-use crate::costing::access_cost;
 use crate::following::{equalities, may_be_next, some_joined, step_of};
-use crate::problem::Problem;
+use code_costs::{Problem, access_cost};
 use expr::{Access, CodeStep, ColumnId, Method};
 use joins::{is_ordered_by, order_of, sides};
 use memory::{Heap, Items};

@@ -7,9 +7,9 @@ ghost use Rattle.trailcheck.specs.Admissible as admissible;
 ghost use Rattle.trailcheck.specs.Admissible.{condition_at, is_some_and};
 ghost use Rattle.joindp.specs.Following as spec;
 ghost use Rattle.joindp.specs.Search.{AreAccesses};
-ghost use Rattle.joindp.specs.View.{problem_of};
+ghost use Rattle.code_costs.specs.View.{problem_of};
 
-use crate::problem::Problem;
+use code_costs::Problem;
 use expr::{Access, CodeStep, ColumnId, Method};
 use memory::{Heap, Items};
 use predicates::column_sides;

@@ -2,9 +2,9 @@
 
 ghost use Rattle.std.specs.Prelude.{◌≡◌, None, Some, slice_get};
 ghost use Rattle.joindp.specs.Search.{AreAccesses, AreNexts, AreSizes};
-ghost use Rattle.joindp.specs.View.{problem_of};
+ghost use Rattle.code_costs.specs.View.{problem_of};
 
-use crate::problem::Problem;
+use code_costs::Problem;
 use expr::{Access, ColumnId};
 use memory::{Heap, Items};
 

@@ -3,17 +3,11 @@
 
 mod best;
 mod candidates;
-mod costing;
 mod few_steps;
 mod following;
 mod inputs;
-mod laws;
 mod orders;
-mod problem;
 mod reaching;
 mod searching;
 
-pub use costing::cost;
-pub use laws::law_guards_play_no_part;
-pub use problem::{MAX_ENTRIES, Problem};
 pub use searching::search;

@@ -7,9 +7,9 @@ ghost use Rattle.predicates.specs.Equalities as equalities;
 ghost use Rattle.stats.specs.View.{members};
 ghost use Rattle.joindp.specs.Search as spec;
 ghost use Rattle.joindp.specs.Search.{AreKept, HasOrders, HasSides, IsListed};
-ghost use Rattle.joindp.specs.View.{problem_of};
+ghost use Rattle.code_costs.specs.View.{problem_of};
 
-use crate::problem::Problem;
+use code_costs::Problem;
 use expr::{ColumnId, MovableExpr};
 use joins::is_ordered_by;
 use memory::{Heap, Items};

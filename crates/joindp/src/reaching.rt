@@ -5,10 +5,10 @@ ghost use Rattle.stats.specs.View.{members};
 ghost use Rattle.joindp.specs.Following as following;
 ghost use Rattle.joindp.specs.Search as spec;
 ghost use Rattle.joindp.specs.Search.{AreNexts, entry_count, set_of};
-ghost use Rattle.joindp.specs.View.{problem_of};
+ghost use Rattle.code_costs.specs.View.{problem_of};
 
 use crate::following::{may_be_next, some_joined};
-use crate::problem::Problem;
+use code_costs::Problem;
 use expr::ColumnId;
 use memory::{Heap, Items};
 use stats::EntrySet;

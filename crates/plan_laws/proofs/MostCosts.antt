@@ -21,7 +21,7 @@ use Rattle.trailcheck.specs.Entries.{is_among}
 use Rattle.trailcheck.specs.Shapes.{entry_index}
 use Rattle.joins.specs.Orders.{Order, is_ordered_by, merge_sorting, order_after, order_of, sides, sorting_unless}
 use Rattle.joins.specs.Steps.{sort_steps}
-use Rattle.joindp.specs.Cost.{Estimates, access_cost, cost, cost_after, entry_size, factor_held, first_left, inner_size, join_cost, last_sorting, size, step_cost, steps_cost, whole_size}
+use Rattle.code_costs.specs.Cost.{Estimates, access_cost, cost, cost_after, entry_size, factor_held, first_left, inner_size, join_cost, last_sorting, size, step_cost, steps_cost, whole_size}
 
 -- ---- sorts of at most so many rows
 

@@ -34,8 +34,8 @@ use Rattle.rewrite.specs.Placing.{placing}
 use Rattle.rewrite.specs.Simplifying.{simplifying}
 use Rattle.rewrite.proofs.SimplifiedLength.{planning_length}
 use Rattle.rewrite.proofs.SmallSteps.{AreSmall, IsSmall, trail_small}
-use Rattle.joindp.specs.Best.{Problem, estimates}
-use Rattle.joindp.specs.Cost.{cost}
+use Rattle.code_costs.specs.Best.{Problem, estimates}
+use Rattle.code_costs.specs.Cost.{cost}
 use Rattle.plan_laws.proofs.MostCosts.{cost_small}
 use Rattle.planning.specs.LastSort.{last_sort}
 use Rattle.planning.specs.Wanted.{wanted_column}

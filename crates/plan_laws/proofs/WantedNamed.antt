@@ -9,7 +9,7 @@ use Rattle.expr.specs.Codes.{Code, Empty, Steps}
 use Rattle.expr.specs.Columns.{columns}
 use Rattle.expr.specs.NamedColumns.{condition_columns, item_columns, named_columns}
 use Rattle.plan_laws.proofs.EachColumn.{left_of, right_of}
-use Rattle.joindp.specs.Best.{Problem}
+use Rattle.code_costs.specs.Best.{Problem}
 use Rattle.joins.specs.Orders.{Order, is_ordered_by, steps_order}
 use Rattle.trailcheck.specs.Shapes.{inner_steps}
 use Rattle.planning.specs.LastSort.{last_sort, unless_ordered}

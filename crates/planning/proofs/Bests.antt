@@ -20,11 +20,11 @@ use Rattle.trailcheck.specs.Admissible.{are_allowed_steps, are_left_steps, bound
 use Rattle.trailcheck.specs.Entries.{is_among}
 use Rattle.trailcheck.specs.Settings.{Setting, inner_count}
 use Rattle.trailcheck.specs.Shapes.{entry_index, inner_steps, left_steps}
-use Rattle.joindp.specs.Best.{Problem, estimates}
-use Rattle.joindp.specs.Cost.{cost}
+use Rattle.code_costs.specs.Best.{Problem, estimates}
+use Rattle.code_costs.specs.Cost.{cost}
 use Rattle.joindp.specs.Walks.{IsOneOf}
 use Rattle.left_tails.proofs.BestTails.{numbered_within}
-use Rattle.joindp.proofs.Codes.{inner_many, is_code}
+use Rattle.code_costs.proofs.Codes.{inner_many, is_code}
 use Rattle.joindp.proofs.Followed.{numbered}
 use Rattle.joindp.proofs.Elements.{from_filter, in_any, in_filter, in_flat_map, in_map, in_range, in_slice}
 use Rattle.planning.specs.Best.{LeastIsBest, accesses, accesses_by, all_codes, best, by_cost, codes, condition_numbers, entry_numbers, left_methods, lists_of, methods, step_of, steps, tails}

@@ -5,9 +5,9 @@ use Rattle.trailcheck.specs.Admissible.{is_admissible, is_refuted}
 use Rattle.trailcheck.specs.Settings.{Setting, inner_count}
 use Rattle.left_tails.specs.Best.{best_tail}
 use Rattle.left_tails.proofs.BestTails.{tail_may}
-use Rattle.joindp.specs.Best.{Problem}
+use Rattle.code_costs.specs.Best.{Problem}
 use Rattle.joindp.specs.Walks.{IsOneOf}
-use Rattle.joindp.proofs.Codes.{code_is, with_tail}
+use Rattle.code_costs.proofs.Codes.{code_is, with_tail}
 use Rattle.joindp.proofs.Elements.{from_filter}
 use Rattle.joindp.proofs.SomeCode.{some_steps}
 use Rattle.planning.specs.Best.{BestIsThere, all_codes, best, by_cost, codes}

@@ -13,8 +13,8 @@ use Rattle.expr.specs.Codes.{Code, Empty, Steps}
 use Rattle.expr.specs.Conjuncts.{conjuncts_of}
 use Rattle.trailcheck.specs.Admissible.{is_admissible}
 use Rattle.trailcheck.specs.Settings.{Setting, inner_count}
-use Rattle.joindp.specs.Best.{IsLeast, Problem, estimates, plan_cmp}
-use Rattle.joindp.specs.Cost.{cost}
+use Rattle.code_costs.specs.Best.{IsLeast, Problem, estimates, plan_cmp}
+use Rattle.code_costs.specs.Cost.{cost}
 
 -- all lists of so many members of a list
 abbrev pub lists_of : {X : Type 0} → (count : ℕ) → List X → List (List X)

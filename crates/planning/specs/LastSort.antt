@@ -2,7 +2,7 @@
 use Rattle.std.specs.Prelude.{Option, Some, None, if◌then◌else◌}
 use Rattle.expr.specs.declared.bound.ColumnId.{ColumnId}
 use Rattle.expr.specs.Codes.{Code, Empty, Steps}
-use Rattle.joindp.specs.Best.{Problem}
+use Rattle.code_costs.specs.Best.{Problem}
 use Rattle.joins.specs.Orders.{Order, is_ordered_by, steps_order}
 use Rattle.trailcheck.specs.Shapes.{inner_steps}
 

@@ -10,8 +10,8 @@ use Rattle.trailcheck.specs.declared.verdict.Verdict.TheVariants.{Accepted}
 use Rattle.rewrite.specs.Laws.{most_plan_steps}
 use Rattle.rewrite.specs.Placing.{placing}
 use Rattle.rewrite.specs.Simplifying.{simplifying}
-use Rattle.joindp.specs.Best.{Problem, estimates}
-use Rattle.joindp.specs.Cost as joindp
+use Rattle.code_costs.specs.Best.{Problem, estimates}
+use Rattle.code_costs.specs.Cost as joindp
 use Rattle.planning.specs.Best.{best}
 
 -- what a query is planned with, and its code with its cost and trail

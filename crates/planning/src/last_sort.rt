@@ -3,7 +3,7 @@
 ghost use Rattle.std.specs.Prelude.{◌≡◌, map, None, Some};
 ghost use Rattle.expr.specs.View.{code_of};
 ghost use Rattle.stats.specs.Statistics.{Stats};
-ghost use Rattle.joindp.specs.Best.{Problem};
+ghost use Rattle.code_costs.specs.Best.{Problem};
 ghost use Rattle.joins.specs.Orders as orders;
 ghost use Rattle.trailcheck.specs.View.{setting_of};
 ghost use Rattle.planning.specs.LastSort as spec;

@@ -15,11 +15,12 @@ ghost use Rattle.planning.specs.LastSort as sorting;
 ghost use Rattle.planning.specs.Plans.{IsPlan};
 ghost use Rattle.planning.specs.Wanted as wanted;
 
+use code_costs::Problem;
 use crate::last_sort::last_sort;
 use crate::wanted::wanted_column;
 use algebra::Step;
 use expr::{BoundQuery, Code, ColumnId};
-use joindp::{Problem, search};
+use joindp::search;
 use memory::{Heap, Items};
 use rewrite::{law_plans_are_accepted, place};
 use stats::Stats;

@@ -3,7 +3,7 @@ use Rattle.std.specs.List.{slice_get}
 use Rattle.std.proofs.lemmas.Simd.{map-map}
 use Rattle.tuples.specs.View.{guarded_table_of, world_of}
 use Rattle.trailcheck.specs.View.{setting_of}
-use Rattle.executor.specs.Indexed.{AreIndexes}
+use Rattle.access_paths.specs.Indexed.{AreIndexes}
 use Rattle.fixture_plans.proofs.AreThere.{are_there}
 use Rattle.fixture_plans.proofs.worlds.run_into_over.Goals as goal
 

@@ -1,10 +1,11 @@
 use Rattle.std.proofs.Common.{◌∙◌, ◌^◌, ◌≤◌, ◌<◌, ap, slice_index_or, arith}
-use Rattle.joindp.specs.Best.{estimates}
-use Rattle.joindp.specs.Cost.{step_cost_of}
+use Rattle.code_costs.specs.Best.{estimates}
+use Rattle.code_costs.specs.Cost.{step_cost_of}
 use Rattle.joindp.specs.Search.{entry_count, set_of}
-use Rattle.joindp.specs.View.{problem_of}
+use Rattle.code_costs.specs.View.{problem_of}
 use Rattle.joindp.proofs.Asked.{is_candidate}
-use Rattle.joindp.proofs.Sized.{bit_within, few_of, few_sets}
+use Rattle.code_costs.proofs.Few.{few_of}
+use Rattle.joindp.proofs.Sized.{bit_within, few_sets}
 use Rattle.joindp.proofs.candidates.candidate_of.Goals as goal
 
 pub offset_bounds-inputs-bit : goal.offset_bounds-inputs-bit

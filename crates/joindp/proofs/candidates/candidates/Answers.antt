@@ -4,9 +4,10 @@ use Rattle.std.proofs.Math.Seq.{take-suc}
 use Rattle.std.proofs.lemmas.List.{map-append}
 use Rattle.joindp.specs.Candidates.{IsCandidate}
 use Rattle.joindp.specs.Search.{set_of}
-use Rattle.joindp.specs.View.{problem_of}
+use Rattle.code_costs.specs.View.{problem_of}
 use Rattle.joindp.proofs.Asked.{own_step}
-use Rattle.joindp.proofs.Improved.{each_few, no_step}
+use Rattle.code_costs.proofs.Few.{no_step}
+use Rattle.joindp.proofs.Improved.{each_few}
 use Rattle.joindp.proofs.Rows.{one_more}
 use Rattle.joindp.proofs.candidates.candidates.Goals as goal
 

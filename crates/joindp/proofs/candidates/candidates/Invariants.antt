@@ -1,7 +1,7 @@
 use Rattle.std.proofs.Common.{◌≡◌, ◌<◌, ℕ, length, map, take, slice_index_or}
 use Rattle.joindp.specs.declared.candidates.Candidate.{Candidate}
 use Rattle.joindp.specs.Candidates.{IsCandidate}
-use Rattle.joindp.specs.View.{problem_of}
+use Rattle.code_costs.specs.View.{problem_of}
 use Rattle.joindp.proofs.candidates.candidates.Given as goal
 
 abbrev pub invariant-loop-step : goal.invariant-loop-step

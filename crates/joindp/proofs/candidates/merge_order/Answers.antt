@@ -3,7 +3,7 @@ use Rattle.trailcheck.specs.Shapes.{entry_index}
 use Rattle.joindp.specs.Following.{may_join_by}
 use Rattle.joins.specs.Orders.{sides}
 use Rattle.joindp.specs.Search.{set_of}
-use Rattle.joindp.specs.View.{problem_of}
+use Rattle.code_costs.specs.View.{problem_of}
 use Rattle.joindp.proofs.Asked.{has_sides}
 use Rattle.joindp.proofs.NewSteps.{is_new}
 use Rattle.joindp.proofs.candidates.merge_order.Goals as goal

@@ -4,7 +4,7 @@ use Rattle.expr.specs.declared.code.Access.{Access}
 use Rattle.stats.specs.View.{members}
 use Rattle.joindp.specs.FewSteps as spec
 use Rattle.joindp.specs.Following.{accesses, may_be_next}
-use Rattle.joindp.specs.View.{problem_of}
+use Rattle.code_costs.specs.View.{problem_of}
 use Rattle.joindp.proofs.Passing.{as_many, at_place, one_left, one_taken}
 use Rattle.joindp.proofs.few_steps.few_steps.Goals as goal
 use Rattle.joindp.proofs.few_steps.few_steps.Goals.{then-may_be_next+in_ok-equalities+in_ok-push_few_to, else-may_be_next}

@@ -3,7 +3,7 @@ use Rattle.std.specs.List.{flat_map, range_with_len}
 use Rattle.stats.specs.View.{members}
 use Rattle.joindp.specs.FewSteps as spec
 use Rattle.joindp.specs.Following.{may_be_next}
-use Rattle.joindp.specs.View.{problem_of}
+use Rattle.code_costs.specs.View.{problem_of}
 use Rattle.joindp.proofs.few_steps.few_steps.Given as goal
 
 abbrev pub invariant-loop-entry : goal.invariant-loop-entry

@@ -1,6 +1,6 @@
 use Rattle.std.proofs.Common.{◌≡◌, drop}
 use Rattle.joindp.specs.FewSteps as spec
-use Rattle.joindp.specs.View.{problem_of}
+use Rattle.code_costs.specs.View.{problem_of}
 use Rattle.joindp.proofs.few_steps.least_access.Given as goal
 
 abbrev pub invariant-loop-access : goal.invariant-loop-access

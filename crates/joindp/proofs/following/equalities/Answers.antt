@@ -1,7 +1,7 @@
 use Rattle.std.proofs.Common.{◌≡◌, ℕ, ◌+◌, ◌-◌, suc, List, [], ◌∷◌, filter, refl, arith}
 use Rattle.stats.specs.View.{members}
 use Rattle.joindp.specs.Following.{all_numbers, is_equality}
-use Rattle.joindp.specs.View.{problem_of}
+use Rattle.code_costs.specs.View.{problem_of}
 use Rattle.joindp.proofs.Passing.{one_left, one_taken}
 use Rattle.joindp.proofs.following.equalities.Goals as goal
 use Rattle.joindp.proofs.following.equalities.Goals.{then-is_equality+in_ok-push, else-is_equality}

@@ -2,7 +2,7 @@ use Rattle.std.proofs.Common.{◌≡◌, ◌+◌, ◌-◌, ◌++◌, filter}
 use Rattle.std.specs.List.{range_with_len}
 use Rattle.stats.specs.View.{members}
 use Rattle.joindp.specs.Following as spec
-use Rattle.joindp.specs.View.{problem_of}
+use Rattle.code_costs.specs.View.{problem_of}
 use Rattle.joindp.proofs.following.equalities.Given as goal
 
 abbrev pub invariant-loop-k : goal.invariant-loop-k

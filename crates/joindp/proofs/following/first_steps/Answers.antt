@@ -4,7 +4,7 @@ use Rattle.std.specs.List.{flat_map, range_with_len}
 use Rattle.expr.specs.declared.code.Access.{Access}
 use Rattle.stats.specs.Card.{Entries}
 use Rattle.joindp.specs.Following as spec
-use Rattle.joindp.specs.View.{problem_of}
+use Rattle.code_costs.specs.View.{problem_of}
 use Rattle.joindp.proofs.Passing.{as_many, at_place, one_left, one_taken}
 use Rattle.joindp.proofs.following.first_steps.Goals as goal
 use Rattle.joindp.proofs.following.first_steps.Goals.{then-may_be_next+in_ok-push_first_steps, else-may_be_next}

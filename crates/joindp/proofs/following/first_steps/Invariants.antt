@@ -1,7 +1,7 @@
 use Rattle.std.proofs.Common.{◌≡◌, ℕ, ◌-◌, ◌++◌, false, filter, length, map}
 use Rattle.std.specs.List.{flat_map, range_with_len}
 use Rattle.joindp.specs.Following as spec
-use Rattle.joindp.specs.View.{problem_of}
+use Rattle.code_costs.specs.View.{problem_of}
 use Rattle.joindp.proofs.following.first_steps.Given as goal
 
 abbrev pub invariant-loop-entry : goal.invariant-loop-entry

@@ -2,7 +2,7 @@ use Rattle.std.proofs.Common.{◌∙◌, ap}
 use Rattle.std.specs.List.{list_any}
 use Rattle.stats.specs.View.{members}
 use Rattle.joindp.specs.Following.{join}
-use Rattle.joindp.specs.View.{problem_of}
+use Rattle.code_costs.specs.View.{problem_of}
 use Rattle.joindp.proofs.Passing.{any_prepared}
 use Rattle.joindp.proofs.following.is_joined_to.Goals as goal
 

@@ -1,7 +1,7 @@
 use Rattle.std.proofs.Common.{◌≡◌, Bool, false, not, ◌&&◌, ◌||◌, ap, ◌∙◌}
 use Rattle.stats.specs.View.{members}
 use Rattle.joindp.specs.Following.{is_joined_to, some_joined}
-use Rattle.joindp.specs.View.{problem_of}
+use Rattle.code_costs.specs.View.{problem_of}
 use Rattle.joindp.proofs.following.may_be_next.Goals as goal
 
 -- an entry that is neither placed nor joined may be next where none is joined

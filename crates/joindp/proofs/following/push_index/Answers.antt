@@ -2,7 +2,7 @@ use Rattle.std.proofs.Common.{◌≡◌, ℕ, ◌+◌, ◌-◌, suc, [], ◌∷�
 use Rattle.expr.specs.declared.code.Access.TheVariants.{Range}
 use Rattle.trailcheck.specs.Admissible.{bounds, condition_at, is_some_and}
 use Rattle.joindp.specs.Following.{by_index}
-use Rattle.joindp.specs.View.{problem_of}
+use Rattle.code_costs.specs.View.{problem_of}
 use Rattle.joindp.proofs.Passing.{one_left, one_taken}
 use Rattle.joindp.proofs.following.push_index.Goals as goal
 use Rattle.joindp.proofs.following.push_index.Goals.{then-is_bound+in_ok-push-2, else-is_bound}

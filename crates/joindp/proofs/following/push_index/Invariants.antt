@@ -3,7 +3,7 @@ use Rattle.std.specs.List.{range_with_len}
 use Rattle.expr.specs.declared.code.Access.TheVariants.{Range}
 use Rattle.trailcheck.specs.Admissible.{bounds, condition_at, is_some_and}
 use Rattle.joindp.specs.Following as spec
-use Rattle.joindp.specs.View.{problem_of}
+use Rattle.code_costs.specs.View.{problem_of}
 use Rattle.joindp.proofs.following.push_index.Given as goal
 
 abbrev pub invariant-loop-k : goal.invariant-loop-k

@@ -1,7 +1,7 @@
 use Rattle.std.proofs.Common.{◌≡◌, ◌+◌, ◌-◌, suc, ◌&&◌, not, arith}
 use Rattle.stats.specs.View.{members}
 use Rattle.joindp.specs.Following.{is_joined_to, some_joined}
-use Rattle.joindp.specs.View.{problem_of}
+use Rattle.code_costs.specs.View.{problem_of}
 use Rattle.joindp.proofs.Passing.{not_this_one}
 use Rattle.joindp.proofs.following.some_joined.Goals as goal
 

@@ -2,7 +2,7 @@ use Rattle.std.proofs.Common.{◌≡◌, ◌-◌, ◌&&◌, not}
 use Rattle.std.specs.List.{list_any, range_with_len}
 use Rattle.stats.specs.View.{members}
 use Rattle.joindp.specs.Following as spec
-use Rattle.joindp.specs.View.{problem_of}
+use Rattle.code_costs.specs.View.{problem_of}
 use Rattle.joindp.proofs.following.some_joined.Given as goal
 
 abbrev pub invariant-loop-entry : goal.invariant-loop-entry

@@ -1,5 +1,5 @@
 use Rattle.std.proofs.Common.{None, slice_get, ap, ◌∙◌}
-use Rattle.joindp.specs.View.{problem_of}
+use Rattle.code_costs.specs.View.{problem_of}
 use Rattle.joindp.proofs.Listing.{has_orders}
 use Rattle.joindp.proofs.orders.orders.Goals as goal
 

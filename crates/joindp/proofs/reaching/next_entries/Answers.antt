@@ -2,7 +2,7 @@ use Rattle.std.proofs.Common.{◌≡◌, ◌∙◌, ◌&&◌, ◌||◌, ◌==◌
 use Rattle.stats.specs.View.{members}
 use Rattle.joindp.specs.Following.{may_be_next}
 use Rattle.joindp.specs.Search.{entry_count}
-use Rattle.joindp.specs.View.{problem_of}
+use Rattle.code_costs.specs.View.{problem_of}
 use Rattle.joindp.proofs.Reached.{next_more}
 use Rattle.joindp.proofs.reaching.next_entries.Goals as goal
 

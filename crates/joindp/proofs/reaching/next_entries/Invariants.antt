@@ -1,7 +1,7 @@
 use Rattle.std.proofs.Common.{◌≡◌, ◌&&◌, ℕ, nat_lt}
 use Rattle.stats.specs.View.{members}
 use Rattle.joindp.specs.Following.{may_be_next}
-use Rattle.joindp.specs.View.{problem_of}
+use Rattle.code_costs.specs.View.{problem_of}
 use Rattle.joindp.proofs.reaching.next_entries.Given as goal
 
 abbrev pub invariant-loop-entry : goal.invariant-loop-entry

@@ -1,7 +1,7 @@
 use Rattle.std.proofs.Common.{◌≡◌, ◌∙◌, ◌^◌, ◌&&◌, ℕ, [], ◌∷◌, true, nat_lt, ap, subst, sym, length-append, arith}
 use Rattle.joindp.specs.Following.{may_be_next}
 use Rattle.joindp.specs.Search.{entry_count, is_reached, set_of}
-use Rattle.joindp.specs.View.{problem_of}
+use Rattle.code_costs.specs.View.{problem_of}
 use Rattle.joindp.proofs.Reached.{reached_pushed}
 use Rattle.joindp.proofs.Rows.{one_more}
 use Rattle.joindp.proofs.reaching.nexts.Goals as goal

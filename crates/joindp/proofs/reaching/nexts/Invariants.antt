@@ -1,7 +1,7 @@
 use Rattle.std.proofs.Common.{◌≡◌, ◌<◌, ◌&&◌, ℕ, nat_lt, true, length, slice_index_or}
 use Rattle.joindp.specs.Following.{may_be_next}
 use Rattle.joindp.specs.Search.{entry_count, is_reached, set_of}
-use Rattle.joindp.specs.View.{problem_of}
+use Rattle.code_costs.specs.View.{problem_of}
 use Rattle.joindp.proofs.reaching.nexts.Given as goal
 
 abbrev pub invariant-loop-set : goal.invariant-loop-set

@@ -5,13 +5,14 @@ use Rattle.std.proofs.lemmas.Result.{IfOk-weaker}
 use Rattle.expr.specs.declared.code.CodeStep.{CodeStep}
 use Rattle.joindp.specs.Candidates.{picked}
 use Rattle.joindp.specs.Search.{After, entry_count, plan_of, search}
-use Rattle.joindp.specs.View.{problem_of}
+use Rattle.code_costs.specs.View.{problem_of}
 use Rattle.joindp.specs.Walks.{IsBestFrom, IsOneOf}
 use Rattle.joindp.proofs.Asked.{improved_by, candidate_at, may_come, no_candidate, own_step}
 use Rattle.joindp.proofs.Bests.{IsAsGood}
 use Rattle.joindp.proofs.FewSteps.{enough}
 use Rattle.joindp.proofs.Improved.{all_improved, improved_small}
-use Rattle.joindp.proofs.Sized.{few_of, few_sets, smaller}
+use Rattle.code_costs.proofs.Few.{few_of}
+use Rattle.joindp.proofs.Sized.{few_sets, smaller}
 use Rattle.joindp.proofs.searching.best_after.Goals as goal
 
 pub rest_after-rest-requires-clause-allowed : goal.rest_after-rest-requires-clause-allowed

@@ -1,7 +1,7 @@
 use Rattle.std.proofs.Common.{◌∙◌, sym, arith}
 use Rattle.std.proofs.lemmas.Bool.{both_ways}
 use Rattle.joindp.specs.Search.{is_live, plan_of, set_of}
-use Rattle.joindp.specs.View.{problem_of}
+use Rattle.code_costs.specs.View.{problem_of}
 use Rattle.joindp.proofs.Rows.{best_when_whole}
 use Rattle.joindp.proofs.Sized.{smaller}
 use Rattle.joindp.proofs.searching.best_from.Goals as goal

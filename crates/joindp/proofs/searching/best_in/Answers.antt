@@ -1,10 +1,10 @@
 use Rattle.std.proofs.Common.{◌≡◌, ◌-◌, ◌≤◌, None, Some, true, ap, refl, arith, length, slice_get}
 use Rattle.joins.specs.Orders.{Order}
 use Rattle.joindp.specs.Search.{entry_count, is_order_of, plan_of}
-use Rattle.joindp.specs.View.{problem_of}
+use Rattle.code_costs.specs.View.{problem_of}
 use Rattle.joindp.proofs.LiveOrders.{best_as_kept, best_of_kept}
 use Rattle.joindp.proofs.Rows.{kept_at, no_plan, row_is}
-use Rattle.joindp.proofs.Sized.{few_of}
+use Rattle.code_costs.proofs.Few.{few_of}
 use Rattle.joindp.proofs.searching.best_in.Goals as goal
 
 -- none is kept for the order

@@ -1,10 +1,10 @@
 use Rattle.std.proofs.Common.{◌≡◌, ◌∙◌, ◌+◌, ◌*◌, ◌^◌, ◌≤◌, length, ap, map, sym, subst, arith}
 use Rattle.stats.specs.View.{selections_of, stats_of}
 use Rattle.trailcheck.specs.TuplesView.{guard_of}
-use Rattle.joindp.specs.Best.{estimates}
-use Rattle.joindp.specs.View.{problem_of}
-use Rattle.joindp.proofs.Lefts.{best_left, may_be_left}
-use Rattle.joindp.proofs.Sized.{few_all, first_of}
+use Rattle.code_costs.specs.Best.{estimates}
+use Rattle.code_costs.specs.View.{problem_of}
+use Rattle.code_costs.proofs.Lefts.{best_left, may_be_left}
+use Rattle.code_costs.proofs.Few.{few_all, first_of}
 use Rattle.joindp.proofs.searching.best_left_steps.Goals as goal
 
 pub best_tail-requires-clause-entries : goal.best_tail-requires-clause-entries

@@ -1,15 +1,16 @@
 use Rattle.std.proofs.Common.{◌∙◌, ap, sym, subst, arith, slice_index_or}
 use Rattle.std.proofs.lemmas.Bool.{ne_eqb}
 use Rattle.std.proofs.lemmas.Result.{IfOk-weaker}
-use Rattle.joindp.specs.Best.{estimates}
+use Rattle.code_costs.specs.Best.{estimates}
 use Rattle.joindp.specs.Candidates.{picked}
-use Rattle.joindp.specs.Cost.{access_cost}
+use Rattle.code_costs.specs.Cost.{access_cost}
 use Rattle.joindp.specs.Search.{Start, entry_count, plan_of, search}
-use Rattle.joindp.specs.View.{problem_of}
+use Rattle.code_costs.specs.View.{problem_of}
 use Rattle.joindp.specs.Walks.{IsBestFrom, IsOneOf}
 use Rattle.joindp.proofs.Bests.{as_good_itself}
 use Rattle.joindp.proofs.Followed.{all_first}
-use Rattle.joindp.proofs.Improved.{all_improved, each_first, improved, no_step}
+use Rattle.code_costs.proofs.Few.{no_step}
+use Rattle.joindp.proofs.Improved.{all_improved, each_first, improved}
 use Rattle.joindp.proofs.searching.best_of_all.Goals as goal
 
 pub rest_after_first-rest-requires-clause-allowed : goal.rest_after_first-rest-requires-clause-allowed

@@ -1,7 +1,7 @@
 use Rattle.std.proofs.Common.{take}
 use Rattle.joindp.specs.Candidates.{picked}
 use Rattle.joindp.specs.Search.{Start, search}
-use Rattle.joindp.specs.View.{problem_of}
+use Rattle.code_costs.specs.View.{problem_of}
 use Rattle.joindp.specs.Walks.{IsBestOf}
 use Rattle.joindp.proofs.searching.best_of_all.Given as goal
 

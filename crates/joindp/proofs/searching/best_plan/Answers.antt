@@ -1,6 +1,6 @@
 use Rattle.std.proofs.Common.{◌≡◌, ◌∙◌, ◌-◌, arith, sym, subst}
 use Rattle.joindp.specs.Search.{IsTable, plan_of}
-use Rattle.joindp.specs.View.{problem_of}
+use Rattle.code_costs.specs.View.{problem_of}
 use Rattle.joindp.proofs.Rows.{best_of_none, table_more}
 use Rattle.joindp.proofs.searching.best_plan.Goals as goal
 

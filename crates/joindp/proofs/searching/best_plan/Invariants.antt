@@ -1,6 +1,6 @@
 use Rattle.std.proofs.Common.{◌-◌}
 use Rattle.joindp.specs.Search.{IsTable}
-use Rattle.joindp.specs.View.{problem_of}
+use Rattle.code_costs.specs.View.{problem_of}
 use Rattle.joindp.proofs.searching.best_plan.Given as goal
 
 abbrev pub invariant-loop-set : goal.invariant-loop-set

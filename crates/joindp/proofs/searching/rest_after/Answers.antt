@@ -5,12 +5,13 @@ use Rattle.trailcheck.specs.Shapes.{entry_index}
 use Rattle.joindp.specs.Candidates.{index_after}
 use Rattle.joins.specs.Orders.{order_after}
 use Rattle.joindp.specs.Search.{After, entry_count, is_order_of, plan_of, search, set_of}
-use Rattle.joindp.specs.View.{problem_of}
+use Rattle.code_costs.specs.View.{problem_of}
 use Rattle.joindp.specs.Walks.{IsBestFrom}
 use Rattle.joindp.proofs.NewSteps.{is_new}
 use Rattle.joindp.proofs.Reached.{order_fits, reached_after}
 use Rattle.joindp.proofs.Rows.{index_within}
-use Rattle.joindp.proofs.Sized.{bit_within, few_of, few_sets, set_after, smaller}
+use Rattle.code_costs.proofs.Few.{few_of}
+use Rattle.joindp.proofs.Sized.{bit_within, few_sets, set_after, smaller}
 use Rattle.joindp.proofs.searching.rest_after.Goals as goal
 
 pub overflow_add-set : goal.overflow_add-set

@@ -1,14 +1,15 @@
 use Rattle.std.proofs.Common.{◌≡◌, ◌∙◌, ◌^◌, ◌≤◌, ap, ap₂, sym, subst, arith, true, false, Some}
 use Rattle.joins.specs.Orders.{order_of}
 use Rattle.joindp.specs.Search.{After, entry_count, is_order_of, live_order, plan_of, search, set_of}
-use Rattle.joindp.specs.View.{problem_of}
+use Rattle.code_costs.specs.View.{problem_of}
 use Rattle.joindp.specs.Walks.{IsBestFrom}
 use Rattle.trailcheck.specs.Shapes.{entry_index}
 use Rattle.joindp.proofs.LiveOrders.{best_by_live, live_fits}
 use Rattle.joindp.proofs.NewSteps.{is_new}
 use Rattle.joindp.proofs.Reached.{first_fits, reached_first}
 use Rattle.joindp.proofs.Rows.{index_within}
-use Rattle.joindp.proofs.Sized.{bit_within, few_of, few_sets, smaller}
+use Rattle.code_costs.proofs.Few.{few_of}
+use Rattle.joindp.proofs.Sized.{bit_within, few_sets, smaller}
 use Rattle.joindp.proofs.searching.rest_after_first.Goals as goal
 
 pub best_in-requires-clause-within : goal.best_in-requires-clause-within

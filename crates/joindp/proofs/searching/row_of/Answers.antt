@@ -2,7 +2,7 @@ use Rattle.std.proofs.Common.{◌≡◌, ◌∙◌, [], ◌∷◌, None, Some, t
 use Rattle.std.specs.List.{slice_get}
 use Rattle.joins.specs.Orders.{Order}
 use Rattle.joindp.specs.Search.{IsKept, is_order_of, plan_of}
-use Rattle.joindp.specs.View.{problem_of}
+use Rattle.code_costs.specs.View.{problem_of}
 use Rattle.joindp.proofs.Rows.{element_is, index_within, one_more}
 use Rattle.joindp.proofs.searching.row_of.Goals as goal
 

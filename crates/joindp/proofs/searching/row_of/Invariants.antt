@@ -3,7 +3,7 @@ use Rattle.std.specs.List.{slice_get}
 use Rattle.joindp.specs.declared.best.Best.{Best}
 use Rattle.joins.specs.Orders.{Order}
 use Rattle.joindp.specs.Search.{IsKept, is_order_of, plan_of}
-use Rattle.joindp.specs.View.{problem_of}
+use Rattle.code_costs.specs.View.{problem_of}
 use Rattle.joindp.proofs.searching.row_of.Given as goal
 
 abbrev pub invariant-loop-index : goal.invariant-loop-index

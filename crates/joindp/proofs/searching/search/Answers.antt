@@ -5,13 +5,14 @@ use Rattle.predicates.specs.Equalities.{is_never_true}
 use Rattle.stats.specs.View.{stats_of}
 use Rattle.trailcheck.specs.Admissible.{is_admissible, is_refuted}
 use Rattle.trailcheck.specs.TuplesView.{guard_of}
-use Rattle.joindp.specs.Best.{IsLeast, estimates}
-use Rattle.joindp.specs.Cost.{cost}
+use Rattle.code_costs.specs.Best.{IsLeast, estimates}
+use Rattle.code_costs.specs.Cost.{cost}
 use Rattle.joindp.specs.Search.{Start, entry_count, plan_of, search}
-use Rattle.joindp.specs.View.{problem_of}
+use Rattle.code_costs.specs.View.{problem_of}
 use Rattle.joindp.specs.Walks.{IsBestFrom}
 use Rattle.joindp.proofs.Chosen.{best_is_admissible, best_is_least, some_plan}
-use Rattle.joindp.proofs.Sized.{few_of, fewer_of, first_of}
+use Rattle.code_costs.proofs.Few.{few_of, first_of}
+use Rattle.joindp.proofs.Sized.{fewer_of}
 use Rattle.joindp.proofs.searching.search.Goals as goal
 
 pub unwrap-best-requires : goal.unwrap-best-requires

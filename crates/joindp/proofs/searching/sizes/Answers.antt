@@ -1,8 +1,8 @@
 use Rattle.std.proofs.Common.{◌≡◌, ◌∙◌, ◌^◌, ◌≤◌, [], ◌∷◌, length-append, ap, arith}
-use Rattle.joindp.specs.Best.{estimates}
-use Rattle.joindp.specs.Cost.{size}
+use Rattle.code_costs.specs.Best.{estimates}
+use Rattle.code_costs.specs.Cost.{size}
 use Rattle.joindp.specs.Search.{entry_count, set_of}
-use Rattle.joindp.specs.View.{problem_of}
+use Rattle.code_costs.specs.View.{problem_of}
 use Rattle.joindp.proofs.Rows.{one_more}
 use Rattle.joindp.proofs.searching.sizes.Goals as goal
 

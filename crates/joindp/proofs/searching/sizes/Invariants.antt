@@ -1,8 +1,8 @@
 use Rattle.std.proofs.Common.{◌≡◌, ◌^◌, ◌<◌, ◌≤◌, ℕ, length, slice_index_or}
-use Rattle.joindp.specs.Best.{estimates}
-use Rattle.joindp.specs.Cost.{size}
+use Rattle.code_costs.specs.Best.{estimates}
+use Rattle.code_costs.specs.Cost.{size}
 use Rattle.joindp.specs.Search.{set_of}
-use Rattle.joindp.specs.View.{problem_of}
+use Rattle.code_costs.specs.View.{problem_of}
 use Rattle.joindp.proofs.searching.sizes.Given as goal
 
 abbrev pub invariant-loop-bits : goal.invariant-loop-bits

@@ -6,8 +6,8 @@ use Rattle.trailcheck.specs.TuplesView.{guard_of}
 use Rattle.trailcheck.specs.Admissible.{is_admissible}
 use Rattle.trailcheck.specs.View.{setting_of}
 use Rattle.value.specs.Limits.{most_entries}
-use Rattle.joindp.specs.Best.{IsLeast, Problem, estimates}
-use Rattle.joindp.specs.Cost as joindp
+use Rattle.code_costs.specs.Best.{IsLeast, Problem, estimates}
+use Rattle.code_costs.specs.Cost as joindp
 use Rattle.planning.specs.Wanted.{wanted_column}
 use Rattle.planning.proofs.plan.Plan.new.Goals as goal
 

@@ -1,0 +1,4 @@
+pub mod Bounds
+pub mod Columns
+pub mod Indexed
+pub mod Reading

@@ -1,0 +1,3 @@
+pub mod Best
+pub mod Cost
+pub mod View

@@ -1,8 +1,0 @@
-use Rattle.std.proofs.Common.{ap, sym}
-use Rattle.joindp.specs.Best.{estimates}
-use Rattle.joindp.specs.Cost as spec
-use Rattle.joindp.specs.View.{problem_of}
-use Rattle.joindp.proofs.costing.join_cost.Goals as goal
-
-pub returns-in-Hash-clause-value : goal.returns-in-Hash-clause-value
-returns-in-Hash-clause-value g c = sym (ap (spec.join_cost (estimates (problem_of c.args.problem.now)) c.args.x c.args.y c.args.order c.args.step) c.in-Hash.is)
