@@ -20,11 +20,12 @@ use Rattle.predicates.specs.Numbered.{numbered}
 use Rattle.stats.specs.Card.{Selection, rows_at}
 use Rattle.stats.specs.Statistics.{Stats}
 use Rattle.trailcheck.specs.Admissible.{are_left_steps, equates, is_full, is_left_method, is_left_step, is_some_and}
-use Rattle.left_tails.specs.Best.{IsBestTail, best_left_step, best_tail, better_method, first_equality, is_equality}
+use Rattle.trailcheck.specs.Equalities.{first_equality, is_equality}
+use Rattle.left_tails.specs.Best.{IsBestTail, best_left_step, best_tail, better_method}
 use Rattle.left_tails.specs.Plans.{IsNoLater, IsNoWorse, numbers}
 use Rattle.left_tails.specs.Tails.{left_join_cost, size_with_left, tail_cost}
 use Rattle.left_tails.proofs.Before.{IsNoMore, no_later_after, no_more_itself}
-use Rattle.left_tails.proofs.Numbers.{first_least, first_passes}
+use Rattle.trailcheck.proofs.FirstNumbers.{first_least, first_passes}
 
 -- ---- numbers of steps
 

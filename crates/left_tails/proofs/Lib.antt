@@ -1,5 +1,4 @@
 pub mod Before
 pub mod BestTails
-pub mod Numbers
 pub mod Reduced
 pub mod TailCosts

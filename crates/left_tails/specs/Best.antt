@@ -1,16 +1,14 @@
 -- The best steps of left joined entries.
-use Rattle.std.specs.Prelude.{◌≡◌, ℕ, zero, suc, ◌+◌, nat_lt, Bool, true, List, [], ◌∷◌, length, Option, Some, None, if◌then◌else◌}
-use Rattle.std.specs.List.{range_with_len}
+use Rattle.std.specs.Prelude.{◌≡◌, ℕ, suc, nat_lt, true, List, [], ◌∷◌, Option, Some, None, if◌then◌else◌}
 use Rattle.expr.specs.declared.code.Access.TheVariants.{Full}
 use Rattle.expr.specs.declared.code.CodeStep.{CodeStep}
 use Rattle.expr.specs.declared.code.Method.{Method}
 use Rattle.expr.specs.declared.code.Method.TheVariants.{Nested, Hash}
 use Rattle.expr.specs.Bound.{BoundExpr}
-use Rattle.expr.specs.Conjuncts.{conjuncts_of}
-use Rattle.predicates.specs.Numbered.{numbered}
 use Rattle.stats.specs.Card.{Selection}
 use Rattle.stats.specs.Statistics.{Stats}
-use Rattle.trailcheck.specs.Admissible.{are_left_steps, equates, is_some_and}
+use Rattle.trailcheck.specs.Admissible.{are_left_steps}
+use Rattle.trailcheck.specs.Equalities.{first_equality}
 use Rattle.left_tails.specs.Plans.{IsNoWorse}
 use Rattle.left_tails.specs.Tails.{left_join_cost, size_with_left, tail_cost}
 
@@ -20,19 +18,6 @@ IsBestTail of conditions v i ons ss =
     (other : List CodeStep) → are_left_steps i ons other ≡ true → IsNoWorse (tail_cost of conditions v i ons ss, ss) (tail_cost of conditions v i ons other, other)
 
 -- ---- how they are found
-
--- the first of so many numbers, from one on, that passes the test
-abbrev pub first_number : (ℕ → Bool) → (from many : ℕ) → Option ℕ
-first_number test k zero = None
-first_number test k (suc n) = if test k then Some k else first_number test (k + 1) n
-
--- the conjunct of the ON of that number equates a column of an earlier entry with one of the entry
-abbrev pub is_equality : (entry : ℕ) → (on : BoundExpr) → (number : ℕ) → Bool
-is_equality i on k = is_some_and (equates (range_with_len 0 i) i) (numbered (conjuncts_of on) k)
-
--- the number of the first conjunct that does so
-abbrev pub first_equality : (entry : ℕ) → (on : BoundExpr) → Option ℕ
-first_equality i on = first_number (is_equality i on) 1 (length (conjuncts_of on))
 
 module _ (of : List Stats) where
   -- nested loops, or a hash table by the conjunct of that number, if there is one and it costs less

@@ -1,69 +1,19 @@
 //! The best steps of left joined entries.
 
-ghost use Rattle.std.specs.Prelude.{◌≡◌, ◌+◌, ◌++◌, ◌==◌, ◌&&◌, ◌<◌, ◌≤◌, ◌^◌, All, IfOk, OnOk, Some, length, map, nat_lt, true};
-ghost use Rattle.std.specs.List.{range_with_len};
-ghost use Rattle.expr.specs.View.{bound_expr_of};
+ghost use Rattle.std.specs.Prelude.{◌≡◌, ◌+◌, ◌++◌, ◌<◌, ◌≤◌, ◌^◌, All, IfOk, OnOk, length, map, true};
 ghost use Rattle.stats.specs.Factors.{million};
 ghost use Rattle.stats.specs.View.{selections_of, stats_of};
-ghost use Rattle.trailcheck.specs.Admissible as admissible;
-ghost use Rattle.trailcheck.specs.Admissible.{are_left_steps, equates};
+ghost use Rattle.trailcheck.specs.Admissible.{are_left_steps};
 ghost use Rattle.left_tails.specs.Best as spec;
 ghost use Rattle.left_tails.specs.Best.{IsBestTail};
 
 use crate::costing::left_join_cost;
 use crate::sizes::size_with_left;
-use expr::{Access, BoundExpr, CodeStep, ColumnId, Method, MovableExpr};
+use expr::{Access, CodeStep, Method, MovableExpr};
 use memory::{Heap, Items};
-use predicates::{conjunct_count, conjunct_numbered, equated_columns};
 use stats::{Selection, Stats};
 use std::alloc::AllocError;
-
-// True where the one column is of an earlier entry, and the other one of the entry.
-fn faces(entry: usize, one: ColumnId, other: ColumnId) -> bool
-    ensures { result ≡ (nat_lt one.entry entry && (other.entry == entry)) }
-{
-    one.entry < entry && other.entry == entry
-}
-
-// True where one of two columns is of an earlier entry, and the other one of the entry.
-fn are_across(entry: usize, a: ColumnId, b: ColumnId) -> bool
-    ensures { result ≡ admissible.are_across (range_with_len 0 entry) entry (Some (a, b)) }
-{
-    faces(entry, a, b) || faces(entry, b, a)
-}
-
-// True where the condition equates a column of an earlier entry with one of the entry.
-fn equates_before<A: Heap>(entry: usize, condition: &BoundExpr<A>) -> bool
-    ensures { result ≡ equates (range_with_len 0 entry) entry (bound_expr_of condition.now) }
-{
-    match equated_columns(condition) {
-        Some((a, b)) => are_across(entry, a, b),
-        None => false,
-    }
-}
-
-// True where the conjunct of the ON of that number does so.
-fn is_equality<A: Heap>(on: &MovableExpr<A>, entry: usize, number: u64) -> bool
-    ensures { result ≡ spec.is_equality entry on.now number }
-{
-    match conjunct_numbered(on, number) {
-        Some(condition) => equates_before(entry, condition),
-        None => false,
-    }
-}
-
-// The number of the first conjunct of the ON that does so.
-fn first_equality<A: Heap>(on: &MovableExpr<A>, entry: usize) -> Option<u64>
-    ensures { result ≡ spec.first_equality entry on.now }
-{
-    let count = conjunct_count(on) as u64;
-    for k in 0..count {
-        if is_equality(on, entry, k + 1) {
-            return Some(k + 1);
-        }
-    }
-    None
-}
+use trailcheck::first_equality;
 
 // Nested loops, or a hash table by the conjunct of that number, if there is one and it costs less.
 fn better_method<A: Heap>(

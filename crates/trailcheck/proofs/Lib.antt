@@ -1,4 +1,5 @@
 pub mod Accepted
+pub mod FirstNumbers
 pub mod Numbers
 pub mod Placed
 pub mod Same

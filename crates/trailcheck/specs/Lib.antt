@@ -1,5 +1,6 @@
 pub mod Admissible
 pub mod Entries
+pub mod Equalities
 pub mod Limits
 pub mod Replays
 pub mod SameTerm

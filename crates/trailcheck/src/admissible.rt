@@ -160,12 +160,8 @@ pub fn is_admissible<A: Heap>(
                 return Ok(false);
             }
             let lefts = setting.lefts.as_slice();
-            are_left_steps(
-                alloc,
-                inner_count(setting),
-                lefts,
-                left_steps(setting, steps),
-            )
+            let tail = left_steps(setting, steps);
+            Ok(are_left_steps(inner_count(setting), lefts, tail))
         }
     }
 }

@@ -5,6 +5,7 @@ mod access;
 mod admissible;
 mod allowance;
 mod entries;
+mod equalities;
 mod judging;
 mod laws;
 mod limits;
@@ -18,6 +19,7 @@ mod verdict;
 
 pub use access::{bounds, condition_at};
 pub use admissible::{is_admissible, some_never_true};
+pub use equalities::first_equality;
 pub use judging::judge;
 pub use laws::{law_accepted_means_same, law_same_term_is_equal};
 pub use same_term::is_same_term;

@@ -1,18 +1,17 @@
 //! How the rows of an entry may be joined to the placed entries.
 
-ghost use Rattle.std.specs.Prelude.{◌≡◌, IfOk};
+ghost use Rattle.std.specs.Prelude.{◌≡◌};
 ghost use Rattle.expr.specs.View.{bound_expr_of};
 ghost use Rattle.trailcheck.specs.Admissible as spec;
 ghost use Rattle.trailcheck.specs.View.{setting_of};
 
 use crate::access::condition_at;
 use crate::entries::is_among;
+use crate::equalities::is_equality;
 use crate::setting::Setting;
-use crate::shapes::first_entries;
 use expr::{Access, BoundExpr, CodeStep, Method, MovableExpr};
 use memory::Heap;
-use predicates::{conjunct_numbered, equated_columns};
-use std::alloc::AllocError;
+use predicates::equated_columns;
 
 // True where the condition equates a column of a placed entry with one of the entry.
 fn equates<A: Heap>(placed: &[usize], entry: usize, condition: &BoundExpr<A>) -> bool
@@ -48,62 +47,39 @@ pub(crate) fn is_allowed_method<A: Heap>(
 }
 
 // True where the left joined entry may be joined so.
-fn is_left_method<A: Heap>(
-    alloc: A,
-    entry: usize,
-    on: &MovableExpr<A>,
-    method: Method,
-) -> Result<bool, AllocError>
-    ensures { IfOk result (λ b. b ≡ spec.is_left_method entry on.now method) }
+fn is_left_method<A: Heap>(entry: usize, on: &MovableExpr<A>, method: Method) -> bool
+    ensures { result ≡ spec.is_left_method entry on.now method }
 {
     match method {
-        Method::Nested => Ok(true),
-        Method::Hash { conjunct } => match conjunct_numbered(on, conjunct) {
-            Some(condition) => {
-                let placed = first_entries(alloc, entry)?;
-                Ok(equates(placed.as_slice(), entry, condition))
-            }
-            None => Ok(false),
-        },
-        Method::Merge { .. } => Ok(false),
+        Method::Nested => true,
+        Method::Hash { conjunct } => is_equality(on, entry, conjunct),
+        Method::Merge { .. } => false,
     }
 }
 
 // True where the step is of the left joined entry, reads all its rows, and joins it as it may.
-fn is_left_step<A: Heap>(
-    alloc: A,
-    entry: usize,
-    on: &MovableExpr<A>,
-    step: CodeStep,
-) -> Result<bool, AllocError>
-    ensures { IfOk result (λ b. b ≡ spec.is_left_step entry on.now step) }
+fn is_left_step<A: Heap>(entry: usize, on: &MovableExpr<A>, step: CodeStep) -> bool
+    ensures { result ≡ spec.is_left_step entry on.now step }
 {
     if step.entry == 0 || step.entry - 1 != entry as u64 {
-        return Ok(false);
+        return false;
     }
-    if !matches!(step.access, Access::Full) {
-        return Ok(false);
-    }
-    is_left_method(alloc, entry, on, step.method)
+    matches!(step.access, Access::Full) && is_left_method(entry, on, step.method)
 }
 
 /// True where there is a step for each left joined entry from that of the index on.
 pub(crate) fn are_left_steps<A: Heap>(
-    alloc: A,
     entry: usize,
     ons: &[MovableExpr<A>],
     steps: &[CodeStep],
-) -> Result<bool, AllocError>
-    ensures { IfOk result (λ b. b ≡ spec.are_left_steps entry ons.now steps.now) }
+) -> bool
+    ensures { result ≡ spec.are_left_steps entry ons.now steps.now }
 {
     let [on, ons @ ..] = ons else {
-        return Ok(steps.is_empty());
+        return steps.is_empty();
     };
     let [step, steps @ ..] = steps else {
-        return Ok(false);
+        return false;
     };
-    if !is_left_step(alloc, entry, on, *step)? {
-        return Ok(false);
-    }
-    are_left_steps(alloc, step.entry as usize, ons, steps)
+    is_left_step(entry, on, *step) && are_left_steps(step.entry as usize, ons, steps)
 }

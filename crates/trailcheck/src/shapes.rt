@@ -248,7 +248,7 @@ fn under_others<A: Heap>(
 }
 
 // So many numbers, from 0 on.
-pub(crate) fn first_entries<A: Heap>(alloc: A, count: usize) -> Result<Items<usize, A>, AllocError>
+fn first_entries<A: Heap>(alloc: A, count: usize) -> Result<Items<usize, A>, AllocError>
     ensures { IfOk result (λ entries. entries ≡ range_with_len 0 count) }
 {
     let mut entries = Items::new(alloc);

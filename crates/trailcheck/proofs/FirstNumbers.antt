@@ -6,7 +6,7 @@ use Rattle.std.proofs.lemmas.Bool.{cases_eq, cases_lt, eq-eqb, le-ltb, lt-ltb, n
 use Rattle.expr.specs.declared.bound.ColumnId.{ColumnId}
 use Rattle.trailcheck.specs.Admissible.{are_across}
 use Rattle.trailcheck.specs.Entries.{is_among}
-use Rattle.left_tails.specs.Best.{first_number}
+use Rattle.trailcheck.specs.Equalities.{first_number}
 
 -- ---- the entries before one
 
@@ -18,11 +18,11 @@ among a (suc n) k from below = go (cases_eq a k) (λ other. among (a + 1) n k ot
     go (inl same) rest = or_left (a == k) (is_among (range_with_len (a + 1) n) k) (eq-eqb a k same)
     go (inr other) rest = or_right (a == k) (is_among (range_with_len (a + 1) n) k) (rest (omega arith))
 
-not_among : (a n k : ℕ) → a + n ≤ k → is_among (range_with_len a n) k ≡ false
+pub not_among : (a n k : ℕ) → a + n ≤ k → is_among (range_with_len a n) k ≡ false
 not_among a zero k past = refl
 not_among a (suc n) k past = rw (ne_eqb a k (λ e. omega (arith, e))) (not_among (a + 1) n k (omega arith))
 
-among_first : (n k : ℕ) → is_among (range_with_len 0 n) k ≡ nat_lt k n
+pub among_first : (n k : ℕ) → is_among (range_with_len 0 n) k ≡ nat_lt k n
 among_first n k = go (cases_lt k n)
   where
     go : (k < n) ⊎ (n ≤ k) → is_among (range_with_len 0 n) k ≡ nat_lt k n

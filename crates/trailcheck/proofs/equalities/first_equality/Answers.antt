@@ -1,7 +1,7 @@
 use Rattle.std.proofs.Common.{sym, ◌∙◌}
-use Rattle.left_tails.specs.Best as spec
-use Rattle.left_tails.proofs.Numbers.{not_this}
-use Rattle.left_tails.proofs.choosing.first_equality.Goals as goal
+use Rattle.trailcheck.specs.Equalities as spec
+use Rattle.trailcheck.proofs.FirstNumbers.{not_this}
+use Rattle.trailcheck.proofs.equalities.first_equality.Goals as goal
 
 pub loop-k-preserved : goal.loop-k-preserved
 loop-k-preserved g c =

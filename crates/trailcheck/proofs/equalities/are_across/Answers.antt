@@ -1,6 +1,6 @@
 use Rattle.std.proofs.Common.{◌∙◌, ◌==◌, ◌&&◌, true, false, nat_lt, refl, sym}
-use Rattle.left_tails.proofs.Numbers.{across_before}
-use Rattle.left_tails.proofs.choosing.are_across.Goals as goal
+use Rattle.trailcheck.proofs.FirstNumbers.{across_before}
+use Rattle.trailcheck.proofs.equalities.are_across.Goals as goal
 
 pub returns-then-faces : goal.returns-then-faces
 returns-then-faces c =
