@@ -1,9 +1,9 @@
 //! Plans of joins of which each request for memory is refused in turn, from the text to the run: `simplify`, `search`, `place`, `judge`
 //! and `run` give their whole result or are out of memory, and a run takes no more steps than its work.
 
-use code_costs::{MAX_ENTRIES, Problem};
 use crate::turns::{Ended, Run, ended_here, refuse_in_turn, requests_of_sales};
 use access::frame;
+use code_costs::{MAX_ENTRIES, Problem};
 use expr::{Access, Code, CodeStep, Method};
 use fixture_plans::{run_over, tables_of};
 use fixtures::sales;

@@ -44,6 +44,8 @@ const THREE: &str =
 
 const FIRST: &str = "SELECT a.id FROM a, c, a d WHERE a.k = c.k AND a.id = d.id";
 
+const LEFT: &str = "SELECT a.id FROM a LEFT JOIN c ON a.k = c.k";
+
 const MIDDLE: &str =
     "SELECT a.id FROM a, c, a d, c e WHERE a.k = c.k AND a.id = d.id AND c.id = e.id";
 
@@ -59,6 +61,7 @@ pub fn query_text(text: &str) -> &str {
         "THREE" => THREE,
         "FIRST" => FIRST,
         "MIDDLE" => MIDDLE,
+        "LEFT" => LEFT,
         _ => text,
     }
 }
@@ -73,7 +76,7 @@ pub fn query_text(text: &str) -> &str {
 /// sink, a whole index is read as the table stands, and a merge is a hash join. Rows that nested loops or a hash join would read as
 /// they stand are found by an index on a column of an equality with an entry before, where that is no more than the rows of the
 /// table with one step for each combination and three for each row found, seen or not: it takes one for each combination, two for
-/// each row found and one for each pair.
+/// each row found and one for each pair. A left join takes as many as nested loops or a hash join of the rows that the guard shows.
 pub const ROWS: &str = "root | KEYS | - | - | 1 f n, 2 f n | 0.0 0.2 2.1 3.0 3.2 | 25
 root | KEYS | - | - | 1 f n, 2 f h1 | 0.0 0.2 2.1 3.0 3.2 | 25
 root | KEYS | - | - | 2 f n, 1 f h1 | 0.0 3.0 2.1 0.2 3.2 | 25
@@ -177,4 +180,18 @@ root | KEYS | 1.2 2.2 | any | 1 i2 n, 2 i2 h1 | 0.0 0.2 2.1 3.0 3.2 | 25
 root | NUMBERS | 1.1 2.1 | any | 1 i1 n, 2 i1 n | 0.0 1.1 2.2 3.3 4.4 | 25
 alice | KEYS | 2.2 | any | 1 f n, 2 i2 m1 | 0.0 3.0 | 19
 root | SELECT id FROM a WHERE FALSE | - | any | empty |  | 0
+root | LEFT | - | - | 1 f n, 2 f n | 0.0 0.2 1.null 2.1 3.0 3.2 4.null | 25
+root | LEFT | - | - | 1 f n, 2 f h1 | 0.0 0.2 1.null 2.1 3.0 3.2 4.null | 25
+root | LEFT | - | any | 1 f n, 2 f n | 0.0 0.2 1.null 2.1 3.0 3.2 4.null | 25
+alice | LEFT | - | - | 1 f n, 2 f n | 0.0 1.null 2.null 3.0 4.null | 19
+alice | LEFT | - | - | 1 f n, 2 f h1 | 0.0 1.null 2.null 3.0 4.null | 19
+root | SELECT a.id FROM a LEFT JOIN c ON a.k < c.k | - | - | 1 f n, 2 f n | 0.1 0.4 1.null 2.4 3.1 3.4 4.4 | 35
+root | SELECT a.id FROM a LEFT JOIN c ON a.k = c.k AND a.t = c.t | - | - | 1 f n, 2 f n | 0.0 1.null 2.null 3.0 4.null | 25
+root | SELECT a.id FROM a LEFT JOIN c ON a.k = c.k AND a.t = c.t | - | - | 1 f n, 2 f h2 | 0.0 1.null 2.null 3.0 4.null | 26
+root | SELECT a.id FROM a LEFT JOIN c ON a.k = c.k WHERE a.id = 3 | - | - | 1 f n, 2 f n | 2.1 | 15
+root | SELECT a.id FROM a LEFT JOIN c ON a.k = c.k WHERE a.id = 3 | - | - | 1 f n, 2 f h1 | 2.1 | 17
+root | SELECT a.id FROM a LEFT JOIN c ON a.k = c.k WHERE c.k IS NULL | - | - | 1 f n, 2 f n | 1.null 4.null | 25
+root | SELECT a.id FROM a LEFT JOIN c ON a.k = c.k LEFT JOIN a d ON c.id = d.id | - | - | 1 f n, 2 f n, 3 f n | 0.0.0 0.2.2 1.null.null 2.1.1 3.0.0 3.2.2 4.null.null | 47
+root | SELECT a.id FROM bare LEFT JOIN a ON bare.k = a.k | - | - | 1 f n, 2 f n |  | 0
+root | SELECT a.id FROM bare LEFT JOIN a ON bare.k = a.k | - | - | 1 f n, 2 f h1 |  | 0
 ";

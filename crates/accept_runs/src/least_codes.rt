@@ -1,9 +1,9 @@
 //! The codes that the search finds, and their costs.
 
-use code_costs::{MAX_ENTRIES, Problem, cost};
 use crate::planned::{Asked, Planned, column_of, lent, make_planned};
 use crate::rows::fields;
 use crate::stores::made;
+use code_costs::{MAX_ENTRIES, Problem, cost};
 use fixtures::show_code;
 use joindp::search;
 use std::alloc::{AllocError, AllocGlobal, Global};

@@ -4,8 +4,8 @@ ghost use Rattle.std.specs.Prelude.{◌≡◌};
 ghost use Rattle.trailcheck.specs.View.{setting_of};
 ghost use Rattle.code_costs.specs.View.{problem_of};
 
-use code_costs::{MAX_ENTRIES, Problem, cost};
 use crate::planned::lent;
+use code_costs::{MAX_ENTRIES, Problem, cost};
 use expr::{Code, cmp_codes};
 use fixture_plans::{Drawn, Random, all_codes, draw};
 use fixtures::show_code;

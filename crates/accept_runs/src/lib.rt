@@ -5,11 +5,11 @@
 #[cfg(test)]
 mod cases;
 #[cfg(test)]
-mod code_costs;
-#[cfg(test)]
 mod combination_size;
 #[cfg(test)]
 mod costed_queries;
+#[cfg(test)]
+mod costs;
 #[cfg(test)]
 mod counted;
 #[cfg(test)]

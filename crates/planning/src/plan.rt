@@ -15,10 +15,10 @@ ghost use Rattle.planning.specs.LastSort as sorting;
 ghost use Rattle.planning.specs.Plans.{IsPlan};
 ghost use Rattle.planning.specs.Wanted as wanted;
 
-use code_costs::Problem;
 use crate::last_sort::last_sort;
 use crate::wanted::wanted_column;
 use algebra::Step;
+use code_costs::Problem;
 use expr::{BoundQuery, Code, ColumnId};
 use joindp::search;
 use memory::{Heap, Items};

@@ -3,11 +3,11 @@
 ghost use Rattle.std.specs.Prelude.{◌≤◌, IfSome};
 ghost use Rattle.value.specs.Limits.{most_entries};
 
-use code_costs::Problem;
 use crate::numbers::number_of;
 use crate::search_problem::{for_each_entry, setting, table_stats};
 use crate::shape::Shape;
 use crate::stop::Stop;
+use code_costs::Problem;
 use joindp::search;
 use std::alloc::{AllocError, Global};
 use value::MOST_ENTRIES;

@@ -1,9 +1,9 @@
 //! Costs of codes.
 
-use code_costs::{MAX_ENTRIES, Problem, cost};
 use crate::planned::{Asked, Planned, column_of, lent, make_planned};
 use crate::rows::fields;
 use crate::stores::made;
+use code_costs::{MAX_ENTRIES, Problem, cost};
 use expr::Code;
 use fixtures::code_of;
 use std::alloc::{AllocError, AllocGlobal, Global};
