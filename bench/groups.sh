@@ -29,14 +29,7 @@ make_rows "$rows" > "$work/deal.csv"
 groups='SELECT region, count(*), sum(amount) FROM deal GROUP BY region ORDER BY region'
 first='SELECT id, amount FROM deal ORDER BY amount DESC, id LIMIT 10'
 for query in groups first; do
-    cat > "$work/$query.sql" <<SQL
-CREATE TABLE deal (id INTEGER, region INTEGER, amount INTEGER);
-.import --csv --skip 1 $work/deal.csv deal
-.mode csv
-.separator , "\n"
-.headers on
-${!query};
-SQL
+    { sqlite_tables 'deal id INTEGER, region INTEGER, amount INTEGER' && echo "${!query};"; } > "$work/$query.sql"
     cat > "$work/$query.psql" <<SQL
 CREATE TEMP TABLE deal (id bigint, region bigint, amount bigint);
 \\copy deal FROM '$work/deal.csv' CSV HEADER

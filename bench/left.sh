@@ -22,19 +22,12 @@ CREATE TABLE a (id bigint, owner text);
 CREATE TABLE b (id bigint, name text);
 SQL
 build
-left='SELECT a.id, b.name FROM a LEFT JOIN b ON a.id = b.id ORDER BY id'
-inner='SELECT a.id, b.name FROM a JOIN b ON a.id = b.id ORDER BY id'
-cat > "$work/left.sql" <<SQL
-CREATE TABLE a (id INTEGER, owner TEXT);
-CREATE TABLE b (id INTEGER, name TEXT);
-.import --csv --skip 1 $work/a.csv a
-.import --csv --skip 1 $work/b.csv b
-.mode csv
-.separator , "\n"
-.headers on
-.nullvalue \\\\N
-$left;
-SQL
+left='SELECT a.id AS k, b.name FROM a LEFT JOIN b ON a.id = b.id ORDER BY k'
+inner='SELECT a.id AS k, b.name FROM a JOIN b ON a.id = b.id ORDER BY k'
+{
+    sqlite_tables 'a id INTEGER, owner TEXT' 'b id INTEGER, name TEXT'
+    printf '%s\n' '.nullvalue \\N' "$left;"
+} > "$work/left.sql"
 ask() {
     "$rowplan" query --schema "$work/schema.sql" --dir "$work" --role root "$1"
 }

@@ -47,6 +47,16 @@ processor() {
     tail -n 1 "$work/time" | awk '{ printf "%.3f\n", $1 + $2 }'
 }
 
+# What sqlite3 is told so that it has the tables of CSV files in the folder, each given by its name and its columns, and writes CSV.
+sqlite_tables() {
+    local table
+    for table in "$@"; do
+        echo "CREATE TABLE ${table%% *} (${table#* });"
+        echo ".import --csv --skip 1 $work/${table%% *}.csv ${table%% *}"
+    done
+    printf '%s\n' '.mode csv' '.separator , "\n"' '.headers on'
+}
+
 # So many rows of a table `deal`, with a header: a number, one of so many owners, one of 50 regions, an amount that is null in one
 # row of eight, and a small number.
 deal_rows() {

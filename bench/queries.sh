@@ -42,16 +42,10 @@ grouped='SELECT d.region, count(*) AS deals, sum(d.amount) AS total FROM deal d,
 chained='SELECT count(*) AS n FROM t1'
 for t in 2 3 4 5 6 7 8; do chained="$chained JOIN t$t ON t$((t - 1)).id = t$t.id"; done
 
-cat > "$work/grouped.sql" <<SQL
-CREATE TABLE deal (id INTEGER, item INTEGER, region INTEGER, amount INTEGER);
-CREATE TABLE item (id INTEGER, name TEXT);
-.import --csv --skip 1 $work/deal.csv deal
-.import --csv --skip 1 $work/item.csv item
-.mode csv
-.separator , "\n"
-.headers on
-$grouped;
-SQL
+{
+    sqlite_tables 'deal id INTEGER, item INTEGER, region INTEGER, amount INTEGER' 'item id INTEGER, name TEXT'
+    echo "$grouped;"
+} > "$work/grouped.sql"
 {
     for t in 1 2 3 4 5 6 7 8; do echo "CREATE TABLE t$t (id INTEGER, val INTEGER);"; echo ".import --csv --skip 1 $work/chain/t$t.csv t$t"; done
     printf '.headers on\n%s;\n' "$chained"
