@@ -14,9 +14,8 @@ use fixtures::{FixtureError, contents, load, store_of};
 use memory::{Failure, Items};
 use report::{Answering, finish_marked};
 use resolve::{Bound, bind};
-use rewrite::simplify;
+use rewrite::{Simplified, simplify};
 use row_marks::Marks;
-use row_terms::left_conditions;
 use std::alloc::{AllocError, AllocGlobal, Global};
 use std::process::Abort;
 use std::test::Fail;
@@ -88,11 +87,16 @@ fn setting(
     bound: &Bound<'_, Global>,
 ) -> Result<Setting<Global>, AllocError> {
     let entries = bound.entries.as_slice();
+    let Simplified {
+        conditions,
+        lefts,
+        ..
+    } = simplify(alloc, &bound.query)?;
     Ok(Setting {
         frame: frame(alloc, store.catalog(), ROLE, entries)?,
         indexed: indexed(alloc, entries.len())?,
-        conditions: simplify(alloc, &bound.query)?.conditions,
-        lefts: left_conditions(alloc, &bound.query)?,
+        conditions,
+        lefts,
     })
 }
 

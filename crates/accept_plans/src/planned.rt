@@ -104,7 +104,7 @@ fn run_bound(
     let ([role, _, code, want], _) = fields(line);
     let setting = made_setting(rt.alloc(), store.catalog(), role, bound, "")?;
     let code = made_code(rt, code)?;
-    accepts(rt, &setting, bound, &code, 2881)?;
+    accepts(rt, &setting, bound, &code, 4380)?;
     let found = count(rt, store, role, &setting, bound, &code)?;
     assert!(rt; want.parse::<usize>() == Ok(found), "{line}");
     Ok(())
@@ -177,7 +177,7 @@ fn accepts_greatest(
     let setting = made_setting(rt.alloc(), store.catalog(), "root", &bound, "")?;
     assert!(rt; setting.conditions.len() == 64, "not 64 conditions");
     let code = made_code(rt, code)?;
-    accepts(rt, &setting, &bound, &code, 2881)
+    accepts(rt, &setting, &bound, &code, 4380)
 }
 
 #[test]

@@ -10,9 +10,9 @@ use expr::Code;
 use fixtures::{code_of, sales};
 use memory::{Items, boxed};
 use resolve::{Bound, bind};
-use rewrite::simplify;
+use rewrite::{Simplified, simplify};
 use row_ast::Query;
-use row_terms::{left_conditions, written};
+use row_terms::written;
 use std::alloc::{AllocError, Global};
 use std::process::Abort;
 use std::test::Fail;
@@ -149,8 +149,11 @@ pub fn made_setting(
     let entries = bound.entries.as_slice();
     let frame = frame(alloc, catalog, role, entries)?.into();
     let indexed = indexed(alloc, entries.len(), column)?;
-    let conditions = simplify(alloc, &bound.query)?.conditions;
-    let lefts = left_conditions(alloc, &bound.query)?;
+    let Simplified {
+        conditions,
+        lefts,
+        ..
+    } = simplify(alloc, &bound.query)?;
     boxed(
         alloc,
         Setting {

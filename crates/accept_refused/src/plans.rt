@@ -13,7 +13,7 @@ use metered::Metered;
 use resolve::{Bound, bind};
 use rewrite::{Simplified, place, simplify};
 use row_ast::Query;
-use row_terms::{left_conditions, written};
+use row_terms::written;
 use scope::Entry;
 use stats::Stats;
 use std::alloc::{AllocError, Global};
@@ -202,12 +202,16 @@ fn plan_bound<A: Heap>(
 ) -> Result<(), AllocError> {
     let entries = bound.entries.as_slice();
     let rows = contents(alloc, store, entries)?;
-    let Simplified { trail, conditions } = simplify(alloc, &bound.query)?;
+    let Simplified {
+        trail,
+        conditions,
+        lefts,
+    } = simplify(alloc, &bound.query)?;
     let setting = Setting {
         frame: frame(alloc, store.catalog(), planned.role, entries)?,
         indexed: no_indexes(alloc, entries.len())?,
         conditions,
-        lefts: left_conditions(alloc, &bound.query)?,
+        lefts,
     };
     let setting = boxed(alloc, setting)?;
     let code = searched(rt, alloc, &rows, &setting, planned)?;

@@ -6,9 +6,8 @@ use access::frame;
 use expr::{BoundExpr, ColumnId, copy_expr};
 use memory::{Items, boxed};
 use resolve::{Bound, bind};
-use rewrite::simplify;
+use rewrite::{Simplified, simplify};
 use row_ast::Query;
-use row_terms::left_conditions;
 use stats::Stats;
 use std::alloc::{AllocError, AllocGlobal, Global};
 use std::process::Abort;
@@ -121,11 +120,16 @@ fn planned_bound(
     asked: Asked<'_>,
 ) -> Result<Planned, AllocError> {
     let entries = bound.entries.as_slice();
+    let Simplified {
+        conditions,
+        lefts,
+        ..
+    } = simplify(rt.alloc(), &bound.query)?;
     let setting = Setting {
         frame: frame(rt.alloc(), store.catalog(), "root", entries)?,
         indexed: indexed(rt.alloc(), asked.indexes, entries.len())?,
-        conditions: simplify(rt.alloc(), &bound.query)?.conditions,
-        lefts: left_conditions(rt.alloc(), &bound.query)?,
+        conditions,
+        lefts,
     };
     let filter = match &bound.query.filter {
         Some(condition) => Some(copy_expr(rt.alloc(), condition)?),

@@ -13,9 +13,8 @@ use fixture_plans::{run_into_over, run_over, tables_of};
 use fixtures::{FixtureError, code_of, contents, load, store_of};
 use memory::{Failure, Items};
 use resolve::{Bound, bind};
-use rewrite::simplify;
+use rewrite::{Simplified, simplify};
 use row_ast::Query;
-use row_terms::left_conditions;
 use std::alloc::{AllocError, AllocGlobal, Global};
 use std::process::Abort;
 use std::test::Fail;
@@ -58,11 +57,16 @@ fn setting(
     row: Row<'_>,
 ) -> Result<Setting<Global>, AllocError> {
     let entries = bound.entries.as_slice();
+    let Simplified {
+        conditions,
+        lefts,
+        ..
+    } = simplify(alloc, &bound.query)?;
     Ok(Setting {
         frame: frame(alloc, store.catalog(), row.role, entries)?,
         indexed: indexed(alloc, row.indexes, entries.len())?,
-        conditions: simplify(alloc, &bound.query)?.conditions,
-        lefts: left_conditions(alloc, &bound.query)?,
+        conditions,
+        lefts,
     })
 }
 

@@ -4,4 +4,6 @@ pub mod Held
 pub mod Inner
 pub mod Keeps
 pub mod Law
+pub mod Reach
+pub mod Remaining
 pub mod Sound

@@ -1,5 +1,5 @@
 -- The filters that stand one on another, the entries of a term, and those of a condition.
-use Rattle.std.specs.Prelude.{ℕ, Bool, ◌==◌, ◌&&◌, List, [], ◌∷◌}
+use Rattle.std.specs.Prelude.{ℕ, Bool, ◌==◌, ◌&&◌, nat_le, List, [], ◌∷◌}
 use Rattle.std.specs.List.{list_all, list_any}
 use Rattle.expr.specs.Bound.{BoundExpr}
 use Rattle.expr.specs.Columns.{columns}
@@ -18,6 +18,10 @@ stands_in e es = list_any (same e) es
 -- each entry that the condition names is one of the term
 abbrev pub reads_only : Term → BoundExpr → Bool
 reads_only x e = list_all (λ id. covers x id.entry) (columns e)
+
+-- it names no entry after that
+abbrev pub reads_up_to : ℕ → BoundExpr → Bool
+reads_up_to entry e = list_all (λ id. nat_le id.entry entry) (columns e)
 
 -- no other entry is one of the term
 abbrev pub no_other : ℕ → Term → Bool

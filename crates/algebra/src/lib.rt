@@ -13,12 +13,15 @@ mod one_filter;
 mod planning;
 mod runs;
 mod step;
+mod turning;
 mod two_filters;
 
 pub use applying::apply;
 pub use laws::law_steps_keep;
 pub use planning::{
-    all_parts, all_simplified, consequence, copies, is_too_long, stands_in, written_conditions,
+    all_parts, all_simplified, consequence, copies, is_too_long, push_all_parts, push_parts,
+    stands_in, written_conditions,
 };
-pub use runs::reads_only;
+pub use runs::{all_up_to, reads_only};
 pub use step::{Reason, Rewrite, Step, rewrite_of};
+pub use turning::first_turning;

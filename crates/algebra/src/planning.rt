@@ -93,8 +93,8 @@ fn push_members<A: Heap>(
     Ok(())
 }
 
-// Adds the parts of the condition.
-fn push_parts<A: Heap>(
+/// Adds the parts of the condition.
+pub fn push_parts<A: Heap>(
     alloc: A,
     known: &mut Conditions<A>,
     condition: MovableExpr<A>,
@@ -113,14 +113,26 @@ fn push_parts<A: Heap>(
     }
 }
 
+/// Adds the parts of each condition.
+pub fn push_all_parts<A: Heap>(
+    alloc: A,
+    known: &mut Conditions<A>,
+    conditions: Conditions<A>,
+) -> Result<(), AllocError>
+    ensures { OnOk result (known.new ≡ known.old ++ flat_map spec.parts_of conditions) }
+{
+    for condition in conditions.into_vec() {
+        push_parts(alloc, known, condition)?;
+    }
+    Ok(())
+}
+
 /// The parts of each condition.
 pub fn all_parts<A: Heap>(alloc: A, conditions: Conditions<A>) -> Result<Conditions<A>, AllocError>
     ensures { IfOk result (λ l. l ≡ flat_map spec.parts_of conditions) }
 {
     let mut parts = Items::new(alloc);
-    for condition in conditions.into_vec() {
-        push_parts(alloc, &mut parts, condition)?;
-    }
+    push_all_parts(alloc, &mut parts, conditions)?;
     Ok(parts)
 }
 

@@ -1,6 +1,6 @@
 //! The filters that stand one on another, and the entries of terms and conditions.
 
-ghost use Rattle.std.specs.Prelude.{◌≡◌, ◌==◌, ◌++◌, ◌∷◌, [], IfOk, OnOk, filter, option_map, option_to_list, slice_get};
+ghost use Rattle.std.specs.Prelude.{◌≡◌, ◌==◌, ◌++◌, ◌∷◌, [], IfOk, OnOk, filter, option_map, option_to_list, slice_get, nat_le};
 ghost use Rattle.std.specs.List.{list_all, list_any};
 ghost use Rattle.expr.specs.Columns.{columns};
 ghost use Rattle.predicates.specs.NullRows.{rejects_null_rows};
@@ -63,6 +63,26 @@ pub fn reads_only<A: Heap>(
     let mut columns = Items::new(alloc);
     push_columns(&mut columns, condition.expression())?;
     Ok(covers_all(term, columns.as_slice()))
+}
+
+/// True where each column is of the entry or of one before it.
+pub fn all_up_to(columns: &[ColumnId], entry: usize) -> bool
+    ensures { result ≡ list_all (λ id. nat_le id.entry entry) columns.now }
+{
+    columns.iter().all(|id| id.entry <= entry)
+}
+
+/// True where the condition names no entry after that.
+pub(crate) fn reads_up_to<A: Heap>(
+    alloc: A,
+    entry: usize,
+    condition: &MovableExpr<A>,
+) -> Result<bool, AllocError>
+    ensures { IfOk result (λ b. b ≡ spec.reads_up_to entry condition.now) }
+{
+    let mut columns = Items::new(alloc);
+    push_columns(&mut columns, condition.expression())?;
+    Ok(all_up_to(columns.as_slice(), entry))
 }
 
 // True where there is a column, and the term covers its entry.

@@ -42,7 +42,7 @@ use Rattle.engine.specs.Answer.{seen}
 use Rattle.engine.specs.Audits.{Judged, admitted_audit, audit_of, judged}
 use Rattle.engine.specs.Guarded.{guarded_tables}
 use Rattle.engine.specs.Settings.{setting}
-use Rattle.engine.proofs.OfText.{text_inner, text_sound, text_tables}
+use Rattle.engine.proofs.OfText.{lefts_inner, lefts_sound, setting_of_query, text_lefts, text_tables}
 use Rattle.engine.proofs.Planned.{code_passing}
 use Rattle.engine.proofs.Readable.{found_in}
 use Rattle.engine.proofs.Steps.{filter_same}
@@ -101,10 +101,11 @@ module _ (means : WrittenMeans) (same : ShapesMeanSame) (shown : GuardsShow) (ha
   code_passes cat role text b fit is code fits rows =
       let w = world_over cat rows role b in
       let at = setting cat role b in
-      let inner : length (left_ons b.query) < length w.tables = subst (λ n. length (left_ons b.query) < n) (sym (as_many cat role rows b.entries)) (text_inner cat role b (text, is) have) in
+      let known = text_lefts cat role b (text, is) have in
+      let inner : length (left_ons b.query) < length w.tables = subst (λ n. length (left_ons b.query) < n) (sym (as_many cat role rows b.entries)) (lefts_inner b known) in
       subst (λ tables. IsPermutation (given_by cat rows role b code) (passing role (movable_conjuncts b.query) (left_combinations role (left_ons b.query) tables)))
       (left_rows cat role rows shown fit b.entries (text_tables cat role b (text, is)))
-      (code_passing means same w inner (text_sound cat role b (text, is) have) at (their_guards cat role rows b.entries) refl refl code fits (mean w (shape at code)) (IsPermutation-refl (mean w (shape at code))))
+      (code_passing means same w inner (lefts_sound b known) at (their_guards cat role rows b.entries) (setting_of_query cat role b known) code fits (mean w (shape at code)) (IsPermutation-refl (mean w (shape at code))))
 
   pub accepted_are_right : AcceptedAreRight
   accepted_are_right cat role text plan fit is =

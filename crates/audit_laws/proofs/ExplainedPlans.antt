@@ -24,7 +24,8 @@ use Rattle.catalog.specs.Catalog.{Catalog}
 use Rattle.catalog_laws.specs.WellFormed.{IsWellFormed}
 use Rattle.access.specs.Guards.{guard}
 use Rattle.stats.specs.Statistics.{Stats, Unknown, row_count}
-use Rattle.algebra.specs.PlanningList.{planning_list}
+use Rattle.algebra.specs.PlanningList.{planning_list, remaining_lefts}
+use Rattle.algebra.proofs.Remaining.{remaining_each}
 use Rattle.row_terms.specs.Written.{left_conditions, written}
 use Rattle.trailcheck.specs.Admissible.{is_admissible}
 use Rattle.trailcheck.specs.Settings.{Setting}
@@ -32,6 +33,7 @@ use Rattle.trailcheck.specs.Verdicts.{verdict}
 use Rattle.trailcheck.specs.declared.verdict.Reason.TheVariants as reason
 use Rattle.trailcheck.specs.declared.verdict.Verdict.TheVariants.{Accepted, Refused}
 use Rattle.rewrite.specs.Laws.{PlansAreAccepted}
+use Rattle.rewrite.proofs.Accepting.{lefts_among}
 use Rattle.planning.specs.Best.{BestIsThere, best}
 use Rattle.expr_texts.specs.Filters.{IsName}
 use Rattle.plan_texts.specs.Plans.{Plan}
@@ -53,7 +55,7 @@ use Rattle.engine.specs.Explained.{best_text, explained_query, plan_with, proble
 use Rattle.engine.specs.Settings.{setting}
 use Rattle.engine.proofs.OfText as of_text
 use Rattle.engine.proofs.FewConjuncts.{member_count}
-use Rattle.engine.proofs.OfText.{few_left_conditions, text_conjuncts, text_entries, text_few, text_lefts, text_members, text_tables}
+use Rattle.engine.proofs.OfText.{setting_of_query, text_conjuncts, text_entries, text_few, text_lefts, text_members, text_tables}
 use Rattle.plan_laws.specs.Names.{AreNames}
 use Rattle.audit_laws.specs.ExplainedPlans.{ExplainedAreAccepted, ExplainedArePlans, HasCounts}
 use Rattle.audit_laws.proofs.EntryNames.{admitted_aliases_differ, column_named, columns_few, entry_named, index_named, small_number, unmistakable}
@@ -61,12 +63,9 @@ use Rattle.plan_laws.proofs.SoundPlans.{Facts, filters_each, is_right, ons_each,
 
 -- ---- the plan that explains a text
 
--- no more entries are left joined than there are
-left_joined_few : HaveTables → (cat : Catalog) (role : Name) (text : List ℕ) (b : Bound) → admitted cat role text ≡ Ok b → length (left_conditions b.query) < length (setting cat role b).frame
-left_joined_few have cat role text b is =
-    let fewer = few_left_conditions b (text_lefts cat role b (text, is) have) in
-    let many = length-map b.entries (λ e. guard cat role e.table) in
-    omega (arith, fewer, many)
+-- there are more entries than left joined ones
+left_joined_few : HaveTables → (cat : Catalog) (role : Name) (text : List ℕ) (b : Bound) → admitted cat role text ≡ Ok b → length (setting cat role b).lefts < length (setting cat role b).frame
+left_joined_few have cat role text b is = lefts_among b.query (setting cat role b) (setting_of_query cat role b (text_lefts cat role b (text, is) have))
 
 -- so there is a best code
 best_there : BestIsThere → HaveTables → (cat : Catalog) (role : Name) (text : List ℕ) (b : Bound) (counts : List Stats) → admitted cat role text ≡ Ok b
@@ -172,10 +171,9 @@ module _ (laws : Laws) where
 
     facts : Facts b.entries b.query at
     facts = record {
-      lefts = refl;
-      among = left_joined_few laws.tables cat role text b is;
-      few_members = few_each (filter movable (left_ons b.query)) (movable_members (left_ons b.query) (text_members cat role b (text, is) laws.small));
-      listed = refl;
+      of_query = setting_of_query cat role b (text_lefts cat role b (text, is) laws.tables);
+      few_members =
+          remaining_each (λ on. length (conjuncts_of on) < 2 ^ 64) b.query (few_each (filter movable (left_ons b.query)) (movable_members (left_ons b.query) (text_members cat role b (text, is) laws.small)));
       each = length-map b.entries (λ e. guard cat role e.table);
       some = text_entries cat role b (text, is) laws.tables;
       few = text_few cat role b (text, is) laws.small;
@@ -200,12 +198,12 @@ module _ (laws : Laws) where
         whole =
             plan_is b.entries b.query at facts column_number small_number counts (rows_few statistics few b.entries) code admissible
             (filters_each b.entries b.query at facts (IsSaid b.entries) (said_filter b.entries facts.differ) (recursion_from_All (IsSaid b.entries) (planning_list b.query) said))
-            (ons_each b.entries b.query at facts (IsSaid b.entries) (said_filter b.entries facts.differ) (recursion_from_All (IsSaid b.entries) (left_conditions b.query) said_lefts))
+            (ons_each b.entries b.query at facts (IsSaid b.entries) (said_filter b.entries facts.differ) (remaining_each (IsSaid b.entries) b.query (recursion_from_All (IsSaid b.entries) (left_conditions b.query) said_lefts)))
 
         judged_is : judged at (written (length b.entries) b.query) b.entries (plan_without_offsets plan) ≡ Accepted
         judged_is =
             ap (λ t. if t then verdict at (written (length b.entries) b.query) (trail cat role b code) (plain_code plan.code) else Refused record { line = 0; reason = reason.Code }) (is_right b.entries b.query at facts laws.bind laws.found laws.marks plan code refl refl refl)
-            ∙ ap (verdict at (written (length b.entries) b.query) (trail cat role b code)) (laws.marks (inner_count b.entries (left_conditions b.query)) code).1
+            ∙ ap (verdict at (written (length b.entries) b.query) (trail cat role b code)) (laws.marks (inner_count b.entries (remaining_lefts b.query)) code).1
             ∙ trail_accepted b.entries b.query at facts laws.accept code admissible
 
         audited : audit_of cat role b (plan_at (plan_entries b.entries) (plan_text (plan_entries b.entries) plan)) ≡ Judged Accepted
@@ -224,7 +222,7 @@ module _ (laws : Laws) where
     AdmittedAreSaid = (cat : Catalog) (role : Name) (text : List ℕ) (b : Bound) → IsWellFormed cat → AreNames cat → IsUtf8 text → admitted cat role text ≡ Ok b → All (IsSaid b.entries) (movable_conjuncts b.query)
 
     abbrev PlanningListsAreSaid : Type 0
-    PlanningListsAreSaid = (entries : List Entry) (q : BoundQuery) → All (IsSaid entries) (movable_conjuncts q) → All (IsSaid entries) (planning_list q)
+    PlanningListsAreSaid = (entries : List Entry) (q : BoundQuery) → All (IsSaid entries) (movable_conjuncts q) → All (IsSaid entries) (left_conditions q) → All (IsSaid entries) (planning_list q)
 
     abbrev AdmittedLeftsAreSaid : Type 0
     AdmittedLeftsAreSaid = (cat : Catalog) (role : Name) (text : List ℕ) (b : Bound) → IsWellFormed cat → AreNames cat → IsUtf8 text → admitted cat role text ≡ Ok b → All (IsSaid b.entries) (left_conditions b.query)
@@ -243,4 +241,4 @@ module _ (laws : Laws) where
         go (Ok b) is e =
             let text_is : best_text cat role b (map (λ (e : Entry). statistics e.table) b.entries) ≡ plan = same_text (best_text cat role b (map (λ (e : Entry). statistics e.table) b.entries)) plan e in
             subst (λ p. audit_of cat role b (plan_at (plan_entries b.entries) p) ≡ Judged Accepted) text_is
-            (best_audited cat role b text is fit names (admitted_aliases cat role text b fit names utf8 is) IsSaid said_filter (planning_said b.entries b.query (admitted_said cat role text b fit names utf8 is)) (admitted_lefts_said cat role text b fit names utf8 is) statistics few)
+            (best_audited cat role b text is fit names (admitted_aliases cat role text b fit names utf8 is) IsSaid said_filter (planning_said b.entries b.query (admitted_said cat role text b fit names utf8 is) (admitted_lefts_said cat role text b fit names utf8 is)) (admitted_lefts_said cat role text b fit names utf8 is) statistics few)

@@ -12,11 +12,10 @@ use Rattle.access.specs.Guards.{frame, guard}
 use Rattle.tuples.specs.Guards as guards
 use Rattle.tuples.specs.Guards.{Guard}
 use Rattle.stats.specs.Statistics.{Stats}
-use Rattle.row_terms.specs.Written.{left_conditions}
-use Rattle.algebra.specs.PlanningList.{planning_list}
+use Rattle.algebra.specs.PlanningList.{planning_list, remaining_lefts}
 use Rattle.algebra.specs.Steps.{Step}
 use Rattle.planning.specs.Placing.{placing}
-use Rattle.planning.specs.Simplifying.{simplifying}
+use Rattle.planning.specs.Listing.{simplifying}
 use Rattle.trailcheck.specs.Settings.{Setting}
 use Rattle.planning.specs.LeastCode.{Problem, estimates}
 use Rattle.planning.specs.Cost.{cost}
@@ -82,7 +81,7 @@ named_with entries conditions lefts code cost sort steps = record {
 
 module _ (cat : Catalog) (role : Name) (b : Bound) (stats : List Stats) (p : planning.Plan) (is : IsPlan p) (query : p.query ≡ b.query) (from : p.problem ≡ problem cat role b stats) where
   abbrev named_plan : (cost : ℕ) → Option SortColumn → List Step → Plan
-  named_plan cost sort steps = named_with b.entries (planning_list b.query) (left_conditions b.query) p.code cost sort steps
+  named_plan cost sort steps = named_with b.entries (planning_list b.query) (remaining_lefts b.query) p.code cost sort steps
 
   is_plan_with : named_plan p.cost (option_map sort_column (last_sort p.problem p.code)) p.trail ≡ plan_with cat role b stats p.code
   is_plan_with =
@@ -98,7 +97,7 @@ module _ (cat : Catalog) (role : Name) (b : Bound) (stats : List Stats) (p : pla
       ap (plan_text (plan_entries b.entries)) is_plan_with ∙ sym (ap (λ o. text_if_found b.entries (option_map (plan_with cat role b stats) o)) found)
 
   -- the same of entries, conditions and names that are those of the query
-  pub written_best : (entries : List Entry) (conditions lefts : List BoundExpr) (names : List PlanEntry) (q : Plan) → entries ≡ b.entries → conditions ≡ planning_list b.query → lefts ≡ left_conditions b.query → names ≡ plan_entries b.entries
+  pub written_best : (entries : List Entry) (conditions lefts : List BoundExpr) (names : List PlanEntry) (q : Plan) → entries ≡ b.entries → conditions ≡ planning_list b.query → lefts ≡ remaining_lefts b.query → names ≡ plan_entries b.entries
       → q ≡ named_with entries conditions lefts p.code p.cost (option_map sort_column (last_sort p.problem p.code)) p.trail → plan_text names q ≡ best_text cat role b stats
   written_best entries conditions lefts names q of_entries of_conditions of_lefts of_names is_q =
       ap₂ plan_text of_names

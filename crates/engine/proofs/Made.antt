@@ -5,7 +5,7 @@ use Rattle.planning.specs.LeastCode.{Problem}
 use Rattle.planning.specs.Placing.{placing}
 use Rattle.planning.specs.Plans as planning
 use Rattle.planning.specs.Plans.{IsPlan}
-use Rattle.planning.specs.Simplifying.{simplifying}
+use Rattle.planning.specs.Listing.{simplifying}
 use Rattle.planning.specs.Wanted.{wanted_column}
 use Rattle.engine.specs.Plans.{Plan, with_query}
 

@@ -10,11 +10,10 @@ use Rattle.catalog.specs.Catalog.{Catalog}
 use Rattle.access.specs.Guards.{guard}
 use Rattle.tuples.specs.Guards as guards
 use Rattle.stats.specs.Statistics.{Stats}
-use Rattle.row_terms.specs.Written.{left_conditions}
-use Rattle.algebra.specs.PlanningList.{planning_list}
+use Rattle.algebra.specs.PlanningList.{planning_list, remaining_lefts}
 use Rattle.algebra.specs.Steps.{Step}
 use Rattle.planning.specs.Placing.{placing}
-use Rattle.planning.specs.Simplifying.{simplifying}
+use Rattle.planning.specs.Listing.{simplifying}
 use Rattle.planning.specs.LeastCode.{Problem, estimates}
 use Rattle.planning.specs.Cost.{cost}
 use Rattle.planning.specs.Best.{best}
@@ -53,8 +52,8 @@ abbrev pub plan_with : Catalog → Name → Bound → List Stats → Code → Pl
 plan_with cat role b statistics code = record {
   cost = cost (estimates (problem cat role b statistics)) code;
   filters = map (named b.entries) (planning_list b.query);
-  ons = named_ons b.entries (left_conditions b.query);
-  code = marked_code (inner_count b.entries (left_conditions b.query)) code;
+  ons = named_ons b.entries (remaining_lefts b.query);
+  code = marked_code (inner_count b.entries (remaining_lefts b.query)) code;
   sort = option_map sort_column (last_sort (problem cat role b statistics) code);
   trail = trail cat role b code;
 }

@@ -12,7 +12,7 @@ use Rattle.trailcheck.specs.Settings.{Setting}
 use Rattle.planning.specs.Placing.{placing}
 use Rattle.planning.specs.Plans as planning
 use Rattle.planning.specs.Plans.{IsPlan}
-use Rattle.planning.specs.Simplifying.{simplifying}
+use Rattle.planning.specs.Listing.{simplifying}
 use Rattle.planning.specs.Wanted.{wanted_column}
 use Rattle.resolve.specs.Resolved.{Bound}
 use Rattle.store.specs.Database.{Database}

@@ -8,8 +8,8 @@ ghost use Rattle.scope.specs.View.{entries_of};
 ghost use Rattle.catalog.specs.Catalog.{Catalog};
 ghost use Rattle.stats.specs.Statistics as stats;
 ghost use Rattle.algebra.specs.View.{step_of};
-ghost use Rattle.planning.specs.Simplifying.{simplifying};
-ghost use Rattle.row_terms.specs.Written.{left_conditions};
+ghost use Rattle.planning.specs.Listing.{simplifying};
+ghost use Rattle.query_laws.specs.LeftJoins.{HasLeftJoins};
 ghost use Rattle.trailcheck.specs.View.{setting_of};
 ghost use Rattle.value.specs.Limits.{most_conjuncts, most_entries};
 ghost use Rattle.planning.specs.LastSort.{last_sort};
@@ -126,12 +126,16 @@ fn best_text<A: Heap>(
     requires tables { AreTables store.now.catalog (bound_of bound.now).entries }
     requires few { length (bound_of bound.now).entries ≤ most_entries }
     requires conjuncts { length (movable_conjuncts (bound_of bound.now).query) ≤ most_conjuncts }
-    requires lefts { length (left_conditions (bound_of bound.now).query) ≤ length (bound_of bound.now).entries }
+    requires lefts { HasLeftJoins (bound_of bound.now) }
     ensures { IfOk result (λ text. text.items ≡ spec.best_text store.now.catalog role.now (bound_of bound.now) (map (λ e. known store.now.catalog role.now (statistics_in store.now) e.table) (bound_of bound.now).entries)) }
 {
     let entries = bound.entries.as_slice();
-    let Simplified { trail, conditions } = simplify(alloc, &bound.query)?;
-    let setting = setting_with(alloc, store.catalog(), role, bound, conditions)?;
+    let Simplified {
+        trail,
+        conditions,
+        lefts,
+    } = simplify(alloc, &bound.query)?;
+    let setting = setting_with(alloc, store.catalog(), role, bound, conditions, lefts)?;
     let frame = setting.frame.as_slice();
     let unknown = Stats::unknown();
     let statistics = known_statistics(alloc, store, entries, frame, &unknown)?;

@@ -8,7 +8,7 @@ ghost use Rattle.access.specs.Access.{sees};
 ghost use Rattle.tuples.specs.Guards.{shows};
 ghost use Rattle.tuples.specs.View.{guard_of};
 ghost use Rattle.resolve.specs.View.{bound_of};
-ghost use Rattle.algebra.specs.PlanningList.{planning_list};
+ghost use Rattle.algebra.specs.PlanningList.{planning_list, remaining_lefts};
 ghost use Rattle.trailcheck.specs.View.{setting_of};
 ghost use Rattle.store.specs.Derived.{indexed_columns};
 ghost use Rattle.engine.specs.Settings as spec;
@@ -17,10 +17,9 @@ use access::frame;
 use catalog::Catalog;
 use expr::MovableExpr;
 use memory::{Heap, Items};
-use planning::simplify;
+use planning::{Simplified, simplify};
 use resolve::Bound;
 use row_objects::Index;
-use row_terms::left_conditions;
 use scope::Entry;
 use std::alloc::AllocError;
 use store::column_number;
@@ -51,16 +50,18 @@ fn indexed<A: Heap>(
     Ok(indexed)
 }
 
-/// The guards of the entries for the role, which show exactly the rows that it sees, the indexes of their tables, and the
-/// planning list, which is given, and the ONs of the left joined entries.
+/// The guards of the entries for the role, which show exactly the rows that it sees, the indexes of their tables, and what the
+/// query is planned with, which is given.
 pub(crate) fn setting_with<A: Heap>(
     alloc: A,
     catalog: &Catalog<A>,
     role: &str,
     bound: &Bound<'_, A>,
     conditions: Items<MovableExpr<A>, A>,
+    lefts: Items<MovableExpr<A>, A>,
 ) -> Result<Setting<A>, AllocError>
-    requires { conditions ≡ planning_list (bound_of bound.now).query }
+    requires conditions { conditions ≡ planning_list (bound_of bound.now).query }
+    requires lefts { lefts ≡ remaining_lefts (bound_of bound.now).query }
     ensures value { IfOk result (λ s. setting_of s ≡ spec.setting catalog.now role.now (bound_of bound.now)) }
     ensures shows { IfOk result (λ s. (row : value.Row) → map (λ g. shows role.now (guard_of g) row) s.frame ≡ map (λ e. sees catalog.now role.now (table_of e.table) row) bound.now.entries) }
 {
@@ -69,11 +70,11 @@ pub(crate) fn setting_with<A: Heap>(
         frame: frame(alloc, catalog, role, entries)?,
         indexed: indexed(alloc, entries)?,
         conditions,
-        lefts: left_conditions(alloc, &bound.query)?,
+        lefts,
     })
 }
 
-/// The same with the planning list of the query.
+/// The same with what the query is planned with.
 pub(crate) fn setting<A: Heap>(
     alloc: A,
     catalog: &Catalog<A>,
@@ -83,6 +84,10 @@ pub(crate) fn setting<A: Heap>(
     ensures value { IfOk result (λ s. setting_of s ≡ spec.setting catalog.now role.now (bound_of bound.now)) }
     ensures shows { IfOk result (λ s. (row : value.Row) → map (λ g. shows role.now (guard_of g) row) s.frame ≡ map (λ e. sees catalog.now role.now (table_of e.table) row) bound.now.entries) }
 {
-    let simplified = simplify(alloc, &bound.query)?;
-    setting_with(alloc, catalog, role, bound, simplified.conditions)
+    let Simplified {
+        conditions,
+        lefts,
+        ..
+    } = simplify(alloc, &bound.query)?;
+    setting_with(alloc, catalog, role, bound, conditions, lefts)
 }

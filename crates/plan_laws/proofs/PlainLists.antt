@@ -1,5 +1,5 @@
 -- The conditions that a query is planned with are plain and no deeper than those that it is written with.
-use Rattle.std.proofs.Common.{ℕ, suc, max, ◌≤◌, Bool, true, false, List, [], ◌∷◌, ◌++◌, map, Option, Some, None, IfSome, option_and_then, option_map, if◌then◌else◌, arith}
+use Rattle.std.proofs.Common.{ℕ, suc, max, ◌≤◌, Bool, true, false, List, [], ◌∷◌, ◌++◌, map, Option, Some, None, is_some, IfSome, option_and_then, option_map, if◌then◌else◌, arith}
 use Rattle.std.specs.List.{All, flat_map}
 use Rattle.std.proofs.lemmas.List.Elements.{All-nil, All-cons, All-head, All-tail, All-append, All-push}
 use Rattle.value.specs.Datum.{Datum, null, int, text, bool}
@@ -14,9 +14,10 @@ use Rattle.bound_plans.specs.Named.{named, named_members}
 use Rattle.predicates.specs.Equalities.{column_equals, column_sides, literal_side, unless_null}
 use Rattle.predicates.specs.Inward.{inward}
 use Rattle.predicates.specs.Offsets.{without_offsets}
+use Rattle.row_terms.specs.Written.{left_conditions}
 use Rattle.algebra.specs.Rules.{constant_of, other_column}
 use Rattle.algebra.specs.Runs.{stands_in}
-use Rattle.algebra.specs.PlanningList.{written_conditions, simplified, parts_of, simplified_parts, is_across, consequence, with_condition, with_any, with_each, with_all, with_consequences, with_others, without_repeats, is_too_long, planned, planning_list}
+use Rattle.algebra.specs.PlanningList.{Planned, written_conditions, simplified, parts_of, simplified_parts, is_across, consequence, with_condition, with_any, with_each, with_all, with_consequences, with_others, without_repeats, is_too_long, first_turning, turned, finished, entries_before_lefts, planning_list}
 use Rattle.plan_laws.proofs.Plain.{is_and, IsPlain, ArePlain}
 use Rattle.plan_laws.proofs.PlainRebuilt.{without_offsets_plain, folded_plain}
 use Rattle.plan_laws.proofs.PlainInward.{inward_plain}
@@ -162,15 +163,33 @@ module _ (entries : List Entry) (P : ColumnId → Type 0) (Q : Datum → Type 0)
     others_kept known [] h k = h
     others_kept known (e ∷ es) h k = others_kept (with_condition known e) es (condition_kept known e h (All-head IsKept e es k)) (All-tail IsKept e es k)
 
-    planned_kept : (written simple : List BoundExpr) → All IsKept written → All IsKept simple → All IsKept (planned written simple)
-    planned_kept written simple h k = go (is_too_long simple) (is_too_long (with_consequences simple))
+    turned_kept : (ons : List BoundExpr) (k : ℕ) (es : List BoundExpr) → All IsKept ons → All IsKept es → All IsKept (turned k es ons).conditions
+    turned_kept [] k es h l = l
+    turned_kept (on ∷ ons) k es h l =
+        go (is_some (first_turning k es))
+        (turned_kept ons (suc k) more (All-tail IsKept on ons h) (All-append IsKept es (simplified_parts (parts_of on)) l (simplified_parts_kept (parts_of on) (parts_kept on (All-head IsKept on ons h)))))
       where
-        go : (b c : Bool) → All IsKept (if b then written else if c then written else without_repeats (with_consequences simple))
+        more : List BoundExpr
+        more = es ++ simplified_parts (parts_of on)
+
+        go : (b : Bool) → All IsKept (turned (suc k) more ons).conditions → All IsKept (if b then turned (suc k) more ons else record { conditions = es; lefts = on ∷ ons }).conditions
+        go true further = further
+        go false further = l
+
+    finished_kept : (as_written end : Planned) → All IsKept as_written.conditions → All IsKept end.conditions → All IsKept (finished as_written end).conditions
+    finished_kept as_written end h k = go (is_too_long es) (is_too_long (with_consequences es))
+      where
+        es : List BoundExpr
+        es = end.conditions
+
+        go : (b c : Bool) → All IsKept (if b then as_written else if c then as_written else record { conditions = without_repeats (with_consequences es); lefts = end.lefts }).conditions
         go true c = h
         go false true = h
-        go false false = others_kept [] (with_consequences simple) (All-nil IsKept) (all_kept simple simple simple k k k)
+        go false false = others_kept [] (with_consequences es) (All-nil IsKept) (all_kept es es es k k k)
 
-    pub planning_plain : (q : BoundQuery) → All IsKept (movable_conjuncts q) → All IsKept (planning_list q)
-    planning_plain q h =
+    pub planning_plain : (q : BoundQuery) → All IsKept (movable_conjuncts q) → All IsKept (left_conditions q) → All IsKept (planning_list q)
+    planning_plain q h lefts =
         let written = mapped_all IsKept IsKept without_offsets without_kept (movable_conjuncts q) h in
-        planned_kept (written_conditions q) (simplified_parts (written_conditions q)) written (simplified_parts_kept (written_conditions q) written)
+        let parts = simplified_parts (written_conditions q) in
+        finished_kept (record { conditions = written_conditions q; lefts = left_conditions q }) (turned (entries_before_lefts q) parts (left_conditions q)) written
+        (turned_kept (left_conditions q) (entries_before_lefts q) parts lefts (simplified_parts_kept (written_conditions q) written))

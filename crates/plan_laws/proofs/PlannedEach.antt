@@ -1,5 +1,5 @@
 -- What holds of each condition of a planning list: what the parts of a simplified condition keep, and what follows from two.
-use Rattle.std.proofs.Common.{◌≡◌, refl, subst, Bool, true, false, List, [], ◌∷◌, ◌++◌, map, Option, Some, None, if◌then◌else◌}
+use Rattle.std.proofs.Common.{◌≡◌, refl, subst, ℕ, suc, Bool, true, false, List, [], ◌∷◌, ◌++◌, map, Option, Some, None, is_some, if◌then◌else◌}
 use Rattle.std.specs.Prelude.{option_and_then, option_map}
 use Rattle.std.specs.List.{AllByRecursion}
 use Rattle.expr.specs.declared.bound.ColumnId.{ColumnId}
@@ -11,7 +11,8 @@ use Rattle.predicates.specs.Inward.{inward}
 use Rattle.predicates.specs.Offsets.{without_offsets}
 use Rattle.plan_laws.proofs.EachColumn.{OfColumns, of_both}
 use Rattle.plan_laws.proofs.Bare.{AreBare, IsBare, folded_bare, inward_bare, sides_bare, without_bare}
-use Rattle.algebra.specs.PlanningList.{consequence, is_across, is_too_long, parts_of, planning_list, simplified, simplified_parts, with_all, with_any, with_condition, with_consequences, with_each, with_others, without_repeats, written_conditions}
+use Rattle.row_terms.specs.Written.{left_conditions}
+use Rattle.algebra.specs.PlanningList.{Planned, consequence, entries_before_lefts, first_turning, is_across, is_too_long, parts_of, planning_list, simplified, simplified_parts, turned, with_all, with_any, with_condition, with_consequences, with_each, with_others, without_repeats, written_conditions}
 use Rattle.algebra.specs.Rules.{constant_of, other_column}
 use Rattle.algebra.specs.Runs.{stands_in}
 
@@ -51,18 +52,38 @@ module _ (P : BoundExpr → Type 0) where
       parts_each [] h = tt
       parts_each (e ∷ es) h = of_both P (parts_of (simplified e)) (simplified_parts es) (kept e h.0) (parts_each es h.1)
 
-      pub planned_each : (q : BoundQuery) → Each (written_conditions q) → Each (planning_list q)
-      planned_each q h = go (is_too_long (simplified_parts (written_conditions q))) (is_too_long (with_consequences (simplified_parts (written_conditions q))))
-        where
-          whole : Each (with_consequences (simplified_parts (written_conditions q)))
-          whole =
-              let simple : List BoundExpr = simplified_parts (written_conditions q) in
-              with_all_each simple simple simple (parts_each (written_conditions q) h) (parts_each (written_conditions q) h)
+      module _ (parted : (e : BoundExpr) → P e → Each (parts_of e)) where
+        turned_each : (ons : List BoundExpr) (n : ℕ) (es : List BoundExpr) → Each ons → Each es → Each (turned n es ons).conditions
+        turned_each [] n es h k = k
+        turned_each (on ∷ ons) n es h k =
+            go (is_some (first_turning n es)) (turned_each ons (suc n) (es ++ simplified_parts (parts_of on)) h.1 (of_both P es (simplified_parts (parts_of on)) k (parts_each (parts_of on) (parted on h.0))))
+          where
+            more : List BoundExpr
+            more = es ++ simplified_parts (parts_of on)
 
-          go : (b c : Bool) → Each (if b then written_conditions q else if c then written_conditions q else without_repeats (with_consequences (simplified_parts (written_conditions q))))
-          go true c = h
-          go false true = h
-          go false false = with_others_each [] (with_consequences (simplified_parts (written_conditions q))) tt whole
+            go : (b : Bool) → Each (turned (suc n) more ons).conditions → Each (if b then turned (suc n) more ons else record { conditions = es; lefts = on ∷ ons }).conditions
+            go true further = further
+            go false further = k
+
+        pub planned_each : (q : BoundQuery) → Each (written_conditions q) → Each (left_conditions q) → Each (planning_list q)
+        planned_each q h k = go (is_too_long es) (is_too_long (with_consequences es))
+          where
+            end : Planned
+            end = turned (entries_before_lefts q) (simplified_parts (written_conditions q)) (left_conditions q)
+
+            es : List BoundExpr
+            es = end.conditions
+
+            as_written : Planned
+            as_written = record { conditions = written_conditions q; lefts = left_conditions q }
+
+            both : Each es
+            both = turned_each (left_conditions q) (entries_before_lefts q) (simplified_parts (written_conditions q)) k (parts_each (written_conditions q) h)
+
+            go : (b c : Bool) → Each (if b then as_written else if c then as_written else record { conditions = without_repeats (with_consequences es); lefts = end.lefts }).conditions
+            go true c = h
+            go false true = h
+            go false false = with_others_each [] (with_consequences es) tt (with_all_each es es es both both)
 
 -- ---- no offsets, each column of one kind
 
@@ -111,10 +132,10 @@ module _ (Q : ColumnId → Type 0) where
   simplified_bare : (e : BoundExpr) → IsBare Q e → AllByRecursion (IsBare Q) (parts_of (simplified e))
   simplified_bare e h = parts_bare (simplified e) (folded_bare Q (inward e) (inward_bare Q e h))
 
-  written_bare : (es : List BoundExpr) → AllByRecursion (OfColumns Q) es → AllByRecursion (IsBare Q) (map without_offsets es)
+  pub written_bare : (es : List BoundExpr) → AllByRecursion (OfColumns Q) es → AllByRecursion (IsBare Q) (map without_offsets es)
   written_bare [] h = tt
   written_bare (e ∷ es) h = (without_bare Q e h.0, written_bare es h.1)
 
-  -- a planning list has no offsets, and its columns are of the kind of those of the movable conjuncts
-  pub planning_bare : (q : BoundQuery) → AllByRecursion (OfColumns Q) (movable_conjuncts q) → AllByRecursion (IsBare Q) (planning_list q)
-  planning_bare q h = planned_each (IsBare Q) follows_bare simplified_bare q (written_bare (movable_conjuncts q) h)
+  -- a planning list has no offsets, and its columns are of the kind of those of the movable conjuncts and the left joins
+  pub planning_bare : (q : BoundQuery) → AllByRecursion (OfColumns Q) (movable_conjuncts q) → AllByRecursion (IsBare Q) (left_conditions q) → AllByRecursion (IsBare Q) (planning_list q)
+  planning_bare q h lefts = planned_each (IsBare Q) follows_bare simplified_bare parts_bare q (written_bare (movable_conjuncts q) h) lefts

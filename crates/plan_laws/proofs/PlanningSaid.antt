@@ -10,6 +10,7 @@ use Rattle.expr.specs.Conjuncts.{movable_conjuncts}
 use Rattle.predicates.specs.Offsets.{without_offsets}
 use Rattle.scope.specs.Entry.{Entry}
 use Rattle.expr_texts.specs.Filters.{filter_levels}
+use Rattle.row_terms.specs.Written.{left_conditions}
 use Rattle.algebra.specs.PlanningList.{planning_list}
 use Rattle.plan_laws.specs.Said.{IsSaid}
 use Rattle.plan_laws.proofs.SaidPlain.{IsValue, IsColumnSaid, to_plain, written_back, utf8_back, columns_back}
@@ -32,19 +33,22 @@ module _ (entries : List Entry) where
   some_levels : 1 ≤ filter_levels
   some_levels = omega arith
 
-  pub planning_said_of : (C : ColumnId → Type 0) (q : BoundQuery) → All (IsSaidOf C) (movable_conjuncts q) → All (IsSaidOf C) (planning_list q)
-  planning_said_of C q h =
+  pub planning_said_of : (C : ColumnId → Type 0) (q : BoundQuery) → All (IsSaidOf C) (movable_conjuncts q) → All (IsSaidOf C) (left_conditions q) → All (IsSaidOf C) (planning_list q)
+  planning_said_of C q h lefts =
       All-weaker (Kept C) (IsSaidOf C) (back C) (planning_list q)
-      (planning_plain entries (IsColumnSaid entries C) IsValue (tt, tt) (λ b. (tt, tt)) filter_levels some_levels q (All-weaker (IsSaidOf C) (Kept C) (forth C) (movable_conjuncts q) h))
+      (planning_plain entries (IsColumnSaid entries C) IsValue (tt, tt) (λ b. (tt, tt)) filter_levels some_levels q (All-weaker (IsSaidOf C) (Kept C) (forth C) (movable_conjuncts q) h)
+      (All-weaker (IsSaidOf C) (Kept C) (forth C) (left_conditions q) lefts))
 
   nothing_known : (ids : List ColumnId) → All (λ id. Unit {0}) ids
   nothing_known [] = All-nil (λ id. Unit {0})
   nothing_known (id ∷ ids) = All-cons (λ id. Unit {0}) id ids tt (nothing_known ids)
 
-  pub planning_said : (q : BoundQuery) → All (IsSaid entries) (movable_conjuncts q) → All (IsSaid entries) (planning_list q)
-  planning_said q h =
-      All-weaker (IsSaidOf (λ id. Unit {0})) (IsSaid entries) (λ e s. s.0) (planning_list q)
-      (planning_said_of (λ id. Unit {0}) q (All-weaker (IsSaid entries) (IsSaidOf (λ id. Unit {0})) (λ e s. (s, nothing_known (columns e))) (movable_conjuncts q) h))
+  said_alone : (es : List BoundExpr) → All (IsSaid entries) es → All (IsSaidOf (λ id. Unit {0})) es
+  said_alone es h = All-weaker (IsSaid entries) (IsSaidOf (λ id. Unit {0})) (λ e s. (s, nothing_known (columns e))) es h
+
+  pub planning_said : (q : BoundQuery) → All (IsSaid entries) (movable_conjuncts q) → All (IsSaid entries) (left_conditions q) → All (IsSaid entries) (planning_list q)
+  planning_said q h lefts =
+      All-weaker (IsSaidOf (λ id. Unit {0})) (IsSaid entries) (λ e s. s.0) (planning_list q) (planning_said_of (λ id. Unit {0}) q (said_alone (movable_conjuncts q) h) (said_alone (left_conditions q) lefts))
 
   -- ---- without offsets
 

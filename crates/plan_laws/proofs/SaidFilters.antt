@@ -129,13 +129,3 @@ module _ (entries : List Entry) where
     utf8 = said_text entries e s.written s.utf8;
     found = all_pass (is_found (plan_entries entries)) (IsColumn entries) (found u) e c;
   }
-
-  all_filters : Unmistakable entries → (es : List BoundExpr) → All (IsSaidOf entries (IsColumn entries)) es → AreAll (IsFilter (plan_entries entries)) (map (named entries) es)
-  all_filters u [] h = tt
-  all_filters u (e ∷ es) h =
-      let it = All-head (IsSaidOf entries (IsColumn entries)) e es h in
-      (said_filter u e it.1 it.0, all_filters u es (All-tail (IsSaidOf entries (IsColumn entries)) e es h))
-
-  -- the filters that a query is planned with have texts
-  pub planning_filters : Unmistakable entries → (q : BoundQuery) → All (IsSaidOf entries (IsColumn entries)) (movable_conjuncts q) → AreAll (IsFilter (plan_entries entries)) (map (named entries) (planning_list q))
-  planning_filters u q h = all_filters u (planning_list q) (planning_said_of entries (IsColumn entries) q h)

@@ -15,23 +15,23 @@ use Rattle.expr.specs.Movable.{movable}
 use Rattle.expr.specs.NamedColumns.{named_columns}
 use Rattle.expr.specs.declared.bound.ColumnId.{ColumnId}
 use Rattle.plan_laws.proofs.EachColumn.{OfColumns, of_conjuncts, of_lefts}
-use Rattle.plan_laws.proofs.Bare.{IsBare, columns_bare, without_bare}
+use Rattle.plan_laws.proofs.Bare.{IsBare, columns_bare}
 use Rattle.scope.specs.Entry.{Entry}
 use Rattle.stats.specs.Card.{rows_at}
 use Rattle.stats.specs.Statistics.{Stats}
-use Rattle.algebra.specs.PlanningList.{planning_list}
+use Rattle.algebra.proofs.Remaining.{remaining_each}
 use Rattle.algebra.specs.Steps.{Step}
-use Rattle.plan_laws.proofs.PlannedEach.{planning_bare}
-use Rattle.predicates.specs.Offsets.{without_offsets as bare_offsets}
+use Rattle.plan_laws.proofs.PlannedEach.{planning_bare, written_bare}
 use Rattle.row_terms.specs.Written.{left_conditions, written}
 use Rattle.trailcheck.specs.Admissible.{is_admissible, is_indexed}
 use Rattle.trailcheck.specs.Settings as settings
 use Rattle.trailcheck.specs.Settings.{Setting}
 use Rattle.trailcheck.specs.Verdicts.{verdict}
 use Rattle.trailcheck.specs.declared.verdict.Verdict.TheVariants.{Accepted}
-use Rattle.rewrite.specs.Laws.{PlansAreAccepted}
+use Rattle.rewrite.specs.Laws.{IsSettingOf, PlansAreAccepted}
 use Rattle.rewrite.specs.Placing.{placing}
-use Rattle.rewrite.specs.Simplifying.{simplifying}
+use Rattle.rewrite.specs.Listing.{simplifying}
+use Rattle.rewrite.proofs.Accepting.{lefts_among}
 use Rattle.rewrite.proofs.SimplifiedLength.{planning_length}
 use Rattle.rewrite.proofs.SmallSteps.{AreSmall, IsSmall, trail_small}
 use Rattle.code_costs.specs.Best.{Problem, estimates}
@@ -70,10 +70,8 @@ steps_sound (s ∷ ss) h = (step_sound s h.0, steps_sound ss h.1)
 -- ---- what the plans of a query are made from
 
 pub record Facts (entries : List Entry) (q : BoundQuery) (at : Setting) : Type 0 where
-  pub lefts : at.lefts ≡ left_conditions q
-  pub among : length at.lefts < length at.frame
+  pub of_query : IsSettingOf q at
   pub few_members : AllByRecursion (λ on. length (conjuncts_of on) < 2 ^ 64) at.lefts
-  pub listed : at.conditions ≡ planning_list q
   pub each : length at.frame ≡ length entries
   pub some : 0 < length entries
   pub few : length entries ≤ most_entries
@@ -93,23 +91,27 @@ module _ (entries : List Entry) (q : BoundQuery) (at : Setting) (facts : Facts e
   few_entries = let n = facts.each in let f = facts.few in omega (arith, n, f)
 
   few_conditions : length at.conditions ≤ most_conjuncts
-  few_conditions = subst (λ cs. length cs ≤ most_conjuncts) (sym facts.listed) (planning_length q facts.few_conjuncts)
+  few_conditions = subst (λ cs. length cs ≤ most_conjuncts) (sym facts.of_query.conditions) (planning_length q facts.few_conjuncts)
+
+  among : length at.lefts < length at.frame
+  among = lefts_among q at facts.of_query
 
   -- ---- the conditions
 
+  written_lefts_bare : AllByRecursion (IsBare (IsColumn entries)) (left_conditions q)
+  written_lefts_bare = written_bare (IsColumn entries) (filter movable (left_ons q)) (of_lefts (IsColumn entries) q facts.query)
+
   bare : AllByRecursion (IsBare (IsColumn entries)) at.conditions
-  bare = subst (λ cs. AllByRecursion (IsBare (IsColumn entries)) cs) (sym facts.listed) (planning_bare (IsColumn entries) q (of_conjuncts (IsColumn entries) q facts.query))
+  bare =
+      subst (λ cs. AllByRecursion (IsBare (IsColumn entries)) cs) (sym facts.of_query.conditions)
+      (planning_bare (IsColumn entries) q (of_conjuncts (IsColumn entries) q facts.query) written_lefts_bare)
 
   found_each : ColumnsAreFound → (cs : List BoundExpr) → AllByRecursion (IsBare (IsColumn entries)) cs → AllByRecursion (AreFound entries) cs
   found_each found [] h = tt
   found_each found (c ∷ cs) h = (found entries c facts.differ (All-from_recursion (IsColumn entries) (columns c) (columns_bare (IsColumn entries) c h.0)), found_each found cs h.1)
 
   lefts_bare : AllByRecursion (IsBare (IsColumn entries)) at.lefts
-  lefts_bare = subst (λ cs. AllByRecursion (IsBare (IsColumn entries)) cs) (sym facts.lefts) (bare_each (filter movable (left_ons q)) (of_lefts (IsColumn entries) q facts.query))
-    where
-      bare_each : (es : List BoundExpr) → AllByRecursion (OfColumns (IsColumn entries)) es → AllByRecursion (IsBare (IsColumn entries)) (map bare_offsets es)
-      bare_each [] h = tt
-      bare_each (e ∷ es) h = (without_bare (IsColumn entries) e h.0, bare_each es h.1)
+  lefts_bare = subst (λ cs. AllByRecursion (IsBare (IsColumn entries)) cs) (sym facts.of_query.lefts) (remaining_each (IsBare (IsColumn entries)) q written_lefts_bare)
 
   -- the entries before the left joined ones
   abbrev pub inner : ℕ
@@ -136,7 +138,7 @@ module _ (entries : List Entry) (q : BoundQuery) (at : Setting) (facts : Facts e
 
   pub trail_accepted : PlansAreAccepted → (code : Code) → is_admissible at code ≡ true → verdict at (written (length entries) q) (simplifying q ++ placing at code) code ≡ Accepted
   trail_accepted accept code admissible =
-      ap (λ n. verdict at (written n q) (simplifying q ++ placing at code) code) (sym facts.each) ∙ accept at q code facts.lefts (let a = facts.among in omega (arith, a)) facts.listed few_entries facts.few_conjuncts admissible
+      ap (λ n. verdict at (written n q) (simplifying q ++ placing at code) code) (sym facts.each) ∙ accept at q code facts.of_query few_entries facts.few_conjuncts admissible
 
   -- ---- the plan
 
@@ -179,7 +181,7 @@ module _ (entries : List Entry) (q : BoundQuery) (at : Setting) (facts : Facts e
             (code_sound at pes (let f = few_conditions in omega (arith, f))
             (λ i l. let n = facts.each in let it = present entries i (omega (arith, n, l)) in facts.named i it.0 it.1)
             (λ i column l h. let n = facts.each in let it = present entries i (omega (arith, n, l)) in facts.indexed i it.0 it.1 column h)
-            facts.among facts.few_members code admissible)
+            among facts.few_members code admissible)
 
         ons_named : (i : ℕ) (cs : List BoundExpr) → i + length cs ≤ length entries → AreAll (λ o. HasEntry pes o.entry) (named_ons_from entries (suc i) cs)
         ons_named i [] l = tt
@@ -188,7 +190,7 @@ module _ (entries : List Entry) (q : BoundQuery) (at : Setting) (facts : Facts e
         sound : IsSound pes (plan_with code)
         sound = record {
           cost = cost_small (estimates problem_with) few_rows code (λ ss e. let n = as_many_steps at code admissible ss e in let f = few_entries in omega (arith, n, f));
-          lefts = ons_named inner at.lefts (let a = facts.among in let n = facts.each in omega (arith, a, n));
+          lefts = ons_named inner at.lefts (let a = among in let n = facts.each in omega (arith, a, n));
           code = code_is;
           sort = sort_sound (last_sort problem_with code) (λ id e. wanted_named (IsColumn entries) q id (last_is_wanted problem_with code id e) facts.query);
           trail = steps_sound (simplifying q ++ placing at code) (trail_small at q code);

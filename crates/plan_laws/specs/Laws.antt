@@ -15,9 +15,9 @@ use Rattle.analysis.specs.Analysis.{admitted}
 use Rattle.plan_laws.specs.Names.{AreNames}
 use Rattle.plan_laws.specs.Said.{IsSaid}
 
--- where the movable conjuncts of a query have such a text, its planning list has
+-- where the movable conjuncts of a query and the ONs of its left joined entries have such a text, its planning list has
 abbrev pub PlanningListsAreSaid : Type 0
-PlanningListsAreSaid = (entries : List Entry) (q : BoundQuery) → All (IsSaid entries) (movable_conjuncts q) → All (IsSaid entries) (planning_list q)
+PlanningListsAreSaid = (entries : List Entry) (q : BoundQuery) → All (IsSaid entries) (movable_conjuncts q) → All (IsSaid entries) (left_conditions q) → All (IsSaid entries) (planning_list q)
 
 -- the movable conjuncts of an admitted query have one
 abbrev pub AdmittedAreSaid : Type 0

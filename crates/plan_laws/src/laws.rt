@@ -2,7 +2,8 @@
 
 ghost use Rattle.plan_laws.specs.Laws.{AdmittedAreSaid, AdmittedLeftsAreSaid, PlanningListsAreSaid};
 
-/// Each condition of a planning list has a text that is read back, where each movable conjunct of its query has one.
+/// Each condition of a planning list has a text that is read back, where each movable conjunct of its query has one, and each ON of
+/// a left joined entry.
 pub fn law_planning_lists_are_said()
     ensures { PlanningListsAreSaid }
 {}

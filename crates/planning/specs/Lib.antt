@@ -6,5 +6,5 @@ pub mod Wanted
 pub use Rattle.code_costs.specs.Best as LeastCode
 pub use Rattle.code_costs.specs.Cost
 pub use Rattle.rewrite.specs.Laws
+pub use Rattle.rewrite.specs.Listing
 pub use Rattle.rewrite.specs.Placing
-pub use Rattle.rewrite.specs.Simplifying

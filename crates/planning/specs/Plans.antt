@@ -9,7 +9,7 @@ use Rattle.trailcheck.specs.Verdicts.{verdict}
 use Rattle.trailcheck.specs.declared.verdict.Verdict.TheVariants.{Accepted}
 use Rattle.rewrite.specs.Laws.{most_plan_steps}
 use Rattle.rewrite.specs.Placing.{placing}
-use Rattle.rewrite.specs.Simplifying.{simplifying}
+use Rattle.rewrite.specs.Listing.{simplifying}
 use Rattle.code_costs.specs.Best.{Problem, estimates}
 use Rattle.code_costs.specs.Cost as joindp
 use Rattle.planning.specs.Best.{best}

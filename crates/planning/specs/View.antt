@@ -4,7 +4,7 @@ use Rattle.expr.specs.View.{bound_query_of, code_of}
 use Rattle.stats.specs.View.{stats_of}
 use Rattle.trailcheck.specs.View.{setting_of}
 use Rattle.rewrite.specs.Placing.{placing}
-use Rattle.rewrite.specs.Simplifying.{simplifying}
+use Rattle.rewrite.specs.Listing.{simplifying}
 use Rattle.planning.specs.Plans.{Plan}
 use Rattle.planning.specs.Wanted.{wanted_column}
 use Rattle.planning.specs.declared.plan.Plan.TheInside.{Inside}

@@ -4,11 +4,10 @@ ghost use Rattle.std.specs.Prelude.{◌≡◌, ◌≤◌, IfOk, length, map};
 ghost use Rattle.expr.specs.Conjuncts.{movable_conjuncts};
 ghost use Rattle.expr.specs.View.{bound_query_of, code_of};
 ghost use Rattle.stats.specs.View.{stats_of};
-ghost use Rattle.rewrite.specs.Written.{left_conditions};
-ghost use Rattle.algebra.specs.PlanningList.{planning_list};
 ghost use Rattle.algebra.specs.View.{step_of};
 ghost use Rattle.trailcheck.specs.View.{setting_of};
-ghost use Rattle.rewrite.specs.Simplifying.{simplifying};
+ghost use Rattle.rewrite.specs.Laws.{IsSettingOf};
+ghost use Rattle.rewrite.specs.Listing.{simplifying};
 ghost use Rattle.value.specs.Limits.{most_conjuncts, most_entries};
 ghost use Rattle.planning.specs.Best.{BestIsThere, LeastIsBest};
 ghost use Rattle.planning.specs.LastSort as sorting;
@@ -70,17 +69,14 @@ impl<'p, A: Heap> Model for Plan<'p, A> {
 }
 
 impl<'p, A: Heap> Plan<'p, A> {
-    /// The plan of a query under a setting with its planning list and the ONs of its left joined entries, by the statistics of each
-    /// entry. It fails where memory runs out.
+    /// The plan of a query under a setting of its entries with what it is planned with, by the statistics of each entry. It fails where memory runs out.
     pub fn new(
         alloc: A,
         query: &'p BoundQuery<A>,
         setting: &'p Setting<A>,
         statistics: &'p [&'p Stats<A>],
     ) -> Result<Plan<'p, A>, AllocError>
-        requires lefts { (setting_of setting.now).lefts ≡ left_conditions (bound_query_of query.now) }
-        requires among { length setting.now.lefts ≤ length setting.now.frame }
-        requires conditions { (setting_of setting.now).conditions ≡ planning_list (bound_query_of query.now) }
+        requires setting { IsSettingOf (bound_query_of query.now) (setting_of setting.now) }
         requires each { length statistics.now ≡ length setting.now.frame }
         requires entries { length setting.now.frame ≤ most_entries }
         requires conjuncts { length (movable_conjuncts (bound_query_of query.now)) ≤ most_conjuncts }

@@ -1,10 +1,10 @@
 -- Steps below a path.
-use Rattle.std.proofs.Common.{OnOk, Result, Ok, Err, ◌≡◌, ◌∙◌, refl, sym, ap, ℕ, zero, suc, false, List, [], ◌∷◌, ◌++◌, replicate, append_assoc, append-nil}
+use Rattle.std.proofs.Common.{OnOk, Result, Ok, Err, ◌≡◌, ◌∙◌, refl, sym, ap, ℕ, zero, suc, Bool, List, [], ◌∷◌, ◌++◌, replicate, append_assoc, append-nil}
 use Rattle.std.proofs.lemmas.List.{map-append}
 use Rattle.row_terms.specs.declared.path.Branch.{Branch}
 use Rattle.row_terms.specs.declared.path.Branch.TheVariants.{First}
 use Rattle.algebra.specs.Steps.{Step}
-use Rattle.rewrite.specs.Trails.{at_root, down, all_down, below_filters, below_path}
+use Rattle.rewrite.specs.Trails.{plain, at_root, down, all_down, below_filters, below_path}
 
 pub below_none : (path : List Branch) → below_path path [] ≡ []
 below_none [] = refl
@@ -18,9 +18,14 @@ pub below_further : (path : List Branch) (b : Branch) (ss : List Step) → below
 below_further [] b ss = refl
 below_further (a ∷ path) b ss = ap (all_down a) (below_further path b ss)
 
-pub below_step : (path : List Branch) (rule : ℕ) → below_path path (at_root rule ∷ []) ≡ record { rule = rule; is_reverse = false; path = path; arguments = [] } ∷ []
-below_step [] rule = refl
-below_step (b ∷ path) rule = ap (all_down b) (below_step path rule)
+pub below_step : (path : List Branch) (rule : ℕ) (is_reverse : Bool) → below_path path (plain rule is_reverse ∷ []) ≡ record { rule = rule; is_reverse = is_reverse; path = path; arguments = [] } ∷ []
+below_step [] rule is_reverse = refl
+below_step (b ∷ path) rule is_reverse = ap (all_down b) (below_step path rule is_reverse)
+
+-- a path that goes on below so many filters
+below_on : (path more : List Branch) (ss : List Step) → below_path (path ++ more) ss ≡ below_path path (below_path more ss)
+below_on [] more ss = refl
+below_on (b ∷ path) more ss = ap (all_down b) (below_on path more ss)
 
 first_more : (n : ℕ) → replicate n First ++ First ∷ [] ≡ replicate (suc n) First
 first_more zero = refl
@@ -32,6 +37,9 @@ filters_below (suc n) ss =
     filters_below n (all_down First ss)
     ∙ sym (below_further (replicate n First) First ss)
     ∙ ap (λ p. below_path p ss) (first_more n)
+
+pub below_more : (path : List Branch) (n : ℕ) (ss : List Step) → below_path (path ++ replicate n First) ss ≡ below_path path (below_filters n ss)
+below_more path n ss = below_on path (replicate n First) ss ∙ ap (below_path path) (sym (filters_below n ss))
 
 -- ---- a trail that steps below a path are added to
 

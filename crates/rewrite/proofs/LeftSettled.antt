@@ -39,7 +39,7 @@ module _ (i : ℕ) where
   between : (k : ℕ) → nat_lt k (suc i) ≡ true → nat_lt k i ≡ false → (k == i) ≡ true
   between k h n = grind (arith, nat_tests, h, n)
 
-  together : (k : ℕ) → nat_lt k i || (i == k) ≡ nat_lt k (suc i)
+  pub together : (k : ℕ) → nat_lt k i || (i == k) ≡ nat_lt k (suc i)
   together k = go (nat_lt k i) refl (i == k) refl
     where
       go : (a : Bool) → nat_lt k i ≡ a → (b : Bool) → (i == k) ≡ b → a || b ≡ nat_lt k (suc i)
@@ -47,7 +47,7 @@ module _ (i : ℕ) where
       go false e true o = let s : nat_lt k (suc i) ≡ true = grind (arith, nat_tests, e, o) in sym s
       go false e false o = let s : nat_lt k (suc i) ≡ false = grind (arith, nat_tests, e, o) in sym s
 
-  up_to : (k : ℕ) → nat_le k i ≡ nat_lt k (suc i)
+  pub up_to : (k : ℕ) → nat_le k i ≡ nat_lt k (suc i)
   up_to k = go (nat_le k i) refl
     where
       go : (a : Bool) → nat_le k i ≡ a → a ≡ nat_lt k (suc i)

@@ -1,6 +1,7 @@
 pub mod Accepting
 pub mod Added
 pub mod AllSettled
+pub mod AllTurned
 pub mod Below
 pub mod Distinct
 pub mod Emptied
@@ -21,3 +22,5 @@ pub mod SimplifyingSteps
 pub mod Sinking
 pub mod SmallSteps
 pub mod Tests
+pub mod Turned
+pub mod TurningSteps

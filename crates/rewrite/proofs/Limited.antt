@@ -1,5 +1,5 @@
 -- A trail that leads somewhere is replayed within the limits where they leave room for its steps.
-use Rattle.std.proofs.Common.{◌≡◌, ◌∙◌, refl, ap, subst, ℕ, zero, suc, ◌+◌, ◌≤◌, Bool, true, false, ◌&&◌, List, [], ◌∷◌, length, Option, Some, None, Ok, Err, if◌then◌else◌, slice_get, arith}
+use Rattle.std.proofs.Common.{◌≡◌, ◌∙◌, refl, sym, ap, subst, ℕ, zero, suc, ◌+◌, ◌≤◌, Bool, true, false, ◌&&◌, List, [], ◌∷◌, ◌++◌, append-nil, length, Option, Some, None, Ok, Err, if◌then◌else◌, slice_get, arith}
 use Rattle.std.proofs.lemmas.Bool.{le-leb}
 use Rattle.memory.specs.Results.{and_then}
 use Rattle.expr.specs.Bound.{BoundExpr}
@@ -107,15 +107,22 @@ module _ (frame : List Guard) where
       ∙ ap (within_limits line) h
       ∙ ap (λ b. if b then Ok y else refused line Limit) (le-leb (node_count y) most_nodes n)
 
-  pub replays : (ss : List Step) (line : ℕ) (x y : Term) → led frame ss x ≡ Ok y → node_count x + length ss ≤ most_nodes → line + length ss ≤ suc most_steps → replay frame line ss x ≡ Ok y
-  replays [] line x y h n l = let e : x ≡ y = cc in ap Ok e
-  replays (s ∷ ss) line x y h n l = go (applied frame s x) refl h (λ z k m. replays ss (line + 1) z y k m (omega arith))
+  -- some steps before others
+  pub replays_first : (ss ts : List Step) (line : ℕ) (x y : Term) → led frame ss x ≡ Ok y → node_count x + length ss ≤ most_nodes → line + length ss ≤ suc most_steps → replay frame line (ss ++ ts) x ≡ replay frame (line + length ss) ts y
+  replays_first [] ts line x y h n l = let e : x ≡ y = cc in let z : line ≡ line + 0 = omega arith in ap (λ k. replay frame k ts x) z ∙ ap (replay frame (line + 0) ts) e
+  replays_first (s ∷ ss) ts line x y h n l = go (applied frame s x) refl h (λ z k m. replays_first ss ts (line + 1) z y k m (omega arith))
     where
-      go : (o : Outcome) → applied frame s x ≡ o → and_then o (led frame ss) ≡ Ok y → ((z : Term) → led frame ss z ≡ Ok y → node_count z + length ss ≤ most_nodes → replay frame (line + 1) ss z ≡ Ok y) → replay frame line (s ∷ ss) x ≡ Ok y
+      go : (o : Outcome) → applied frame s x ≡ o → and_then o (led frame ss) ≡ Ok y
+          → ((z : Term) → led frame ss z ≡ Ok y → node_count z + length ss ≤ most_nodes → replay frame (line + 1) (ss ++ ts) z ≡ replay frame (line + 1 + length ss) ts y)
+          → replay frame line (s ∷ (ss ++ ts)) x ≡ replay frame (line + suc (length ss)) ts y
       go (Ok z) e k further =
           let g = step_grows s x z e in
           let a : line ≤ most_steps = omega arith in
           let b : node_count z ≤ most_nodes = omega (arith, g) in
           let c : node_count z + length ss ≤ most_nodes = omega (arith, g) in
-          ap (λ r. and_then r (replay frame (line + 1) ss)) (step_replays line s x z e a b) ∙ further z k c
+          let d : line + 1 + length ss ≡ line + suc (length ss) = omega arith in
+          ap (λ r. and_then r (replay frame (line + 1) (ss ++ ts))) (step_replays line s x z e a b) ∙ further z k c ∙ ap (λ m. replay frame m ts y) d
       go (Err reason) e k further = absurd (cc)
+
+  pub replays : (ss : List Step) (line : ℕ) (x y : Term) → led frame ss x ≡ Ok y → node_count x + length ss ≤ most_nodes → line + length ss ≤ suc most_steps → replay frame line ss x ≡ Ok y
+  replays ss line x y h n l = ap (λ steps. replay frame line steps x) (sym (append-nil ss)) ∙ replays_first ss [] line x y h n l

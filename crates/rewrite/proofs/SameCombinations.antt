@@ -17,7 +17,7 @@ use Rattle.row_terms.specs.Terms.{Term, Filtered, LeftJoined}
 use Rattle.row_terms.specs.Means.{mean}
 use Rattle.row_terms.specs.Written.{guarded_entry, joins, left_joins, filters, left_conditions, all_joins, written}
 use Rattle.algebra.specs.Keeping.{MeanSame, is_movable_term}
-use Rattle.algebra.specs.PlanningList.{planning_list}
+use Rattle.algebra.specs.PlanningList.{planning_list, remaining_lefts}
 use Rattle.algebra.specs.Rewrites.{applied}
 use Rattle.algebra.specs.Rules.{Outcome}
 use Rattle.algebra.specs.Steps.{Step}
@@ -26,9 +26,9 @@ use Rattle.trailcheck.specs.Admissible.{is_admissible}
 use Rattle.trailcheck.specs.Settings.{Setting}
 use Rattle.trailcheck.specs.Shapes.{shape}
 use Rattle.rewrite.specs.Trails.{led}
-use Rattle.rewrite.specs.Laws.{ShapesMeanSame}
+use Rattle.rewrite.specs.Laws.{IsSettingOf, ShapesMeanSame}
 use Rattle.rewrite.specs.Placing.{placing}
-use Rattle.rewrite.specs.Simplifying.{simplifying}
+use Rattle.rewrite.specs.Listing.{simplifying}
 use Rattle.rewrite.proofs.Leads.{led_then}
 use Rattle.rewrite.proofs.Places.{places_each}
 use Rattle.rewrite.proofs.SimplifiedTerm.{simplifies_each}
@@ -72,18 +72,24 @@ led_keeps frame (s ∷ ss) x y m h = at (applied frame s x) refl h (λ z n k. le
 
 -- ---- from the written term to the shape
 
-module _ (at : Setting) (q : BoundQuery) (code : Code) (lefts : at.lefts ≡ left_conditions q) (listed : at.conditions ≡ planning_list q) (fits : is_admissible at code ≡ true) where
-  placed : led at.frame (placing at code) (filters (planning_list q) (all_joins (length at.frame) (left_conditions q))) ≡ Ok (shape at code)
+module _ (at : Setting) (q : BoundQuery) (code : Code) (of_query : IsSettingOf q at) (fits : is_admissible at code ≡ true) where
+  -- what the query is planned with, over the joins in the order of FROM
+  abbrev pub listed : Term
+  listed = filters (planning_list q) (all_joins (length at.frame) (remaining_lefts q))
+
+  pub simplified_to : led at.frame (simplifying q) (written (length at.frame) q) ≡ Ok listed
+  simplified_to =
+      subst (λ n. led at.frame (simplifying q) (written n q) ≡ Ok (filters (planning_list q) (all_joins n (remaining_lefts q)))) (sym of_query.entries) (simplifies_each at.frame q of_query.order)
+
+  pub placed : led at.frame (placing at code) listed ≡ Ok (shape at code)
   placed =
-      ap (λ es. led at.frame (placing at code) (filters es (all_joins (length at.frame) (left_conditions q)))) (sym listed)
-      ∙ ap (λ ons. led at.frame (placing at code) (filters at.conditions (all_joins (length at.frame) ons))) (sym lefts)
+      ap (λ es. led at.frame (placing at code) (filters es (all_joins (length at.frame) (remaining_lefts q)))) (sym of_query.conditions)
+      ∙ ap (λ ons. led at.frame (placing at code) (filters at.conditions (all_joins (length at.frame) ons))) (sym of_query.lefts)
       ∙ places_each at code fits
 
-  pub whole : led at.frame (simplifying q ++ placing at code) (written (length at.frame) q) ≡ Ok (shape at code)
-  whole =
-      led_then at.frame (simplifying q) (placing at code) (written (length at.frame) q) (filters (planning_list q) (all_joins (length at.frame) (left_conditions q))) (simplifies_each at.frame (length at.frame) q)
-      ∙ placed
+  whole : led at.frame (simplifying q ++ placing at code) (written (length at.frame) q) ≡ Ok (shape at code)
+  whole = led_then at.frame (simplifying q) (placing at code) (written (length at.frame) q) listed simplified_to ∙ placed
 
 pub shapes_mean_same : OffsetsKeepValue → ShapesMeanSame
-shapes_mean_same kept at q code lefts listed fits =
-    led_keeps at.frame (simplifying q ++ placing at code) (written (length at.frame) q) (shape at code) (written_movable kept (length at.frame) q) (whole at q code lefts listed fits)
+shapes_mean_same kept at q code of_query fits =
+    led_keeps at.frame (simplifying q ++ placing at code) (written (length at.frame) q) (shape at code) (written_movable kept (length at.frame) q) (whole at q code of_query fits)

@@ -35,7 +35,7 @@ module _ (frame : List Guard) where
   members_parted f no_expr x = refl
   members_parted f (one_expr g es) x = members_parted g es (Filtered f x)
 
-  parted_in_all : (e : BoundExpr) (x : Term) → led frame (parting e) (Filtered e x) ≡ Ok (filters (parts_of e) x)
+  pub parted_in_all : (e : BoundExpr) (x : Term) → led frame (parting e) (Filtered e x) ≡ Ok (filters (parts_of e) x)
   parted_in_all (And offset (one_expr e (one_expr f es))) x = rw (sub-one (length (e ∷ f ∷ members es))) (members_parted f es (Filtered e x))
   parted_in_all _ x = refl
 

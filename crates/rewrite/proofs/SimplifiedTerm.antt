@@ -1,16 +1,19 @@
 -- The steps of simplifying lead from the written term to the planning list over the joins.
-use Rattle.std.proofs.Common.{◌≡◌, ℕ, zero, suc, ◌-◌, Bool, true, false, refl, sym, ap, ◌∙◌, List, [], ◌∷◌, ◌++◌, length, map, slice_get, Option, Some, None, Ok, if◌then◌else◌}
+use Rattle.std.proofs.Common.{◌≡◌, ℕ, zero, suc, ◌+◌, ◌-◌, ◌<◌, Bool, true, false, refl, sym, ap, subst, ◌∙◌, List, [], ◌∷◌, ◌++◌, length, map, slice_get, Option, Some, None, Ok, if◌then◌else◌, arith}
 use Rattle.memory.specs.Results.{and_then}
 use Rattle.expr.specs.Bound.{BoundExpr}
 use Rattle.tuples.specs.Guards.{Guard}
 use Rattle.row_terms.specs.Terms.{Term, Filtered, LeftJoined}
-use Rattle.row_terms.specs.Written.{guarded_entry, joins, left_joins, left_conditions, all_joins, filters}
-use Rattle.algebra.specs.PlanningList.{written_conditions, simplified, simplified_parts, is_across, consequence, with_any, with_each, with_all, with_consequences, with_others, without_repeats, is_too_long, planned}
+use Rattle.row_terms.specs.Written.{guarded_entry, joins, left_joins, left_conditions, all_joins, filters, written}
+use Rattle.algebra.specs.PlanningList.{Planned, written_conditions, simplified, simplified_parts, is_across, consequence, with_any, with_each, with_all, with_consequences, with_others, without_repeats, is_too_long, turned, finished, entries_before_lefts, planning_list, remaining_lefts, reach}
 use Rattle.algebra.specs.Rules.{constant_of, by_run, under, where_met}
 use Rattle.algebra.specs.Runs.{run, stands_in}
 use Rattle.rewrite.specs.Laws.{SimplifiesEach}
-use Rattle.rewrite.specs.Simplifying.{simplifying_each, parting_each, from_top, adding, adding_each, adding_all, dropping, simplifying_steps, simplifying_from}
+use Rattle.rewrite.specs.Listing.{turning_parts, completing, simplifying_from, simplifying}
+use Rattle.rewrite.specs.Simplifying.{simplifying_each, parting_each, from_top, adding, adding_each, adding_all, dropping}
+use Rattle.rewrite.specs.Turning.{turning_all}
 use Rattle.rewrite.specs.Trails.{led, at_root, at_root_with, below_filters}
+use Rattle.rewrite.proofs.AllTurned.{all_left, all_turned}
 use Rattle.rewrite.proofs.Leads.{led_filters}
 use Rattle.rewrite.proofs.SimplifiedKnown.{found_from_top, stands_in_run, kept_with_any, kept_with_each, Found, found_first, found_rest, found_still, found_all}
 use Rattle.rewrite.proofs.SimplifiedParts.{filters_append, led_on, each_simplified, each_parted}
@@ -83,30 +86,13 @@ module _ (frame : List Guard) (x : Term) (ends : run x ≡ []) where
           (rest known)
       go false h rest = ap (λ y. led frame (dropping (known ++ e ∷ []) es) (filters es y)) (sym (filters_append known (e ∷ []) x)) ∙ rest (known ++ e ∷ [])
 
-  -- ---- all of it
+  -- the consequences are added, and then repetitions dropped
+  pub all_completed : (es : List BoundExpr) → led frame (completing es) (filters es x) ≡ Ok (filters (without_repeats (with_consequences es)) x)
+  all_completed es =
+      let all = with_consequences es in
+      led_on frame (adding_all es 0 es es) (dropping [] all) (filters es x) (filters all x) (filters (without_repeats all) x) (consequences_added es) (others_left [] all)
 
-  conditions_simplified : (written : List BoundExpr)
-      → led frame (simplifying_steps written (simplified_parts written) (with_consequences (simplified_parts written))) (filters written x) ≡ Ok (filters (without_repeats (with_consequences (simplified_parts written))) x)
-  conditions_simplified written =
-      let parts = simplified_parts written in
-      let simple = map simplified written in
-      let all = with_consequences parts in
-      led_on frame (simplifying_each written ++ parting_each simple ++ adding_all parts 0 parts parts) (dropping [] all) (filters written x) (filters all x) _
-      (led_on frame (simplifying_each written ++ parting_each simple) (adding_all parts 0 parts parts) (filters written x) (filters parts x) _
-      (led_on frame (simplifying_each written) (parting_each simple) (filters written x) (filters simple x) _ (each_simplified frame written x) (each_parted frame simple x))
-      (consequences_added parts))
-      (others_left [] all)
-
-  -- where the conditions are too many there is no step
-  if_few : (written : List BoundExpr) (b c : Bool)
-      → led frame (if b then [] else if c then [] else simplifying_steps written (simplified_parts written) (with_consequences (simplified_parts written))) (filters written x)
-      ≡ Ok (filters (if b then written else if c then written else without_repeats (with_consequences (simplified_parts written))) x)
-  if_few written true c = refl
-  if_few written false true = refl
-  if_few written false false = conditions_simplified written
-
-  pub written_simplified : (written : List BoundExpr) → led frame (simplifying_from written) (filters written x) ≡ Ok (filters (planned written (simplified_parts written)) x)
-  written_simplified written = if_few written (is_too_long (simplified_parts written)) (is_too_long (with_consequences (simplified_parts written)))
+-- ---- all of it
 
 joins_run : (count : ℕ) → run (joins count) ≡ []
 joins_run zero = refl
@@ -117,8 +103,57 @@ lefts_run : (lefts : List BoundExpr) (first : ℕ) (x : Term) → run x ≡ [] �
 lefts_run [] first x h = h
 lefts_run (on ∷ lefts) first x h = lefts_run lefts (suc first) (LeftJoined on x (guarded_entry first)) refl
 
+all_run : (count : ℕ) (lefts : List BoundExpr) → run (all_joins count lefts) ≡ []
+all_run count lefts = lefts_run lefts (count - length lefts) (joins (count - length lefts)) (joins_run (count - length lefts))
+
+abbrev finished_if : (b c : Bool) → (written ons : List BoundExpr) → Planned → Planned
+finished_if b c written ons p =
+    if b then record { conditions = written; lefts = ons }
+    else if c then record { conditions = written; lefts = ons }
+    else record { conditions = without_repeats (with_consequences p.conditions); lefts = p.lefts }
+
+module _ (frame : List Guard) (first : ℕ) (some : 0 < first) (ons : List BoundExpr) (in_reach : reach first ons ≡ true) (written : List BoundExpr) where
+  abbrev parts : List BoundExpr
+  parts = simplified_parts written
+
+  abbrev end : Planned
+  end = turned first parts ons
+
+  abbrev count : ℕ
+  count = first + length ons
+
+  parts_turned : led frame (turning_parts first written ons) (filters written (left_joins first ons (joins first))) ≡ Ok (filters end.conditions (all_joins count end.lefts))
+  parts_turned =
+      let x = left_joins first ons (joins first) in
+      let simple = map simplified written in
+      led_on frame (simplifying_each written) (parting_each simple ++ turning_all first parts ons) (filters written x) (filters simple x) (filters end.conditions (all_joins count end.lefts))
+      (each_simplified frame written x)
+      (led_on frame (parting_each simple) (turning_all first parts ons) (filters simple x) (filters parts x) (filters end.conditions (all_joins count end.lefts))
+      (each_parted frame simple x)
+      (all_turned frame ons first parts some in_reach))
+
+  -- where the conditions are too many there is no step
+  if_few : (b c : Bool)
+      → led frame (if b then [] else if c then [] else turning_parts first written ons ++ completing end.conditions) (filters written (left_joins first ons (joins first)))
+      ≡ Ok (filters (finished_if b c written ons end).conditions (all_joins count (finished_if b c written ons end).lefts))
+  if_few true c = ap (λ x. Ok (filters written x)) (all_left first ons)
+  if_few false true = ap (λ x. Ok (filters written x)) (all_left first ons)
+  if_few false false =
+      let y = all_joins count end.lefts in
+      led_on frame (turning_parts first written ons) (completing end.conditions) (filters written (left_joins first ons (joins first))) (filters end.conditions y) (filters (without_repeats (with_consequences end.conditions)) y)
+      parts_turned (all_completed frame y (all_run count end.lefts) end.conditions)
+
+  pub written_simplified : led frame (simplifying_from first written ons) (filters written (all_joins count ons))
+      ≡ Ok (filters (finished (record { conditions = written; lefts = ons }) end).conditions (all_joins count (finished (record { conditions = written; lefts = ons }) end).lefts))
+  written_simplified =
+      ap (λ x. led frame (simplifying_from first written ons) (filters written x)) (sym (all_left first ons))
+      ∙ if_few (is_too_long end.conditions) (is_too_long (with_consequences end.conditions))
+
 pub simplifies_each : SimplifiesEach
-simplifies_each frame count q =
-    let lefts = left_conditions q in
-    let before = count - length lefts in
-    written_simplified frame (all_joins count lefts) (lefts_run lefts before (joins before) (joins_run before)) (written_conditions q)
+simplifies_each frame q order =
+    let ons = left_conditions q in
+    let first = entries_before_lefts q in
+    let inner = order.inner in
+    let all : first + length ons ≡ length q.ons = omega (arith, inner) in
+    subst (λ n. led frame (simplifying q) (written n q) ≡ Ok (filters (planning_list q) (all_joins n (remaining_lefts q)))) all
+    (written_simplified frame first (omega (arith, inner)) ons order.reach (written_conditions q))

@@ -7,18 +7,6 @@ use Rattle.algebra.specs.Steps.{Step}
 use Rattle.rewrite.specs.Simplifying.{repeated, simplifying_each}
 use Rattle.rewrite.specs.Trails.{at_root, down, all_down, below_filters}
 
-replicate_more : {X : Type 0} (n : ℕ) (x : X) (xs : List X) → replicate n x ++ x ∷ xs ≡ x ∷ (replicate n x ++ xs)
-replicate_more zero x xs = refl
-replicate_more (suc n) x xs = ap (λ ys. x ∷ ys) (replicate_more n x xs)
-
--- a step below so many filters
-abbrev deep : ℕ → Step → Step
-deep n s = record { rule = s.rule; is_reverse = s.is_reverse; path = replicate n First ++ s.path; arguments = s.arguments }
-
-below_one : (n : ℕ) (s : Step) → below_filters n (s ∷ []) ≡ deep n s ∷ []
-below_one zero s = refl
-below_one (suc n) s = below_one n (down First s) ∙ ap (λ path. (record { rule = s.rule; is_reverse = s.is_reverse; path = path; arguments = s.arguments }) ∷ []) (replicate_more n First s.path)
-
 below_more : (n : ℕ) (ss ts : List Step) → below_filters n (ss ++ ts) ≡ below_filters n ss ++ below_filters n ts
 below_more zero ss ts = refl
 below_more (suc n) ss ts = ap (below_filters n) (map-append (down First) ss ts) ∙ below_more n (all_down First ss) (all_down First ts)
@@ -26,10 +14,6 @@ below_more (suc n) ss ts = ap (below_filters n) (map-append (down First) ss ts) 
 pub below_none : (n : ℕ) → below_filters n [] ≡ []
 below_none zero = refl
 below_none (suc n) = below_none n
-
--- a step without arguments
-pub below_root : (n rule : ℕ) → below_filters n (at_root rule ∷ []) ≡ (record { rule = rule; is_reverse = false; path = replicate n First; arguments = [] }) ∷ []
-below_root n rule = below_one n (at_root rule) ∙ ap (λ path. (record { rule = rule; is_reverse = false; path = path; arguments = [] }) ∷ []) (append-nil (replicate n First))
 
 repeated_last : (n : ℕ) (s : Step) → repeated n s ++ s ∷ [] ≡ s ∷ repeated n s
 repeated_last zero s = refl

@@ -1,5 +1,5 @@
 -- The steps of a plan's trail are small: each has a rule below 64, and at most two arguments.
-use Rattle.std.proofs.Common.{◌≡◌, ◌∙◌, refl, ap, subst, ℕ, zero, suc, ◌+◌, ◌-◌, ◌<◌, ◌≤◌, ◌==◌, Bool, true, false, List, [], ◌∷◌, ◌++◌, length, length-append, map, Option, Some, None, if◌then◌else◌, arith}
+use Rattle.std.proofs.Common.{◌≡◌, ◌∙◌, refl, ap, subst, ℕ, zero, suc, ◌+◌, ◌-◌, ◌<◌, ◌≤◌, ◌==◌, Bool, true, false, List, [], ◌∷◌, ◌++◌, length, length-append, map, Option, Some, None, option_map, unwrap_or, if◌then◌else◌, arith}
 use Rattle.value.specs.Limits.{most_conjuncts}
 use Rattle.bags.proofs.Members.{Each, each-append, each-map}
 use Rattle.expr.specs.Bound.{BoundExpr}
@@ -9,8 +9,9 @@ use Rattle.expr.specs.Codes.{Code}
 use Rattle.predicates.specs.Equalities.{is_never_true}
 use Rattle.row_terms.specs.declared.path.Branch.{Branch}
 use Rattle.row_terms.specs.declared.path.Branch.TheVariants.{First, Second}
+use Rattle.row_terms.specs.Written.{left_conditions}
 use Rattle.row_terms.specs.Terms.{Term, Raw, Guarded, Filtered, Joined, LeftJoined, Empty}
-use Rattle.algebra.specs.PlanningList.{written_conditions, simplified, simplified_parts, parts_of, consequence, with_condition, with_any, with_each, with_all, with_consequences, is_too_long}
+use Rattle.algebra.specs.PlanningList.{written_conditions, simplified, simplified_parts, parts_of, consequence, with_condition, with_any, with_each, with_all, with_consequences, is_too_long, first_turning, turned, entries_before_lefts}
 use Rattle.algebra.specs.Rules.{is_open}
 use Rattle.algebra.specs.Runs.{reads_only, stands_in}
 use Rattle.algebra.specs.Steps.{Step}
@@ -18,8 +19,10 @@ use Rattle.tuples.specs.Guards.{Guard}
 use Rattle.trailcheck.specs.Entries.{is_over}
 use Rattle.trailcheck.specs.Settings.{Setting}
 use Rattle.trailcheck.specs.Shapes.{inner_steps, left_steps}
-use Rattle.rewrite.specs.Trails.{at_root, at_root_with, down, all_down, below_filters}
-use Rattle.rewrite.specs.Simplifying.{simplifying_each, repeated, parting, parting_each, from_top, adding, adding_each, adding_all, dropping, simplifying_steps, simplifying_from, simplifying}
+use Rattle.rewrite.specs.Trails.{plain, at_root, at_root_with, down, all_down, below_filters}
+use Rattle.rewrite.specs.Listing.{turning_parts, completing, simplifying_from, simplifying}
+use Rattle.rewrite.specs.Simplifying.{simplifying_each, repeated, parting, parting_each, from_top, adding, adding_each, adding_all, dropping}
+use Rattle.rewrite.specs.Turning.{downward, upward, making_inner, turning, parting_on, turning_at, turning_all}
 use Rattle.rewrite.specs.Placing.{without, exchanging, raising, ordering, opening_one, opening, below_lefts, all_opened, joining, arranging, passes, sinking, settled, settling, settling_all, clearing, emptying, from_entries, code_entries, placing}
 use Rattle.rewrite.proofs.SimplifiedLength.{is_few, length-adding_each, length-adding_all}
 
@@ -100,34 +103,80 @@ dropping_small known (e ∷ es) = both (if stands_in e known then below_filters 
     go true = small_below (length es) (at_root 10 ∷ []) (one_root 10 (omega arith))
     go false = tt
 
-module _ (written : List BoundExpr) where
-  abbrev parts : List BoundExpr
-  parts = simplified_parts written
+completing_small : (es : List BoundExpr) → length (with_consequences es) ≤ most_conjuncts → AreSmall (completing es)
+completing_small es few = both (adding_all es 0 es es) (dropping [] (with_consequences es)) (adding_all_small es 0 es es few) (dropping_small [] (with_consequences es))
 
-  abbrev all : List BoundExpr
-  all = with_consequences parts
+-- ---- the steps by which entries become inner
 
-  steps_small : length all ≤ most_conjuncts → AreSmall (simplifying_steps written parts all)
-  steps_small few =
-      let first : List Step = simplifying_each written in
-      let second : List Step = parting_each (map simplified written) in
-      let third : List Step = adding_all parts 0 parts parts in
-      let fourth : List Step = dropping [] all in
-      each-parts first second third fourth (each_small written) (parting_small (map simplified written)) (adding_all_small parts 0 parts parts few) (dropping_small [] all)
+downward_small : (n : ℕ) (s : Step) → IsSmall s → AreSmall (downward n s)
+downward_small zero s h = tt
+downward_small (suc n) s h = both (downward n s) (below_filters n (s ∷ [])) (downward_small n s h) (small_below n (s ∷ []) (h, tt))
+
+upward_small : (n : ℕ) (s : Step) → IsSmall s → AreSmall (upward n s)
+upward_small zero s h = tt
+upward_small (suc n) s h = both (below_filters n (s ∷ [])) (upward n s) (small_below n (s ∷ []) (h, tt)) (upward_small n s h)
+
+making_small : (lefts : ℕ) → AreSmall (making_inner lefts)
+making_small lefts =
+    let down = downward lefts (at_root 20) in
+    let make = below_filters lefts (at_root 19 ∷ []) in
+    let up = upward lefts (plain 20 true) in
+    let rises : AreSmall up = upward_small lefts (plain 20 true) (record { rule = omega arith; arguments = tt; few = omega arith }) in
+    both down (make ++ (up ++ below_filters 1 up)) (downward_small lefts (at_root 20) (small_root 20 (omega arith)))
+    (both make (up ++ below_filters 1 up) (small_below lefts (at_root 19 ∷ []) (one_root 19 (omega arith))) (both up (below_filters 1 up) rises (small_below 1 up rises)))
+
+turning_small : (count under lefts : ℕ) → AreSmall (turning count under lefts)
+turning_small count under lefts =
+    let down = downward under (at_root 3) in
+    let make = below_filters under (making_inner lefts) in
+    let up = upward under (at_root 3) in
+    let swaps = small_root 3 (omega arith) in
+    both (below_filters (count - 1 - under) (down ++ (make ++ up))) (upward count (at_root 3))
+    (small_below (count - 1 - under) (down ++ (make ++ up)) (both down (make ++ up) (downward_small under (at_root 3) swaps) (both make up (small_below under (making_inner lefts) (making_small lefts)) (upward_small under (at_root 3) swaps))))
+    (upward_small count (at_root 3) swaps)
+
+parting_on_small : (on : BoundExpr) → AreSmall (parting_on on)
+parting_on_small on =
+    let ps = parts_of on in
+    both (parting on) (simplifying_each ps ++ parting_each (map simplified ps)) (repeated_small (length ps - 1) (at_root 1) (small_root 1 (omega arith)))
+    (both (simplifying_each ps) (parting_each (map simplified ps)) (each_small ps) (parting_small (map simplified ps)))
+
+turning_all_small : (ons : List BoundExpr) (n : ℕ) (es : List BoundExpr) → AreSmall (turning_all n es ons)
+turning_all_small [] n es = tt
+turning_all_small (on ∷ ons) n es = go (first_turning n es) (turning_all_small ons (suc n) (es ++ simplified_parts (parts_of on)))
+  where
+    more : List Step
+    more = turning_all (suc n) (es ++ simplified_parts (parts_of on)) ons
+
+    go : (o : Option ℕ) → AreSmall more → AreSmall (unwrap_or (option_map (λ i. turning_at es on (length ons) i ++ more) o) [])
+    go None h = tt
+    go (Some i) h =
+        let turn = turning (length es) i (length ons) in
+        both (turn ++ parting_on on) more (both turn (parting_on on) (turning_small (length es) i (length ons)) (parting_on_small on)) h
+
+-- ---- all that simplify
+
+module _ (first : ℕ) (written ons : List BoundExpr) where
+  abbrev es : List BoundExpr
+  es = (turned first (simplified_parts written) ons).conditions
+
+  turning_parts_small : AreSmall (turning_parts first written ons)
+  turning_parts_small =
+      let one = simplifying_each written in
+      let two = parting_each (map simplified written) in
+      let three = turning_all first (simplified_parts written) ons in
+      both one (two ++ three) (each_small written) (both two three (parting_small (map simplified written)) (turning_all_small ons first (simplified_parts written)))
+
+  from_small : AreSmall (simplifying_from first written ons)
+  from_small = go (is_too_long es) (is_too_long (with_consequences es)) refl
     where
-      each-parts : (a b c d : List Step) → AreSmall a → AreSmall b → AreSmall c → AreSmall d → AreSmall (a ++ b ++ c ++ d)
-      each-parts a b c d h k l m = both (a ++ b ++ c) d (both (a ++ b) c (both a b h k) l) m
-
-  from_small : AreSmall (simplifying_from written)
-  from_small = go (is_too_long parts) (is_too_long all) refl
-    where
-      go : (b c : Bool) → is_too_long all ≡ c → AreSmall (if b then [] else if c then [] else simplifying_steps written parts all)
+      go : (b c : Bool) → is_too_long (with_consequences es) ≡ c → AreSmall (if b then [] else if c then [] else turning_parts first written ons ++ completing es)
       go true c e = tt
       go false true e = tt
-      go false false e = steps_small (is_few all e)
+      go false false e = both (turning_parts first written ons) (completing es) turning_parts_small (completing_small es (is_few (with_consequences es) e))
 
 pub simplifying_small : (q : BoundQuery) → AreSmall (simplifying q)
-simplifying_small q = from_small (written_conditions q)
+simplifying_small q = from_small (entries_before_lefts q) (written_conditions q) (left_conditions q)
 
 -- ---- the steps that place conditions
 

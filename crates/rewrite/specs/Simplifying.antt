@@ -1,8 +1,7 @@
--- The steps from the written term of a query to the conditions of its planning list over the joins in the order of FROM.
-use Rattle.std.specs.Prelude.{ℕ, zero, suc, ◌-◌, List, [], ◌∷◌, ◌++◌, length, map, Option, Some, None, if◌then◌else◌}
+-- The steps that simplify conditions, part them, add what follows from them, and drop those that repeat one.
+use Rattle.std.specs.Prelude.{ℕ, zero, suc, ◌-◌, List, [], ◌∷◌, ◌++◌, length, Option, Some, None, if◌then◌else◌}
 use Rattle.expr.specs.Bound.{BoundExpr}
-use Rattle.expr.specs.BoundQuery.{BoundQuery}
-use Rattle.algebra.specs.PlanningList.{written_conditions, simplified, simplified_parts, parts_of, consequence, with_condition, with_any, with_each, with_consequences, is_too_long}
+use Rattle.algebra.specs.PlanningList.{parts_of, consequence, with_condition, with_any, with_each}
 use Rattle.algebra.specs.Runs.{stands_in}
 use Rattle.algebra.specs.Steps.{Step}
 use Rattle.rewrite.specs.Trails.{at_root, at_root_with, below_filters}
@@ -55,19 +54,3 @@ adding_all known i (p ∷ ps) qs = adding_each known i p 0 qs ++ adding_all (wit
 abbrev pub dropping : (known : List BoundExpr) → List BoundExpr → List Step
 dropping known [] = []
 dropping known (e ∷ es) = (if stands_in e known then below_filters (length es) (at_root 10 ∷ []) else []) ++ dropping (with_condition known e) es
-
--- ---- all of it
-
--- from the written conditions to their parts, to all of these and their consequences, and to those of all that repeat none
-abbrev pub simplifying_steps : (written parts all : List BoundExpr) → List Step
-simplifying_steps written parts all = simplifying_each written ++ parting_each (map simplified written) ++ adding_all parts 0 parts parts ++ dropping [] all
-
--- none where the planning list is as written
-abbrev pub simplifying_from : (written : List BoundExpr) → List Step
-simplifying_from written =
-    if is_too_long (simplified_parts written) then []
-    else if is_too_long (with_consequences (simplified_parts written)) then []
-    else simplifying_steps written (simplified_parts written) (with_consequences (simplified_parts written))
-
-abbrev pub simplifying : BoundQuery → List Step
-simplifying q = simplifying_from (written_conditions q)

@@ -1,5 +1,5 @@
 -- Trails as lists of steps: where they lead, and the same steps further down a term.
-use Rattle.std.specs.Prelude.{ℕ, zero, suc, false, List, [], ◌∷◌, map, Ok}
+use Rattle.std.specs.Prelude.{ℕ, zero, suc, Bool, false, List, [], ◌∷◌, map, Ok}
 use Rattle.memory.specs.Results.{and_then}
 use Rattle.tuples.specs.Guards.{Guard}
 use Rattle.row_terms.specs.declared.path.Branch.{Branch}
@@ -18,8 +18,12 @@ led frame (s ∷ ss) x = and_then (applied frame s x) (led frame ss)
 abbrev pub at_root_with : ℕ → List ℕ → Step
 at_root_with rule arguments = record { rule = rule; is_reverse = false; path = []; arguments = arguments }
 
+-- a rule in a direction, without arguments, at the root
+abbrev pub plain : ℕ → (is_reverse : Bool) → Step
+plain rule is_reverse = record { rule = rule; is_reverse = is_reverse; path = []; arguments = [] }
+
 abbrev pub at_root : ℕ → Step
-at_root rule = at_root_with rule []
+at_root rule = plain rule false
 
 -- a step at the same node of the term below a branch
 abbrev pub down : Branch → Step → Step

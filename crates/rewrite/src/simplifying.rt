@@ -1,18 +1,17 @@
-//! The steps from the written term of a query to the conditions of its planning list over the joins in the order of FROM.
+//! The steps that simplify conditions, part them, add what follows from them, and drop those that repeat one.
 
-ghost use Rattle.std.specs.Prelude.{◌≡◌, ◌++◌, ◌-◌, [], ◌∷◌, IfOk, OnOk, length, map, replicate, if◌then◌else◌};
-ghost use Rattle.expr.specs.View.{bound_query_of};
+ghost use Rattle.std.specs.Prelude.{◌≡◌, ◌++◌, ◌-◌, [], ◌∷◌, IfOk, OnOk, length, map, if◌then◌else◌};
 ghost use Rattle.algebra.specs.PlanningList as planning;
 ghost use Rattle.algebra.specs.Runs.{stands_in};
 ghost use Rattle.algebra.specs.View.{step_of};
 ghost use Rattle.rewrite.specs.Simplifying as spec;
 ghost use Rattle.rewrite.specs.Trails.{at_root, at_root_with, below_filters};
 
+use crate::steps::{self, path_below};
 use algebra::Step;
-use expr::{BoundQuery, MovableExpr};
+use expr::MovableExpr;
 use memory::{Heap, Items};
 use predicates::conjunct_count;
-use row_terms::Branch;
 use std::alloc::AllocError;
 
 /// Conditions that never fault.
@@ -21,7 +20,7 @@ type Conditions<A> = Items<MovableExpr<A>, A>;
 /// Steps, the first one first.
 type Trail<A> = Items<Step<A>, A>;
 
-const SPLIT_FILTER: u64 = 1;
+pub(crate) const SPLIT_FILTER: u64 = 1;
 
 const DROP_FILTER: u64 = 10;
 
@@ -30,28 +29,6 @@ const ADD_CONSTANT: u64 = 12;
 const CARRY_NOT: u64 = 13;
 
 const FOLD_LITERALS: u64 = 14;
-
-/// The steps that simplify the conditions of a query, and the conditions to which they lead.
-#[derive(Drop)]
-pub struct Simplified<A: Heap> {
-    /// The steps, from the written term.
-    pub trail: Items<Step<A>, A>,
-    /// The planning list.
-    pub conditions: Items<MovableExpr<A>, A>,
-}
-
-// ---- steps
-
-// The path to the term below so many filters.
-fn filters_path<A: Heap>(alloc: A, depth: usize) -> Result<Items<Branch, A>, AllocError>
-    ensures { IfOk result (λ p. p ≡ replicate depth Branch.First) }
-{
-    let mut path = Items::new(alloc);
-    for _ in 0..depth {
-        path.push(Branch::First)?;
-    }
-    Ok(path)
-}
 
 // Adds a step without arguments below so many filters.
 fn push_step<A: Heap>(
@@ -62,18 +39,12 @@ fn push_step<A: Heap>(
 ) -> Result<(), AllocError>
     ensures { OnOk result (map step_of trail.new ≡ map step_of trail.old ++ below_filters depth (at_root rule ∷ [])) }
 {
-    let path = filters_path(alloc, depth)?;
-    let arguments = Items::new(alloc);
-    trail.push(Step {
-        rule,
-        is_reverse: false,
-        path,
-        arguments,
-    })
+    let path = path_below(alloc, depth)?;
+    steps::push_step(alloc, trail, path.as_slice(), rule)
 }
 
-// Adds the same step several times.
-fn push_repeated<A: Heap>(
+/// Adds the same step several times.
+pub(crate) fn push_repeated<A: Heap>(
     alloc: A,
     trail: &mut Trail<A>,
     depth: usize,
@@ -90,8 +61,8 @@ fn push_repeated<A: Heap>(
 
 // ---- each condition alone
 
-// Adds the steps that carry NOT inward and fold the literals of each condition.
-fn push_simplifying<A: Heap>(
+/// Adds the steps that carry NOT inward and fold the literals of each condition.
+pub(crate) fn push_simplifying<A: Heap>(
     alloc: A,
     trail: &mut Trail<A>,
     conditions: &[MovableExpr<A>],
@@ -107,15 +78,15 @@ fn push_simplifying<A: Heap>(
     Ok(())
 }
 
-// The number of the steps that part the condition.
-fn split_count<A: Heap>(condition: &MovableExpr<A>) -> usize
+/// The number of the steps that part the condition.
+pub(crate) fn split_count<A: Heap>(condition: &MovableExpr<A>) -> usize
     ensures { result ≡ length (planning.parts_of condition.now) - 1 }
 {
     conjunct_count(condition).saturating_sub(1)
 }
 
-// Adds the steps that part each condition.
-fn push_parting<A: Heap>(
+/// Adds the steps that part each condition.
+pub(crate) fn push_parting<A: Heap>(
     alloc: A,
     trail: &mut Trail<A>,
     conditions: &[MovableExpr<A>],
@@ -202,8 +173,8 @@ fn push_adding_each<A: Heap>(
     Ok(())
 }
 
-// The conditions and the consequences of each two of them; adds the steps that add these.
-fn push_adding_all<A: Heap>(
+/// The conditions and the consequences of each two of them; adds the steps that add these.
+pub(crate) fn push_adding_all<A: Heap>(
     alloc: A,
     trail: &mut Trail<A>,
     conditions: &[MovableExpr<A>],
@@ -237,8 +208,8 @@ fn push_dropping<A: Heap>(
     known.push(condition)
 }
 
-// The conditions that do not repeat one below them; adds the steps that drop the others.
-fn push_dropping_all<A: Heap>(
+/// The conditions that do not repeat one below them; adds the steps that drop the others.
+pub(crate) fn push_dropping_all<A: Heap>(
     alloc: A,
     trail: &mut Trail<A>,
     conditions: Conditions<A>,
@@ -253,40 +224,4 @@ fn push_dropping_all<A: Heap>(
         push_dropping(alloc, trail, &mut known, depth, condition)?;
     }
     Ok(known)
-}
-
-// ---- all of it
-
-// The written conditions, to which no step leads.
-fn as_written<A: Heap>(alloc: A, written: Conditions<A>) -> Simplified<A>
-    ensures trail { map step_of result.trail ≡ [] }
-    ensures conditions { result.conditions ≡ written }
-{
-    Simplified {
-        trail: Items::new(alloc),
-        conditions: written,
-    }
-}
-
-/// The steps that lead from the written term of a query to the conditions of its planning list over the joins in the order of
-/// FROM, and those conditions.
-pub fn simplify<A: Heap>(alloc: A, query: &BoundQuery<A>) -> Result<Simplified<A>, AllocError>
-    ensures trail { IfOk result (λ s. map step_of s.trail ≡ spec.simplifying (bound_query_of query.now)) }
-    ensures conditions { IfOk result (λ s. s.conditions ≡ planning.planning_list (bound_query_of query.now)) }
-{
-    let written = algebra::written_conditions(alloc, query)?;
-    let forms = algebra::all_simplified(alloc, written.as_slice())?;
-    let mut trail = Items::new(alloc);
-    push_simplifying(alloc, &mut trail, written.as_slice())?;
-    push_parting(alloc, &mut trail, forms.as_slice())?;
-    let parts = algebra::all_parts(alloc, forms)?;
-    if algebra::is_too_long(parts.as_slice()) {
-        return Ok(as_written(alloc, written));
-    }
-    let all = push_adding_all(alloc, &mut trail, parts.as_slice())?;
-    if algebra::is_too_long(all.as_slice()) {
-        return Ok(as_written(alloc, written));
-    }
-    let conditions = push_dropping_all(alloc, &mut trail, all)?;
-    Ok(Simplified { trail, conditions })
 }

@@ -1,10 +1,11 @@
 //! The entries that conditions name.
 
-ghost use Rattle.std.specs.Prelude.{◌≡◌, ◌==◌, ◌&&◌, ◌||◌, IfOk, nat_le, nat_lt};
+ghost use Rattle.std.specs.Prelude.{◌≡◌, ◌==◌, ◌&&◌, ◌||◌, IfOk, nat_lt};
 ghost use Rattle.std.specs.List.{list_all, list_any};
 ghost use Rattle.expr.specs.Columns.{columns};
 ghost use Rattle.trailcheck.specs.Entries as spec;
 
+use algebra::all_up_to;
 use expr::{ColumnId, MovableExpr, push_columns};
 use memory::{Heap, Items};
 use std::alloc::AllocError;
@@ -88,13 +89,6 @@ pub(crate) fn joins<A: Heap>(
 {
     let columns = columns_of(alloc, condition)?;
     Ok(are_joining(columns.as_slice(), entries, entry))
-}
-
-// True where each column is of the entry or of one before it.
-fn all_up_to(columns: &[ColumnId], entry: usize) -> bool
-    ensures { result ≡ list_all (λ id. nat_le id.entry entry) columns.now }
-{
-    columns.iter().all(|id| id.entry <= entry)
 }
 
 /// True where the condition names the entry, and no later one.

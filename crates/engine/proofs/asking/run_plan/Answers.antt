@@ -8,7 +8,7 @@ use Rattle.value.specs.Names.{Name}
 use Rattle.replies.specs.Reply.{Faulted}
 use Rattle.resolve.specs.View.{bound_of}
 use Rattle.engine.specs.Answer.{headings, rows_reply}
-use Rattle.engine.proofs.OfText.{text_inner, text_sound, text_tables}
+use Rattle.engine.proofs.OfText.{text_lefts, text_tables}
 use Rattle.engine.proofs.asking.run_plan.Goals as goal
 
 fault_is : (columns : List Name) (rows : Result (List Row) Fault) (failure : Failure Fault) (fault : Fault) → failure ≡ Faults fault → IsFailure failure rows → Faulted fault ≡ rows_reply columns rows
@@ -20,8 +20,5 @@ returns-in-Err-Error g c = rw c.in-Err-Error.field-0-is (fault_is (headings (bou
 pub answer_rows-requires-clause-tables : goal.answer_rows-requires-clause-tables
 answer_rows-requires-clause-tables g c = text_tables c.args.store.now.catalog c.args.role.now (bound_of c.args.bound.now) c.requires.admitted
 
-pub answer_rows-requires-clause-inner : goal.answer_rows-requires-clause-inner
-answer_rows-requires-clause-inner g c = text_inner c.args.store.now.catalog c.args.role.now (bound_of c.args.bound.now) c.requires.admitted c.law_queries_have_tables.ensures
-
-pub answer_rows-requires-clause-movable : goal.answer_rows-requires-clause-movable
-answer_rows-requires-clause-movable g c = text_sound c.args.store.now.catalog c.args.role.now (bound_of c.args.bound.now) c.requires.admitted c.law_queries_have_tables.ensures
+pub answer_rows-requires-clause-lefts : goal.answer_rows-requires-clause-lefts
+answer_rows-requires-clause-lefts g c = text_lefts c.args.store.now.catalog c.args.role.now (bound_of c.args.bound.now) c.requires.admitted c.law_queries_have_tables.ensures

@@ -1,11 +1,11 @@
-use Rattle.std.proofs.Common.{◌≡◌, ◌∙◌, [], ap, length, map, sym, arith}
+use Rattle.std.proofs.Common.{◌≡◌, ◌∙◌, [], ap, length, map, subst, sym, arith}
 use Rattle.std.proofs.lemmas.List.{length-map}
 use Rattle.std.proofs.lemmas.Result.{IfOk-weaker}
 use Rattle.expr.specs.View.{bound_query_of}
 use Rattle.scope.specs.View.{entries_of, entry_of}
 use Rattle.tuples.specs.View.{guard_of}
 use Rattle.stats.specs.View.{stats_of}
-use Rattle.row_terms.specs.Written.{left_conditions}
+use Rattle.planning.specs.Laws.{IsSettingOf}
 use Rattle.trailcheck.specs.View.{setting_of}
 use Rattle.plan_texts.specs.View.{plan_of}
 use Rattle.bound_plans.specs.Entries.{plan_entries}
@@ -13,6 +13,7 @@ use Rattle.resolve.specs.View.{bound_of}
 use Rattle.engine.specs.Explained.{best_text, known}
 use Rattle.engine.specs.Known.{known_statistics, statistics_in}
 use Rattle.engine.proofs.ExplainedTexts.{known_of_each, problem_is, written_best}
+use Rattle.engine.proofs.OfText.{setting_of_query}
 use Rattle.engine.proofs.Statistics.{as_many}
 use Rattle.engine.proofs.Steps.{as_long}
 use Rattle.engine.proofs.explaining.best_text.Goals as goal
@@ -35,16 +36,11 @@ new-requires-clause-entries g c =
     let few = c.requires.few in
     omega (arith, same, as_many, few)
 
-pub new-requires-clause-lefts : goal.new-requires-clause-lefts
-new-requires-clause-lefts g c = ap (λ s. s.lefts) c.in_ok-setting.ensures.value ∙ ap (λ q. left_conditions (bound_query_of q)) (sym c.deref-2.ensures)
-
-pub new-requires-clause-among : goal.new-requires-clause-among
-new-requires-clause-among g c =
-    let same = as_long _ _ _ _ (c.in_ok-setting.ensures.shows []) in
-    let as_many = length-map c.args.bound.now.entries (λ e. entry_of e) in
-    let few = c.requires.lefts in
-    let lefts = ap (λ s. length s.lefts) c.in_ok-setting.ensures.value in
-    omega (arith, same, as_many, few, lefts)
+pub new-requires-clause-setting : goal.new-requires-clause-setting
+new-requires-clause-setting g c =
+    let b = bound_of c.args.bound.now in
+    subst (λ q. IsSettingOf q (setting_of c.in_ok-setting.setting)) (ap bound_query_of (sym c.deref-2.ensures))
+    (subst (IsSettingOf b.query) (sym (rw c.catalog.ensures.catalog at c.in_ok-setting.ensures.value)) (setting_of_query c.args.store.now.catalog c.args.role.now b c.requires.lefts))
 
 pub returns : goal.returns
 returns g c =

@@ -1,10 +1,10 @@
-use Rattle.std.proofs.Common.{arith, sym, ap, ◌∙◌}
+use Rattle.std.proofs.Common.{sym, ap, ◌∙◌}
 use Rattle.row_ast.specs.View.{query_of}
 use Rattle.resolve.specs.View.{bound_of}
 use Rattle.analysis.specs.View.{admitted_of}
 use Rattle.engine.proofs.Few.{admitted_few}
 use Rattle.engine.proofs.FewConjuncts.{admitted_conjuncts}
-use Rattle.engine.proofs.OfText.{few_left_conditions, query_lefts}
+use Rattle.engine.proofs.OfText.{query_lefts}
 use Rattle.engine.proofs.Tables.{admitted_tables}
 use Rattle.engine.proofs.explaining.explained_query.Goals as goal
 
@@ -26,6 +26,4 @@ best_text-requires-clause-conjuncts g c =
 pub best_text-requires-clause-lefts : goal.best_text-requires-clause-lefts
 best_text-requires-clause-lefts g c =
     let admitted = (rw c.catalog.ensures.catalog at c.in_ok-bound.ensures) in
-    let b = bound_of c.in-Ok.bound in
-    let few = few_left_conditions b (query_lefts c.args.store.now.catalog c.args.role.now (query_of c.args.query.now) b c.requires.from (sym admitted ∙ ap admitted_of c.in-Ok.is)) in
-    omega (arith, few)
+    query_lefts c.args.store.now.catalog c.args.role.now (query_of c.args.query.now) (bound_of c.in-Ok.bound) c.requires.from (sym admitted ∙ ap admitted_of c.in-Ok.is)

@@ -7,14 +7,14 @@ use Rattle.access.specs.Access.{sees}
 use Rattle.scope.specs.View.{entry_of}
 use Rattle.tuples.specs.Guards.{shows}
 use Rattle.tuples.specs.View.{guard_of}
-use Rattle.row_terms.specs.Written.{left_conditions}
+use Rattle.planning.specs.Laws.{IsSettingOf}
 use Rattle.trailcheck.specs.View.{setting_of}
 use Rattle.planning.specs.LeastCode.{Problem}
 use Rattle.planning.specs.Wanted.{wanted_column}
 use Rattle.resolve.specs.View.{bound_of}
 use Rattle.engine.specs.Plans.{IsPlanFor, Plan}
 use Rattle.engine.proofs.Made.{is_made}
-use Rattle.engine.proofs.OfText.{few_left_conditions, text_conjuncts, text_few, text_lefts, text_tables}
+use Rattle.engine.proofs.OfText.{setting_of_query, text_conjuncts, text_few, text_lefts, text_tables}
 use Rattle.engine.proofs.Statistics.{as_many}
 use Rattle.engine.proofs.Steps.{as_long}
 use Rattle.engine.proofs.preparing.plan.Goals as goal
@@ -43,17 +43,12 @@ new-requires-clause-conjuncts g c =
     let few = text_conjuncts c.args.store.now.catalog c.args.role.now (bound_of c.args.bound.now) c.requires (λ text q is. (c.law_parsing_is_determined.ensures.query.found text q is).2) in
     rw c.deref.ensures few
 
-pub new-requires-clause-lefts : goal.new-requires-clause-lefts
-new-requires-clause-lefts g c = ap (λ s. s.lefts) c.in_ok-setting.ensures.value ∙ ap (λ q. left_conditions (bound_query_of q)) (sym c.deref.ensures)
-
-pub new-requires-clause-among : goal.new-requires-clause-among
-new-requires-clause-among g c =
+pub new-requires-clause-setting : goal.new-requires-clause-setting
+new-requires-clause-setting g c =
     let b = bound_of c.args.bound.now in
-    let same = as_long _ _ _ _ (c.in_ok-setting.ensures.shows []) in
-    let as_many = length-map c.args.bound.now.entries (λ e. entry_of e) in
-    let few = few_left_conditions b (text_lefts c.args.store.now.catalog c.args.role.now b c.requires c.law_queries_have_tables.ensures) in
-    let lefts = ap (λ s. length s.lefts) c.in_ok-setting.ensures.value in
-    omega (arith, same, as_many, few, lefts)
+    let known = text_lefts c.args.store.now.catalog c.args.role.now b c.requires c.law_queries_have_tables.ensures in
+    subst (λ q. IsSettingOf q (setting_of c.in_ok-setting.setting)) (ap bound_query_of (sym c.deref.ensures))
+    (subst (IsSettingOf b.query) (sym (rw c.catalog.ensures.catalog at c.in_ok-setting.ensures.value)) (setting_of_query c.args.store.now.catalog c.args.role.now b known))
 
 pub new-requires-2 : goal.new-requires-2
 new-requires-2 g c =

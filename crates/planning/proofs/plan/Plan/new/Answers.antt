@@ -1,4 +1,4 @@
-use Rattle.std.proofs.Common.{◌≡◌, ◌≤◌, ◌∙◌, true, ap, length, map, refl, subst, sym}
+use Rattle.std.proofs.Common.{◌≡◌, ◌≤◌, ◌∙◌, true, ap, length, map, refl, subst, sym, arith}
 use Rattle.std.proofs.lemmas.List.{length-map}
 use Rattle.expr.specs.View.{bound_query_of, code_of}
 use Rattle.stats.specs.View.{stats_of}
@@ -9,7 +9,15 @@ use Rattle.value.specs.Limits.{most_entries}
 use Rattle.code_costs.specs.Best.{IsLeast, Problem, estimates}
 use Rattle.code_costs.specs.Cost as joindp
 use Rattle.planning.specs.Wanted.{wanted_column}
+use Rattle.rewrite.proofs.Accepting.{lefts_among}
 use Rattle.planning.proofs.plan.Plan.new.Goals as goal
+
+pub new-requires-clause-among : goal.new-requires-clause-among
+new-requires-clause-among g c =
+    let at = setting_of c.args.setting.now in
+    let less = lefts_among (bound_query_of c.args.query.now) at c.requires.setting in
+    let same = length-map c.args.setting.now.frame (λ x. guard_of x) in
+    omega (arith, less, same)
 
 pub invariant_of-result : goal.invariant_of-result
 invariant_of-result g c =
@@ -24,13 +32,12 @@ invariant_of-result g c =
     let known = subst (λ (p : Problem). cost ≡ joindp.cost (estimates p) code) same found.cost in
     let least = subst (λ (p : Problem). IsLeast p cost code) same found.least in
     let few : length at.frame ≤ most_entries = subst (λ n. n ≤ most_entries) (sym (length-map c.args.setting.now.frame (λ x. guard_of x))) c.requires.entries in
-    let among : length at.lefts ≤ length at.frame = subst (λ n. length at.lefts ≤ n) (sym (length-map c.args.setting.now.frame (λ x. guard_of x))) c.requires.among in
     let laws = c.law_plans_are_accepted.ensures in
     record {
       admissible = admissible;
       cost = known;
       best = c.law_least_is_best.ensures problem code admissible (subst (λ n. IsLeast problem n code) known least);
       steps = refl;
-      accepted = laws.accepted at q code c.requires.lefts among c.requires.conditions few c.requires.conjuncts admissible;
-      short = laws.short at q code c.requires.conditions few c.requires.conjuncts admissible;
+      accepted = laws.accepted at q code c.requires.setting few c.requires.conjuncts admissible;
+      short = laws.short at q code c.requires.setting few c.requires.conjuncts admissible;
     }
