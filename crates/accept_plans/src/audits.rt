@@ -140,6 +140,9 @@ audit | SELECT d.id FROM deal d LEFT JOIN region r ON d.region = r.id WHERE r.na
 audit | SELECT d.id FROM deal d LEFT JOIN region r ON d.region = r.id WHERE r.name IS NULL | cost 0;filter 1 (r.name IS NULL);on r (d.region = r.id);left first d full;left hash 1 r full;trail;9 00;9 01; | 3 unreadable line 4
 audit | SELECT d.id FROM deal d LEFT JOIN region r ON d.region = r.id WHERE r.name IS NULL | cost 0;filter 1 (r.name IS NULL);on x (d.region = r.id);first d full;left hash 1 r full;trail;9 00;9 01; | 3 unreadable line 3
 audit | SELECT d.id FROM deal d LEFT JOIN region r ON d.region = r.id WHERE r.name IS NULL | cost 0;on r (d.region = r.id);filter 1 (r.name IS NULL);first d full;left hash 1 r full;trail;9 00;9 01; | 3 unreadable line 3
+audit | SELECT d.id FROM deal d LEFT JOIN region r ON d.region = r.id WHERE r.name = 'north' | cost 0;filter 1 (r.name = 'north');on r (d.region = r.id);first d full;left hash 1 r full;trail;9 00;9 01; | 3 refused line 0 reason 5
+audit | SELECT d.id FROM deal d LEFT JOIN region r ON d.region = r.id WHERE r.name = 'north' | cost 0;filter 1 (r.name = 'north');filter 2 (d.region = r.id);first d full;hash 2 r full;trail;19 .;3 .;9 000;9 001;5 0; | 0 accepted
+audit | SELECT d.id FROM deal d LEFT JOIN region r ON d.region = r.id WHERE r.name = 'north' | cost 0;filter 1 (r.name = 'north');filter 2 (d.region = r.id);first d full;hash 2 r full;trail;9 00;9 01; | 3 refused line 3 reason 6
 alice | SELECT d.id FROM region s LEFT JOIN deal d ON s.id = d.region | cost 0;on d (s.id = d.region);first s full;left nested d full;trail;9 0; | 0 accepted
 alice | SELECT d.id FROM region s LEFT JOIN deal d ON s.id = d.region | cost 0;on d (s.id = d.region);first s full;left nested d full;trail;9 0;9 1; | 3 refused line 2 reason 4
 ";

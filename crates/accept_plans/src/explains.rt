@@ -52,6 +52,18 @@ audit | SELECT d.id, r.name FROM deal d LEFT JOIN region r ON d.region = r.id OR
 alice | SELECT r.id, d.id AS k FROM region r LEFT JOIN deal d ON r.id = d.region | 0 cost 3006 / on d (r.id = d.region) / first r full / left hash 1 d full / trail
 ";
 
+// Left joins that become inner, by a condition that is true on no null row.
+const TURNED: &str = "\
+audit | SELECT d.id FROM deal d LEFT JOIN region r ON d.region = r.id WHERE r.name = 'north' | 0 cost 13 / filter 1 (r.name = 'north') / filter 2 (d.region = r.id) / first d full / nested r full / trail
+audit | SELECT d.id FROM deal d LEFT JOIN region r ON d.region = r.id WHERE r.id IN (1, 7) | 0 cost 13 / filter 1 (r.id IN (1, 7)) / filter 2 (d.region = r.id) / first d full / nested r full / trail
+audit | SELECT d.id FROM deal d LEFT JOIN region r ON d.region = r.id WHERE r.name IS NOT NULL AND NOT (r.id <> 1) | 0 cost 10 / filter 1 (r.name IS NOT NULL) / filter 2 (r.id = 1) / filter 3 (d.region = r.id) / filter 4 (d.region = 1) / first d full / nested r full / trail
+audit | SELECT d.id FROM deal d LEFT JOIN region r ON d.region = r.id LEFT JOIN region s ON r.id = s.id WHERE r.id = 1 | 0 cost 16 / filter 1 (r.id = 1) / filter 2 (d.region = r.id) / filter 3 (d.region = 1) / on s (r.id = s.id) / first d full / nested r full / left nested s full / trail
+audit | SELECT d.id FROM deal d LEFT JOIN region r ON d.region = r.id LEFT JOIN region s ON r.id = s.id WHERE d.id = r.id AND r.id = s.id | 0 cost 25 / filter 1 (d.id = r.id) / filter 2 (r.id = s.id) / filter 3 (d.region = r.id) / first d full / hash 1 r full / nested s full / trail
+audit | SELECT d.id FROM deal d, region s LEFT JOIN region r ON s.id = r.id WHERE d.region = s.id AND d.id = r.id | 0 cost 31 / filter 1 (d.region = s.id) / filter 2 (d.id = r.id) / filter 3 (s.id = r.id) / first d full / hash 2 r full / nested s full / trail
+audit | SELECT d.id FROM deal d LEFT JOIN region r ON FALSE WHERE r.id > 0 | 0 cost 0 / filter 1 (r.id > 0) / filter 2 FALSE / empty / trail
+audit | SELECT d.id FROM deal d LEFT JOIN region r ON NOT (d.region <> r.id OR d.id < 0) WHERE r.id > 0 | 0 cost 19 / filter 1 (r.id > 0) / filter 2 (d.region = r.id) / filter 3 (d.id >= 0) / first d full / hash 2 r full / trail
+";
+
 // Groups and orders, with and without a last sort.
 const ORDERS: &str = "\
 audit | SELECT owner, count(*) AS n FROM deal GROUP BY owner | 0 cost 20 / first deal full / sort deal.owner / trail
@@ -148,6 +160,36 @@ fn explain_all(
     Ok(())
 }
 
+// A left join under so many comparisons of `d.id` and one that makes it inner: of the text that explains it, all after the cost is
+// the conditions as they are written and then the end.
+fn many(
+    rt: &(impl Abort + AllocGlobal),
+    store: &Store<Global>,
+    count: u64,
+    end: &str,
+) -> Result<(), AllocError> {
+    let alloc = rt.alloc();
+    let mut text = String::new(alloc);
+    text.push_str(
+        "SELECT d.id FROM deal d LEFT JOIN region r ON NOT (d.region <> r.id OR d.id < 0) WHERE ",
+    )?;
+    let mut want = String::new(alloc);
+    for i in 0..count {
+        write!(text, "d.id > {i} AND ")?;
+        write!(want, "/ filter {} (d.id > {i}) ", i.wrapping_add(1))?;
+    }
+    text.push_str("r.id > 0")?;
+    write!(want, "/ filter {} (r.id > 0) {end}", count.wrapping_add(1))?;
+    let (status, out) = explained(alloc, store, "audit", text.as_str());
+    let written = std::str::from_utf8(out.inner.as_slice()).unwrap_or("no UTF-8");
+    let head = head_of(alloc, status, written)?;
+    assert!(rt; head.starts_with("0 cost "), "{head}");
+    assert!(rt; head.ends_with(want.as_str()), "{head}");
+    let (verdict, _) = audited(alloc, store, "audit", text.as_str(), out.inner.as_slice());
+    assert_eq!(rt; verdict, 0);
+    Ok(())
+}
+
 fn thousands(alloc: Global) -> Result<Box<Store<Global>, Global>, Failure<FixtureError>> {
     let mut store = store_of(alloc, THOUSANDS_SCHEMA)?;
     let rows = ids(alloc, 1000)?;
@@ -166,6 +208,23 @@ fn joins_are_planned_by_cost(rt: HostRuntime) -> Result<(), Fail> {
 fn left_joins_are_planned_by_cost(rt: HostRuntime) -> Result<(), Fail> {
     let store = sales(rt.alloc())?;
     Ok(explain_all(&rt, &store, LEFT)?)
+}
+
+#[test]
+fn left_joins_become_inner_by_conditions(rt: HostRuntime) -> Result<(), Fail> {
+    let store = sales(rt.alloc())?;
+    Ok(explain_all(&rt, &store, TURNED)?)
+}
+
+#[test]
+fn left_join_stays_where_its_conditions_are_too_many(rt: HostRuntime) -> Result<(), Fail> {
+    let store = sales(rt.alloc())?;
+    let on =
+        "/ on r (NOT ((d.region <> r.id) OR (d.id < 0))) / first d full / left nested r full / trail";
+    many(&rt, &store, 62, on)?;
+    let inner =
+        "/ filter 63 (d.region = r.id) / filter 64 (d.id >= 0) / first d full / nested r full / trail";
+    Ok(many(&rt, &store, 61, inner)?)
 }
 
 #[test]

@@ -11,6 +11,8 @@ mod code_order;
 #[cfg(test)]
 mod conditions;
 #[cfg(test)]
+mod drawn_texts;
+#[cfg(test)]
 mod explains;
 #[cfg(test)]
 mod plan_reading;

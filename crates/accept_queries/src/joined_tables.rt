@@ -818,6 +818,10 @@ lone: SELECT r.id FROM region r LEFT JOIN deal d ON TRUE
 4
 denied 42501 table deal
 
+lone: SELECT r.id, d.id AS deal FROM region r LEFT JOIN deal d ON r.id = d.region AND d.parts <> 0
+4
+denied 42501 column id of table deal
+
 -- columns_of_left_joins_need_grants
 guest: SELECT * FROM region r LEFT JOIN deal d ON r.id = d.id
 4

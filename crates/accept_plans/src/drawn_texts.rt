@@ -1,0 +1,171 @@
+//! Texts that are drawn from a seed, most of them with left joins: what explains each is accepted by the audit.
+
+use fixture_plans::Random;
+use fixtures::{audited, explained, sales};
+use std::alloc::{AllocError, AllocGlobal, Global};
+use std::process::Abort;
+use std::test::Fail;
+use store::Store;
+
+// The alias of an entry.
+fn alias(entry: usize) -> &'static str {
+    match entry {
+        0 => "a",
+        1 => "b",
+        2 => "c",
+        3 => "d",
+        _ => "e",
+    }
+}
+
+// That of one of the entries from one to another.
+fn drawn_alias(random: &mut Random, first: usize, last: usize) -> &'static str {
+    let count = last.wrapping_sub(first).wrapping_add(1);
+    let i = random.below(count as u64) as usize;
+    alias(first.wrapping_add(i))
+}
+
+// Adds a condition on columns of the entries from one to another; some are true on no null row.
+fn push_condition(
+    text: &mut String,
+    random: &mut Random,
+    first: usize,
+    last: usize,
+) -> Result<(), AllocError> {
+    let (one, other) = (
+        drawn_alias(random, first, last),
+        drawn_alias(random, first, last),
+    );
+    let last = alias(last);
+    let number = random.below(4);
+    match random.below(11) {
+        0 | 1 => write!(text, "{one}.id = {last}.id"),
+        2 => write!(text, "{last}.id = {number}"),
+        3 => write!(text, "{one}.id < {last}.id"),
+        4 => write!(text, "{one}.id IS NULL"),
+        5 => write!(text, "{one}.id IS NOT NULL"),
+        6 => write!(text, "{one}.id IN ({number}, 2)"),
+        7 => write!(text, "NOT ({one}.id <> {other}.id OR {last}.id > {number})"),
+        8 => write!(text, "({one}.id = {number} OR {last}.id = 1)"),
+        9 => write!(text, "{one}.id NOT IN ({number}, 7)"),
+        _ => write!(text, "{number} = 1"),
+    }
+}
+
+// Adds up to three conditions.
+fn push_conditions(
+    text: &mut String,
+    random: &mut Random,
+    first: usize,
+    last: usize,
+) -> Result<(), AllocError> {
+    push_condition(text, random, first, last)?;
+    for _ in 0..random.below(3) {
+        text.push_str(" AND ")?;
+        push_condition(text, random, first, last)?;
+    }
+    Ok(())
+}
+
+// Adds an entry, its table and its alias; `deal` and `region` take turns.
+fn push_entry(text: &mut String, entry: usize) -> Result<(), AllocError> {
+    let table = if entry & 1 == 0 { "deal" } else { "region" };
+    write!(text, "{table} {}", alias(entry))
+}
+
+// Adds left joined entries, up to so many in all; their ONs reach the last of the others.
+fn push_left_joins(
+    text: &mut String,
+    random: &mut Random,
+    inner: usize,
+    count: usize,
+) -> Result<(), AllocError> {
+    for entry in inner..count {
+        text.push_str(" LEFT JOIN ")?;
+        push_entry(text, entry)?;
+        text.push_str(" ON ")?;
+        push_conditions(text, random, inner.wrapping_sub(1), entry)?;
+    }
+    Ok(())
+}
+
+// A text of one or two entries and up to three left joins, and their number.
+fn drawn(alloc: Global, random: &mut Random) -> Result<(String, usize), AllocError> {
+    let inner = if random.once_in(2) { 1usize } else { 2 };
+    let lefts = random.below(4) as usize;
+    let count = inner.wrapping_add(lefts);
+    let mut text = String::new(alloc);
+    text.push_str("SELECT a.id FROM ")?;
+    push_entry(&mut text, 0)?;
+    if inner == 2 {
+        text.push_str(", ")?;
+        push_entry(&mut text, 1)?;
+    }
+    push_left_joins(&mut text, random, inner, count)?;
+    if !random.once_in(8) {
+        text.push_str(" WHERE ")?;
+        push_conditions(&mut text, random, 0, count.wrapping_sub(1))?;
+    }
+    Ok((text, lefts))
+}
+
+// How many entries of a plan are left joined: each has a line with its ON.
+fn left_lines(plan: &str) -> usize {
+    let mut count = 0usize;
+    for line in plan.lines() {
+        if line.starts_with("on ") {
+            count = count.wrapping_add(1);
+        }
+    }
+    count
+}
+
+// Explains a text and audits what explains it; true where an entry that is left joined in the text is inner in the plan.
+fn explain(
+    rt: &(impl Abort + AllocGlobal),
+    store: &Store<Global>,
+    role: &str,
+    text: &str,
+    lefts: usize,
+) -> Result<bool, AllocError> {
+    let alloc = rt.alloc();
+    let (status, out) = explained(alloc, store, role, text);
+    assert_eq!(rt; status, 0, "{text}");
+    let plan = std::str::from_utf8(out.inner.as_slice()).unwrap_or("no UTF-8");
+    let (verdict, line) = audited(alloc, store, role, text, out.inner.as_slice());
+    let line = std::str::from_utf8(line.inner.as_slice()).unwrap_or("no UTF-8");
+    assert_eq!(rt; verdict, 0, "{text}");
+    assert_eq!(rt; line, "accepted\n", "{text}");
+    let still = left_lines(plan);
+    assert!(rt; still <= lefts, "{text}");
+    Ok(still < lefts)
+}
+
+// Of so many drawn texts, how many have an entry that becomes inner.
+fn explain_all(
+    rt: &(impl Abort + AllocGlobal),
+    store: &Store<Global>,
+    role: &str,
+    count: usize,
+    seed: u64,
+) -> Result<usize, AllocError> {
+    let mut random = Random::new(seed);
+    let mut turned = 0usize;
+    for _ in 0..count {
+        let (text, lefts) = drawn(rt.alloc(), &mut random)?;
+        if explain(rt, store, role, text.as_str(), lefts)? {
+            turned = turned.wrapping_add(1);
+        }
+    }
+    Ok(turned)
+}
+
+#[test]
+fn what_explains_is_accepted(rt: HostRuntime) -> Result<(), Fail> {
+    let store = sales(rt.alloc())?;
+    let turned = explain_all(&rt, &store, "audit", 400, 1979)?;
+    assert!(&rt; turned >= 50, "{turned}");
+    let turned = explain_all(&rt, &store, "alice", 100, 69)?;
+    assert!(&rt; turned >= 10, "{turned}");
+    Ok(())
+}
