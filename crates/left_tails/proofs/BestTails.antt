@@ -1,8 +1,7 @@
 -- The best steps of left joined entries may follow, and no other steps that may are better.
-use Rattle.std.proofs.Common.{◌≡◌, ◌∙◌, ℕ, zero, suc, ◌+◌, ◌-◌, ◌<◌, ◌≤◌, ◌⊎◌, inl, inr, Bool, true, false, ◌&&◌, ◌==◌, nat_lt, List, [], ◌∷◌, ◌++◌, length, Option, Some, None, refl, sym, ap, ap₂, subst, arith, length-append, eqb-true, take, drop, get_or, Result, Ok, Err}
+use Rattle.std.proofs.Common.{◌≡◌, ◌∙◌, ℕ, zero, suc, ◌+◌, ◌-◌, ◌<◌, ◌≤◌, ◌⊎◌, inl, inr, Bool, true, false, ◌&&◌, ◌==◌, nat_lt, List, [], ◌∷◌, ◌++◌, length, Option, Some, None, refl, sym, ap, ap₂, subst, arith, length-append, eqb-true, take, drop, get_or}
 use Rattle.std.specs.Prelude.{if◌then◌else◌, slice_get}
 use Rattle.std.specs.List.{range_with_len}
-use Rattle.std.specs.Result.{OnOk}
 use Rattle.std.proofs.Math.Seq.{take-length}
 use Rattle.std.proofs.lemmas.Bool.{and_from, and_parts, cases_lt, eq-eqb, le-ltb, lt-ltb}
 use Rattle.std.proofs.lemmas.Grind.{flat_map-append}
@@ -192,8 +191,3 @@ module _ (of : List Stats) (conditions : List Selection) where
       ∙ ap (λ (t : CodeStep). old ++ t ∷ best_tail of conditions size next ons) (step ∙ ap (best_left_step of v i) same)
       ∙ ap (λ n. old ++ best_left_step of v i o ∷ best_tail of conditions n next ons) (sizes ∙ ap (size_with_left of conditions v i) same)
       ∙ ap (λ n. old ++ best_left_step of v i o ∷ best_tail of conditions (size_with_left of conditions v i o) n ons) index
-
--- what follows where a call succeeds
-pub on_ok : {T E P Q : Type 0} (r : Result T E) → (P → Q) → OnOk r P → OnOk r Q
-on_ok (Ok t) f p = f p
-on_ok (Err e) f p = tt

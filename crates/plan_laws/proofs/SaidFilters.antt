@@ -2,7 +2,7 @@
 use Rattle.std.proofs.Common.{◌≡◌, ℕ, zero, suc, ◌+◌, ◌<◌, length, Bool, true, false, if◌then◌else◌, List, [], ◌∷◌, ◌++◌, map, Option, Some, is_some, option_and_then, refl, sym, ap, ◌∙◌, arith}
 use Rattle.std.specs.List.{All, AllByRecursion, IsDistinct, slice_get}
 use Rattle.std.specs.Str.{bytes_eq}
-use Rattle.std.proofs.lemmas.List.Elements.{All-head, All-tail}
+use Rattle.std.proofs.lemmas.List.Elements.{All-head}
 use Rattle.std.proofs.lemmas.Map.Keys.{IsDistinct-head, IsDistinct-tail}
 use Rattle.value.specs.Columns.{Column as TableColumn}
 use Rattle.value.specs.Names.{Name}
@@ -10,14 +10,11 @@ use Rattle.row_ast.specs.Ast.{ColumnRef}
 use Rattle.expr.specs.declared.bound.ColumnId.{ColumnId}
 use Rattle.expr.specs.Columns.{columns, all_columns, arms_columns, otherwise_columns}
 use Rattle.expr.specs.Bound.{BoundExpr, Column, Literal, CurrentUser, Negate, Arithmetic, Comparison, Between, In, IsNull, Not, And, Or, Cast, Case, CountStar, Call, BoundExprs, no_expr, one_expr, BoundArms, no_arm, one_arm, BoundOtherwise, Nothing, Value}
-use Rattle.expr.specs.BoundQuery.{BoundQuery}
-use Rattle.expr.specs.Conjuncts.{movable_conjuncts}
 use Rattle.scope.specs.Entry.{Entry}
 use Rattle.scope.proofs.ByAlias.{same_names, other_names}
-use Rattle.algebra.specs.PlanningList.{planning_list}
 use Rattle.plan_texts.specs.Plans.{PlanEntry}
 use Rattle.plan_texts.specs.Columns as named_columns
-use Rattle.plan_texts.specs.Reading.{numbered_from, number_of, columns_from, column_at, entry_at, is_found, IsFilter, AreAll}
+use Rattle.plan_texts.specs.Reading.{numbered_from, number_of, columns_from, column_at, entry_at, is_found, IsFilter}
 use Rattle.bound_plans.specs.Entries.{column_names, plan_entries}
 use Rattle.bound_plans.specs.Found.{IsColumn, Unmistakable}
 use Rattle.bound_plans.specs.Named.{alias_of_entry, name_of_column, column_name, name_of, named, named_members, named_arms, named_otherwise}
@@ -25,7 +22,6 @@ use Rattle.predicates.proofs.Keeping.{both}
 use Rattle.plan_laws.specs.Said.{IsSaid}
 use Rattle.plan_laws.proofs.SaidPlain.{of_first, of_second}
 use Rattle.plan_laws.proofs.SaidTexts.{said_text}
-use Rattle.plan_laws.proofs.PlanningSaid.{IsSaidOf, planning_said_of}
 
 -- ---- the entry of an alias, and the column of a name
 

@@ -14,7 +14,7 @@ use Rattle.expr.specs.Conjuncts.{conjuncts_of, left_ons, movable_conjuncts}
 use Rattle.expr.specs.Movable.{movable}
 use Rattle.expr.specs.NamedColumns.{named_columns}
 use Rattle.expr.specs.declared.bound.ColumnId.{ColumnId}
-use Rattle.plan_laws.proofs.EachColumn.{OfColumns, of_conjuncts, of_lefts}
+use Rattle.plan_laws.proofs.EachColumn.{of_conjuncts, of_lefts}
 use Rattle.plan_laws.proofs.Bare.{IsBare, columns_bare}
 use Rattle.scope.specs.Entry.{Entry}
 use Rattle.stats.specs.Card.{rows_at}

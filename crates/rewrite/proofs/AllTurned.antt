@@ -1,5 +1,5 @@
 -- The steps by which left joined entries become inner, one after another, lead to the conditions and the left joins of the plan.
-use Rattle.std.proofs.Common.{◌≡◌, refl, sym, ap, ap₂, subst, ◌∙◌, ℕ, zero, suc, ◌+◌, ◌-◌, ◌<◌, ◌≤◌, ◌==◌, Bool, true, false, ◌||◌, ◌&&◌, nat_le, nat_lt, List, [], ◌∷◌, ◌++◌, length, map, get_or, take, drop, Option, Some, None, option_map, unwrap_or, is_some, Ok, if◌then◌else◌, arith}
+use Rattle.std.proofs.Common.{◌≡◌, refl, sym, ap, ap₂, ◌∙◌, ℕ, zero, suc, ◌+◌, ◌-◌, ◌<◌, ◌==◌, true, false, ◌||◌, nat_le, nat_lt, List, [], ◌∷◌, ◌++◌, length, map, get_or, take, drop, Option, Some, None, option_map, unwrap_or, is_some, Ok, if◌then◌else◌, arith}
 use Rattle.std.proofs.lemmas.Bool.Decides.{nat_tests}
 use Rattle.std.proofs.lemmas.List.Quantifiers.{position-Some}
 use Rattle.expr.specs.declared.bound.ColumnId.{ColumnId}
@@ -8,9 +8,9 @@ use Rattle.expr.specs.Columns.{columns}
 use Rattle.predicates.specs.NullRows.{rejects_null_rows}
 use Rattle.predicates.proofs.Movables.{and_left, and_right}
 use Rattle.tuples.specs.Guards.{Guard}
-use Rattle.row_terms.specs.Terms.{Term, Filtered, Joined, LeftJoined, covers}
+use Rattle.row_terms.specs.Terms.{Term, Filtered, Joined, covers}
 use Rattle.row_terms.specs.Written.{guarded_entry, joins, left_joins, all_joins, filters}
-use Rattle.algebra.specs.PlanningList.{Planned, simplified, simplified_parts, parts_of, turns, first_turning, turned, reach}
+use Rattle.algebra.specs.PlanningList.{simplified, simplified_parts, parts_of, turns, first_turning, turned, reach}
 use Rattle.algebra.specs.Runs.{reads_only, reads_up_to}
 use Rattle.rewrite.specs.Simplifying.{parting, parting_each, simplifying_each}
 use Rattle.rewrite.specs.Trails.{led}

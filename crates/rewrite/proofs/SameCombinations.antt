@@ -1,5 +1,5 @@
 -- The combinations of the shape of a plan are those of the written term.
-use Rattle.std.proofs.Common.{◌≡◌, ◌∙◌, refl, sym, ap, subst, ℕ, zero, suc, ◌-◌, ◌&&◌, true, List, [], ◌∷◌, ◌++◌, map, filter, length, Ok, Err, arith}
+use Rattle.std.proofs.Common.{◌≡◌, ◌∙◌, refl, sym, ap, subst, ℕ, zero, suc, ◌-◌, ◌&&◌, true, List, [], ◌∷◌, ◌++◌, map, filter, length, Ok, Err}
 use Rattle.std.specs.List.Sorted.{IsPermutation}
 use Rattle.std.proofs.lemmas.List.Sorted.{IsPermutation-refl, IsPermutation-trans}
 use Rattle.memory.specs.Results.{and_then}

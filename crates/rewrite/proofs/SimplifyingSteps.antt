@@ -1,5 +1,5 @@
 -- Steps below filters, as they are written.
-use Rattle.std.proofs.Common.{◌≡◌, ℕ, zero, suc, ◌+◌, ◌-◌, ◌<◌, false, refl, sym, ap, ◌∙◌, List, [], ◌∷◌, ◌++◌, length, replicate, get_or, drop, drop-cons, length-drop, append-nil, append_assoc, arith}
+use Rattle.std.proofs.Common.{◌≡◌, ℕ, zero, suc, ◌+◌, ◌-◌, ◌<◌, refl, sym, ap, ◌∙◌, List, [], ◌∷◌, ◌++◌, length, get_or, drop, drop-cons, length-drop, append_assoc, arith}
 use Rattle.std.proofs.lemmas.List.{map-append}
 use Rattle.expr.specs.Bound.{BoundExpr, CurrentUser}
 use Rattle.row_terms.specs.declared.path.Branch.TheVariants.{First}

@@ -1,5 +1,5 @@
 -- The steps by which a left joined entry becomes inner lead there.
-use Rattle.std.proofs.Common.{◌≡◌, refl, sym, ap, ◌∙◌, ℕ, suc, ◌+◌, ◌-◌, Bool, true, false, ◌||◌, List, [], ◌∷◌, ◌++◌, length, Ok, length-append, arith}
+use Rattle.std.proofs.Common.{◌≡◌, refl, sym, ap, ◌∙◌, ℕ, suc, ◌+◌, ◌-◌, Bool, true, false, List, [], ◌∷◌, ◌++◌, length, Ok, length-append, arith}
 use Rattle.std.proofs.lemmas.Bool.{or_left}
 use Rattle.memory.specs.Results.{and_then}
 use Rattle.expr.specs.declared.bound.ColumnId.{ColumnId}
