@@ -110,14 +110,30 @@ fn drawn(alloc: Global, random: &mut Random) -> Result<(String, usize), AllocErr
 }
 
 // How many entries of a plan are left joined: each has a line with its ON.
-fn left_lines(plan: &str) -> usize {
+fn left_lines(plan: &[u8]) -> usize {
+    let text = std::str::from_utf8(plan).unwrap_or("no UTF-8");
     let mut count = 0usize;
-    for line in plan.lines() {
+    for line in text.lines() {
         if line.starts_with("on ") {
             count = count.wrapping_add(1);
         }
     }
     count
+}
+
+// The audit of a plan accepts it.
+fn is_accepted(
+    rt: &(impl Abort + AllocGlobal),
+    store: &Store<Global>,
+    role: &str,
+    text: &str,
+    plan: &[u8],
+) -> Result<(), AllocError> {
+    let (verdict, line) = audited(rt.alloc(), store, role, text, plan);
+    let line = std::str::from_utf8(line.inner.as_slice()).unwrap_or("no UTF-8");
+    assert_eq!(rt; verdict, 0, "{text}");
+    assert_eq!(rt; line, "accepted\n", "{text}");
+    Ok(())
 }
 
 // Explains a text and audits what explains it; true where an entry that is left joined in the text is inner in the plan.
@@ -128,15 +144,10 @@ fn explain(
     text: &str,
     lefts: usize,
 ) -> Result<bool, AllocError> {
-    let alloc = rt.alloc();
-    let (status, out) = explained(alloc, store, role, text);
+    let (status, out) = explained(rt.alloc(), store, role, text);
     assert_eq!(rt; status, 0, "{text}");
-    let plan = std::str::from_utf8(out.inner.as_slice()).unwrap_or("no UTF-8");
-    let (verdict, line) = audited(alloc, store, role, text, out.inner.as_slice());
-    let line = std::str::from_utf8(line.inner.as_slice()).unwrap_or("no UTF-8");
-    assert_eq!(rt; verdict, 0, "{text}");
-    assert_eq!(rt; line, "accepted\n", "{text}");
-    let still = left_lines(plan);
+    is_accepted(rt, store, role, text, out.inner.as_slice())?;
+    let still = left_lines(out.inner.as_slice());
     assert!(rt; still <= lefts, "{text}");
     Ok(still < lefts)
 }
