@@ -1,6 +1,7 @@
 -- The steps by which left joined entries become inner, one after another, lead to the conditions and the left joins of the plan.
-use Rattle.std.proofs.Common.{◌≡◌, refl, sym, ap, ap₂, ◌∙◌, ℕ, zero, suc, ◌+◌, ◌-◌, ◌<◌, ◌==◌, true, false, ◌||◌, nat_le, nat_lt, List, [], ◌∷◌, ◌++◌, length, map, get_or, take, drop, Option, Some, None, option_map, unwrap_or, is_some, Ok, if◌then◌else◌, arith}
+use Rattle.std.proofs.Common.{◌≡◌, refl, sym, ap, ap₂, ◌∙◌, ℕ, zero, suc, ◌+◌, ◌-◌, ◌<◌, ◌==◌, true, false, ◌||◌, nat_le, nat_lt, List, [], ◌∷◌, ◌++◌, length, map, get_or, take, drop, drop-cons, Option, Some, None, option_map, unwrap_or, is_some, Ok, if◌then◌else◌, arith}
 use Rattle.std.proofs.lemmas.Bool.Decides.{nat_tests}
+use Rattle.std.proofs.lemmas.List.{length-take-le, take-append-drop}
 use Rattle.std.proofs.lemmas.List.Quantifiers.{position-Some}
 use Rattle.expr.specs.declared.bound.ColumnId.{ColumnId}
 use Rattle.expr.specs.Bound.{BoundExpr, CurrentUser}
@@ -47,14 +48,7 @@ all_left n ons = let e : n + length ons - length ons ≡ n = omega arith in ap (
 -- ---- the condition that turns an entry, in its list
 
 halves : {X : Type 0} (xs : List X) (i : ℕ) (d : X) → i < length xs → xs ≡ take i xs ++ get_or xs i d ∷ drop (suc i) xs
-halves [] i d h = absurd (omega arith)
-halves (x ∷ xs) zero d h = refl
-halves (x ∷ xs) (suc i) d h = ap (λ l. x ∷ l) (halves xs i d (omega arith))
-
-length_taken : {X : Type 0} (xs : List X) (i : ℕ) → i < length xs → length (take i xs) ≡ i
-length_taken [] i h = absurd (omega arith)
-length_taken (x ∷ xs) zero h = refl
-length_taken (x ∷ xs) (suc i) h = ap suc (length_taken xs i (omega arith))
+halves xs i d h = sym (take-append-drop i xs) ∙ ap (λ l. take i xs ++ l) (drop-cons xs i d h)
 
 module _ (frame : List Guard) where
   -- an ON that is the last condition becomes its simplified parts
@@ -80,7 +74,7 @@ module _ (frame : List Guard) where
         let reads : reads_up_to n f ≡ true = and_right (rejects_null_rows (λ k. n == k) f) (reads_up_to n f) found.1 in
         let x = left_joins n (on ∷ ons) (joins n) in
         led_on frame (turning (length es) i (length ons)) (parting_on on) (filters es x) (Filtered on (filters es (left_joins (suc n) ons (joins (suc n))))) _
-        (ap (λ k. led frame (turning (length es) k (length ons)) (filters es x)) (sym (length_taken es i found.0))
+        (ap (λ k. led frame (turning (length es) k (length ons)) (filters es x)) (sym (length-take-le i es (let within = found.0 in omega (arith, within))))
         ∙ ap (λ l. led frame (turning (length l) (length under) (length ons)) (filters l x)) whole
         ∙ turned_one frame n (joins n) on f ons rejects (reads_all n f reads) (reads_all n on on_reads) under after
         ∙ ap (λ l. Ok (Filtered on (filters l (left_joins (suc n) ons (Joined (joins n) (guarded_entry n)))))) (sym whole)

@@ -4,28 +4,27 @@ ghost use Rattle.rewrite.specs.Laws.{PlacesEach, PlansAreAccepted, PlansAreShort
 
 use predicates::law_offsets_keep_value;
 
-/// The steps of simplifying lead from the written term of each query to its planning list over the joins and left joins in the
-/// order of FROM.
+/// The steps of simplifying lead from the written term of a query, in which an entry comes before the left joined ones and no ON of
+/// these names a later entry, to its planning list over the joins in the order of FROM and the left joins that stay such.
 pub fn law_simplifies_each()
     ensures { SimplifiesEach }
 {}
 
-/// The steps that place the conditions of the planning list lead to the shape of every admissible code, where there are no left
-/// joins.
+/// The steps that place the conditions of the planning list lead to the shape of every admissible code.
 pub fn law_places_each()
     ensures { PlacesEach }
 {}
 
-/// The shape of an admissible code means the same bag of combinations as the written term of the query, which has no left
-/// joins, in every content of the tables.
+/// The shape of an admissible code means the same bag of combinations as the written term of the query, in every content of the
+/// tables.
 pub fn law_shapes_mean_same()
     ensures { ShapesMeanSame }
 {
     law_offsets_keep_value();
 }
 
-/// The checker accepts the steps that `simplify` and then `place` make, of every query without left joins within the limits
-/// and every admissible code: at most 2,881 steps.
+/// The checker accepts the steps that `simplify` and then `place` make, of every query within the limits and every admissible
+/// code: at most 4,380 steps.
 pub fn law_plans_are_accepted()
     ensures accepted { PlansAreAccepted }
     ensures short { PlansAreShort }

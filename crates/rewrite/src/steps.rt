@@ -29,17 +29,6 @@ pub(crate) fn further<A: Heap>(
     Ok(path)
 }
 
-/// The path to the node below so many filters.
-pub(crate) fn path_below<A: Heap>(alloc: A, filters: usize) -> Result<Items<Branch, A>, AllocError>
-    ensures { IfOk result (λ p. p ≡ replicate filters Branch.First) }
-{
-    let mut path = Items::new(alloc);
-    for _ in 0..filters {
-        path.push(Branch::First)?;
-    }
-    Ok(path)
-}
-
 /// The path and so many branches more, each below a filter or on the left of a join.
 pub(crate) fn path_further<A: Heap>(
     alloc: A,
@@ -53,6 +42,13 @@ pub(crate) fn path_further<A: Heap>(
         node.push(Branch::First)?;
     }
     Ok(node)
+}
+
+/// The path to the node below so many filters.
+pub(crate) fn path_below<A: Heap>(alloc: A, filters: usize) -> Result<Items<Branch, A>, AllocError>
+    ensures { IfOk result (λ p. p ≡ replicate filters Branch.First) }
+{
+    path_further(alloc, &[], filters)
 }
 
 /// Adds the step by a rule in a direction, without arguments, at the node of the path.

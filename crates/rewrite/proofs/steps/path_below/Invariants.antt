@@ -1,6 +1,0 @@
-use Rattle.std.proofs.Common.{◌≡◌, replicate}
-use Rattle.row_terms.specs.declared.path.Branch.TheVariants.{First}
-use Rattle.rewrite.proofs.steps.path_below.Given as goal
-
-abbrev pub invariant-loop : goal.invariant-loop
-invariant-loop g l = l.path ≡ replicate l.counter First
