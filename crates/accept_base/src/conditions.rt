@@ -30,11 +30,11 @@ fn compared(
     comparison(alloc, op, 0, left?, right)
 }
 
-/// `t = 'x'`.
-pub fn is_x(alloc: Global) -> Copied<Global> {
+/// `t < 'x'`.
+pub fn below_x(alloc: Global) -> Copied<Global> {
     let text: Result<Text<Global>, AllocError> = Text::new(alloc, "x");
     let right = literal(alloc, Ok(Value::Text(text?)));
-    compared(alloc, Comparison::Equal, column(alloc, 2), right)
+    compared(alloc, Comparison::Less, column(alloc, 2), right)
 }
 
 /// A connective of two conditions.

@@ -25,6 +25,8 @@ mod numbers;
 #[cfg(test)]
 mod table_texts;
 #[cfg(test)]
+mod text_conditions;
+#[cfg(test)]
 mod text_lengths;
 #[cfg(test)]
 mod truth_values;

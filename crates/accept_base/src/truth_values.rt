@@ -1,7 +1,7 @@
 //! Truth values of all rows, against those of one row at a time.
 
 use crate::cases::{CASES, Case, truth};
-use crate::conditions::{column, expression, is_x, joined};
+use crate::conditions::{below_x, column, expression, joined};
 use crate::numbers::{LENGTHS, columns, csv, first, second};
 use expr::{Copied, logical_not};
 use lane_filters::truths_of;
@@ -26,7 +26,7 @@ fn is_true_where(
     case: Case,
     want: bool,
 ) -> Result<(), AllocError> {
-    let Some(truths) = truths_of(rt.alloc(), table, &*condition?)? else {
+    let Some(truths) = truths_of(rt.alloc(), table, "r", &*condition?)? else {
         panic!(rt; "{case:?} does not go by lanes");
     };
     assert_eq!(rt;
@@ -60,7 +60,7 @@ fn stays(
     condition: Copied<Global>,
     name: &str,
 ) -> Result<(), AllocError> {
-    let truths = truths_of(rt.alloc(), table, &*condition?)?;
+    let truths = truths_of(rt.alloc(), table, "r", &*condition?)?;
     assert!(rt; truths.is_none(), "{name}");
     Ok(())
 }
@@ -81,11 +81,11 @@ fn other_conditions_stay_row_by_row(rt: HostRuntime) -> Result<(), Fail> {
     let table = table(&rt, 7)?;
     let alloc = rt.alloc();
     let equal = expression(alloc, Case::NoMember);
-    stays(&rt, &table, is_x(alloc), "a comparison of texts")?;
+    stays(&rt, &table, below_x(alloc), "an order of texts")?;
     stays(
         &rt,
         &table,
-        joined(alloc, true, is_x(alloc), equal),
+        joined(alloc, true, below_x(alloc), equal),
         "one member of two",
     )?;
     stays(&rt, &table, column(alloc, 0), "a column")?;

@@ -28,12 +28,12 @@ const LISTS: &str = "\
 64 | SELECT count(*) FROM region GROUP BY id{, id} | refused 54000~
 63 | SELECT id FROM region ORDER BY id{, id} | id~1~2~\\N~
 64 | SELECT id FROM region ORDER BY id{, id} | refused 54000~
-7 | SELECT count(*) FROM region a{, region r#} | count~6561~
-8 | SELECT count(*) FROM region a{, region r#} | refused 54000~
-7 | SELECT count(*) FROM region a{ CROSS JOIN region r#} | count~6561~
-8 | SELECT count(*) FROM region a{ CROSS JOIN region r#} | refused 54000~
-7 | SELECT count(*) FROM region a{ JOIN region r# ON a.id = r#.id} | count~2~
-8 | SELECT count(*) FROM region a{ JOIN region r# ON a.id = r#.id} | refused 54000~
+11 | SELECT count(*) FROM region a{, region r#} | count~531441~
+12 | SELECT count(*) FROM region a{, region r#} | refused 54000~
+11 | SELECT count(*) FROM region a{ CROSS JOIN region r#} | count~531441~
+12 | SELECT count(*) FROM region a{ CROSS JOIN region r#} | refused 54000~
+11 | SELECT count(*) FROM region a{ JOIN region r# ON a.id = r#.id} | count~2~
+12 | SELECT count(*) FROM region a{ JOIN region r# ON a.id = r#.id} | refused 54000~
 62 | SELECT r.id FROM region r JOIN region s ON r.id = s.id WHERE r.id = 1{ AND r.id = 1} | id~1~
 63 | SELECT r.id FROM region r JOIN region s ON r.id = s.id WHERE r.id = 1{ AND r.id = 1} | refused 54000~
 ";

@@ -1,7 +1,8 @@
 //! Texts that are drawn from a seed, most of them with left joins: what explains each is accepted by the audit.
 
 use fixture_plans::Random;
-use fixtures::{audited, explained, sales};
+use fixtures::{FixtureError, SALES, SALES_REGIONS, audited, explained, load, sales, store_of};
+use memory::Failure;
 use std::alloc::{AllocError, AllocGlobal, Global};
 use std::process::Abort;
 use std::test::Fail;
@@ -178,5 +179,44 @@ fn what_explains_is_accepted(rt: HostRuntime) -> Result<(), Fail> {
     assert!(&rt; turned >= 50, "{turned}");
     let turned = explain_all(&rt, &store, "alice", 100, 69)?;
     assert!(&rt; turned >= 10, "{turned}");
+    Ok(())
+}
+
+// The store of sales with alice's deals alone.
+fn sales_of_alice(alloc: Global) -> Result<Box<Store<Global>, Global>, Failure<FixtureError>> {
+    let mut store = store_of(alloc, SALES)?;
+    load(
+        &mut store,
+        "deal",
+        "id,owner,region,amount,parts\n1,alice,1,100,4\n2,alice,2,50,0\n5,alice,\\N,100,5\n",
+    )?;
+    load(&mut store, "region", SALES_REGIONS)?;
+    Ok(store)
+}
+
+// The lines of a plan before its trail.
+fn before_trail(plan: &[u8]) -> &str {
+    let text = std::str::from_utf8(plan).unwrap_or("no UTF-8");
+    match text.split_once("\ntrail") {
+        Some((lines, _)) => lines,
+        None => text,
+    }
+}
+
+// The plan of a text of alice is that of a role that sees every row where hers are all there are; its trail has steps for her guards.
+#[test]
+fn plan_is_that_of_the_rows_that_the_role_sees(rt: HostRuntime) -> Result<(), Fail> {
+    let store = sales(rt.alloc())?;
+    let own = sales_of_alice(rt.alloc())?;
+    let mut random = Random::new(2009);
+    for _ in 0..200 {
+        let (text, _) = drawn(rt.alloc(), &mut random)?;
+        let (status, one) = explained(rt.alloc(), &store, "alice", text.as_str());
+        let (same, two) = explained(rt.alloc(), &own, "audit", text.as_str());
+        assert_eq!(&rt; status, 0, "{text}");
+        assert_eq!(&rt; same, 0, "{text}");
+        let alike = before_trail(one.inner.as_slice()) == before_trail(two.inner.as_slice());
+        assert!(&rt; alike, "{text}");
+    }
     Ok(())
 }

@@ -2,7 +2,7 @@
 
 use crate::rows::fields;
 use crate::stores::{ids, indexed_sales};
-use fixtures::{FixtureError, SALES, audited, explained, load, sales, store_of};
+use fixtures::{FixtureError, SALES, SALES_REGIONS, audited, explained, load, sales, store_of};
 use memory::Failure;
 use std::alloc::{AllocError, AllocGlobal, Global};
 use std::process::Abort;
@@ -10,24 +10,25 @@ use std::test::Fail;
 use store::Store;
 
 // A role, its query, and the status with the lines that explain it, up to the trail; ` | ` between them, and ` / ` for an LF. The
-// costs are worked out by hand from the statistics: five deals with ids 1 to 5, of two owners and two regions; three regions, of
-// which one has no id.
+// costs are worked out by hand from the statistics: five deals with ids 1 to 5, of two owners and two regions, of which alice sees
+// three and guest none; three regions, of which one has no id.
 const JOINS: &str = "\
 audit | SELECT d.id FROM deal d, region r WHERE d.region = r.id | 0 cost 19 / filter 1 (d.region = r.id) / first d full / hash 1 r full / trail
 root | SELECT d.id FROM deal d, region r WHERE d.region = r.id | 0 cost 19 / filter 1 (d.region = r.id) / first d full / hash 1 r full / trail
-alice | SELECT d.id FROM deal d, region r WHERE d.region = r.id | 0 cost 2009 / filter 1 (d.region = r.id) / first d full / hash 1 r full / trail
+alice | SELECT d.id FROM deal d, region r WHERE d.region = r.id | 0 cost 15 / filter 1 (d.region = r.id) / first d full / nested r full / trail
 audit | SELECT d.id FROM deal d JOIN region r ON d.region = r.id | 0 cost 19 / filter 1 (d.region = r.id) / first d full / hash 1 r full / trail
 audit | SELECT d.id FROM deal d, region r WHERE d.region = r.id AND r.id = 1 | 0 cost 10 / filter 1 (d.region = r.id) / filter 2 (r.id = 1) / filter 3 (d.region = 1) / first d full / nested r full / trail
 audit | SELECT d.id FROM deal d JOIN region r ON d.region = r.id JOIN region s ON r.id = s.id | 0 cost 34 / filter 1 (d.region = r.id) / filter 2 (r.id = s.id) / first r full / nested s full / hash 1 d full / trail
 audit | SELECT a.id FROM deal a, deal b WHERE a.id = b.id | 0 cost 25 / filter 1 (a.id = b.id) / first a full / hash 1 b full / trail
-alice | SELECT a.id FROM deal a, deal b WHERE a.id = b.id | 0 cost 5000 / filter 1 (a.id = b.id) / first a full / hash 1 b full / trail
+alice | SELECT a.id FROM deal a, deal b WHERE a.id = b.id | 0 cost 15 / filter 1 (a.id = b.id) / first a full / nested b full / trail
+guest | SELECT a.id FROM deal a, deal b WHERE a.id = b.id | 0 cost 1 / filter 1 (a.id = b.id) / first a full / nested b full / trail
 audit | SELECT d.id FROM deal d CROSS JOIN region r | 0 cost 23 / first d full / nested r full / trail
 ";
 
 const SINGLE: &str = "\
 audit | SELECT id FROM deal | 0 cost 5 / first deal full / trail
-alice | SELECT id FROM deal | 0 cost 1000 / first deal full / trail
-guest | SELECT id FROM deal | 0 cost 1000 / first deal full / trail
+alice | SELECT id FROM deal | 0 cost 3 / first deal full / trail
+guest | SELECT id FROM deal | 0 cost 0 / first deal full / trail
 alice | SELECT id FROM region | 0 cost 3 / first region full / trail
 audit | SELECT id FROM deal WHERE NOT (id IN (1, 2) OR owner IS NULL) | 0 cost 5 / filter 1 (deal.id NOT IN (1, 2)) / filter 2 (deal.owner IS NOT NULL) / first deal full / trail
 audit | SELECT id FROM deal WHERE amount/parts > 1 AND id = 3 | 0 cost 5 / filter 1 (deal.id = 3) / first deal full / trail
@@ -49,7 +50,7 @@ audit | SELECT d.id, r.id AS r FROM deal d LEFT JOIN region r ON d.region = r.id
 audit | SELECT d.id FROM deal d LEFT JOIN region r ON TRUE | 0 cost 23 / on r TRUE / first d full / left nested r full / trail
 audit | SELECT d.id, r.id AS r FROM deal d LEFT JOIN region r ON FALSE ORDER BY id LIMIT 2 | 0 cost 38 / on r FALSE / first d full / left nested r full / sort d.id / trail
 audit | SELECT d.id, r.name FROM deal d LEFT JOIN region r ON d.region = r.id ORDER BY id | 0 cost 40 / on r (d.region = r.id) / first d full / left hash 1 r full / sort d.id / trail
-alice | SELECT r.id, d.id AS k FROM region r LEFT JOIN deal d ON r.id = d.region | 0 cost 3006 / on d (r.id = d.region) / first r full / left hash 1 d full / trail
+alice | SELECT r.id, d.id AS k FROM region r LEFT JOIN deal d ON r.id = d.region | 0 cost 15 / on d (r.id = d.region) / first r full / left nested d full / trail
 ";
 
 // Left joins that become inner, by a condition that is true on no null row.
@@ -77,7 +78,7 @@ audit | SELECT r.name, count(*) AS n FROM deal d JOIN region r ON d.region = r.i
 // Over an index on the deals' id.
 const INDEXED: &str = "\
 audit | SELECT id FROM deal WHERE id = 3 | 0 cost 3 / filter 1 (deal.id = 3) / first deal index id by 1 / trail
-alice | SELECT id FROM deal WHERE id = 3 | 0 cost 201 / filter 1 (deal.id = 3) / first deal index id by 1 / trail
+alice | SELECT id FROM deal WHERE id = 3 | 0 cost 3 / filter 1 (deal.id = 3) / first deal full / trail
 audit | SELECT id FROM deal WHERE id < 3 | 0 cost 5 / filter 1 (deal.id < 3) / first deal full / trail
 audit | SELECT id FROM deal ORDER BY id | 0 cost 10 / first deal index id / trail
 audit | SELECT id, count(*) AS n FROM deal GROUP BY id | 0 cost 10 / first deal index id / trail
@@ -94,14 +95,42 @@ lone | SELECT id FROM deal | 4 denied 42501 column id of table deal
 guest | SELECT owner FROM deal | 4 denied 42501 column owner of table deal
 ";
 
-// A policy that shows every row is a guard all the same.
+// A policy that shows every row lets a role count them all.
 const OPEN_POLICY: &str = "\
 root | SELECT id FROM t | 0 cost 2 / first t full / trail
-reader | SELECT id FROM t | 0 cost 1000 / first t full / trail
+reader | SELECT id FROM t | 0 cost 2 / first t full / trail
 ";
 
 const OPEN_SCHEMA: &str = "CREATE ROLE reader; CREATE TABLE t (id bigint);
 ALTER TABLE t ENABLE ROW LEVEL SECURITY; CREATE POLICY p ON t USING (TRUE); GRANT SELECT ON t TO reader;";
+
+// Tables with the same six rows, each with a policy of its own: one sees two rows of lanes and of cases, and four of the others, three
+// with a number; two sees two rows of each but of cases, and of texts four; three sees those of lanes and texts.
+const GUARDS: &str = "\
+one | SELECT id FROM lanes | 0 cost 2 / first lanes full / trail
+one | SELECT id FROM texts | 0 cost 4 / first texts full / trail
+one | SELECT id FROM cases | 0 cost 2 / first cases full / trail
+one | SELECT id FROM own | 0 cost 4 / first own full / trail
+two | SELECT id FROM own | 0 cost 2 / first own full / trail
+three | SELECT id FROM own | 0 cost 0 / first own full / trail
+one | SELECT id FROM own WHERE id = 2 | 0 cost 3 / filter 1 (own.id = 2) / first own index id by 1 / trail
+two | SELECT id FROM own WHERE id = 2 | 0 cost 2 / filter 1 (own.id = 2) / first own full / trail
+one | SELECT id FROM own ORDER BY id | 0 cost 8 / first own index id / trail
+two | SELECT id FROM own ORDER BY id | 0 cost 4 / first own index id / trail
+three | SELECT o.id FROM own o, lanes l WHERE o.id = l.id | 0 cost 4 / filter 1 (o.id = l.id) / first o full / nested l full / trail
+";
+
+const GUARDS_SCHEMA: &str = "CREATE ROLE one; CREATE ROLE two; CREATE ROLE three;
+CREATE TABLE lanes (id bigint, owner text); ALTER TABLE lanes ENABLE ROW LEVEL SECURITY; GRANT SELECT ON lanes TO PUBLIC;
+CREATE POLICY p ON lanes USING (id < 3);
+CREATE TABLE texts (id bigint, owner text); ALTER TABLE texts ENABLE ROW LEVEL SECURITY; GRANT SELECT ON texts TO PUBLIC;
+CREATE POLICY p ON texts USING (owner = 'one');
+CREATE TABLE cases (id bigint, owner text); ALTER TABLE cases ENABLE ROW LEVEL SECURITY; GRANT SELECT ON cases TO PUBLIC;
+CREATE POLICY p ON cases USING (CASE WHEN owner = CURRENT_USER THEN id > 1 ELSE FALSE END);
+CREATE TABLE own (id bigint, owner text); ALTER TABLE own ENABLE ROW LEVEL SECURITY; GRANT SELECT ON own TO PUBLIC;
+CREATE POLICY p ON own USING (owner = CURRENT_USER); CREATE INDEX own_id ON own (id);";
+
+const GUARDED_ROWS: &str = "id,owner\n1,one\n2,one\n3,two\n4,one\n5,two\n\\N,one\n";
 
 // The two tables with ids 1 to 1000, and an index on each id.
 const THOUSANDS: &str = "\
@@ -252,7 +281,7 @@ fn refusals_and_denials_come_first(rt: HostRuntime) -> Result<(), Fail> {
 }
 
 #[test]
-fn policy_that_shows_every_row_hides_the_statistics(rt: HostRuntime) -> Result<(), Fail> {
+fn policy_that_shows_every_row_lets_them_be_counted(rt: HostRuntime) -> Result<(), Fail> {
     let mut store = store_of(rt.alloc(), OPEN_SCHEMA)?;
     load(&mut store, "t", "id\n1\n2\n")?;
     Ok(explain_all(&rt, &store, OPEN_POLICY)?)
@@ -265,27 +294,45 @@ fn orders_of_indexes_and_merges_are_worth_their_cost(rt: HostRuntime) -> Result<
 }
 
 #[test]
-fn hidden_rows_change_no_byte(rt: HostRuntime) -> Result<(), Fail> {
+fn guards_of_each_kind_let_their_rows_be_counted(rt: HostRuntime) -> Result<(), Fail> {
+    let mut store = store_of(rt.alloc(), GUARDS_SCHEMA)?;
+    load(&mut store, "lanes", GUARDED_ROWS)?;
+    load(&mut store, "texts", GUARDED_ROWS)?;
+    load(&mut store, "cases", GUARDED_ROWS)?;
+    load(&mut store, "own", GUARDED_ROWS)?;
+    Ok(explain_all(&rt, &store, GUARDS)?)
+}
+
+// A text of alice is explained by the same bytes over these deals as over those of sales.
+fn explained_alike(rt: &(impl Abort + AllocGlobal), deals: &str) -> Result<(), Fail> {
     let alloc = rt.alloc();
     let query =
         "SELECT d.id FROM deal d, region r WHERE d.region = r.id AND d.id < 100 ORDER BY id";
     let full = sales(alloc)?;
     let mut other = store_of(alloc, SALES)?;
-    load(
-        &mut other,
-        "deal",
-        "id,owner,region,amount,parts\n900,bob,7,1,1\n",
-    )?;
-    load(
-        &mut other,
-        "region",
-        "id,name\n1,north\n2,south\n\\N,none\n",
-    )?;
+    load(&mut other, "deal", deals)?;
+    load(&mut other, "region", SALES_REGIONS)?;
     let (status, one) = explained(alloc, &full, "alice", query);
     let (same, two) = explained(alloc, &other, "alice", query);
-    assert_eq!(&rt; status, 0);
-    assert_eq!(&rt; same, 0);
-    assert!(&rt; one.inner.len() > 100);
-    assert_eq!(&rt; one.inner.as_slice(), two.inner.as_slice());
+    assert_eq!(rt; status, 0);
+    assert_eq!(rt; same, 0);
+    assert!(rt; one.inner.len() > 100);
+    assert_eq!(rt; one.inner.as_slice(), two.inner.as_slice());
     Ok(())
+}
+
+#[test]
+fn hidden_rows_change_no_byte(rt: HostRuntime) -> Result<(), Fail> {
+    explained_alike(
+        &rt,
+        "id,owner,region,amount,parts\n900,bob,7,1,1\n5,alice,\\N,100,5\n2,alice,2,50,0\n1,alice,1,100,4\n",
+    )
+}
+
+#[test]
+fn columns_that_are_not_named_change_no_byte(rt: HostRuntime) -> Result<(), Fail> {
+    explained_alike(
+        &rt,
+        "id,owner,region,amount,parts\n1,alice,1,7,7\n2,alice,2,8,7\n5,alice,\\N,9,\\N\n",
+    )
 }

@@ -104,7 +104,7 @@ fn run_bound(
     let ([role, _, code, want], _) = fields(line);
     let setting = made_setting(rt.alloc(), store.catalog(), role, bound, "")?;
     let code = made_code(rt, code)?;
-    accepts(rt, &setting, bound, &code, 4380)?;
+    accepts(rt, &setting, bound, &code, 5505)?;
     let found = count(rt, store, role, &setting, bound, &code)?;
     assert!(rt; want.parse::<usize>() == Ok(found), "{line}");
     Ok(())
@@ -146,20 +146,20 @@ fn plans_are_accepted_and_run(rt: HostRuntime) -> Result<(), Fail> {
     Ok(())
 }
 
-// A query of eight entries in a chain, with 64 conjuncts.
+// A query of twelve entries in a chain, with 64 conjuncts.
 fn greatest_query(alloc: Global) -> Result<String, AllocError> {
     let mut text = String::new(alloc);
     text.push_str("SELECT t1.id FROM deal t1")?;
-    for entry in 2..9 {
+    for entry in 2..13 {
         write!(text, ", deal t{entry}")?;
     }
     text.push_str(" WHERE t1.id = t2.id")?;
-    for entry in 2..8 {
+    for entry in 2..12 {
         let next = entry + 1;
         write!(text, " AND t{entry}.id = t{next}.id")?;
     }
-    for number in 0..57 {
-        let entry = number % 8 + 1;
+    for number in 0..53 {
+        let entry = number % 12 + 1;
         write!(text, " AND NOT t{entry}.parts < {number}")?;
     }
     Ok(text)
@@ -177,7 +177,7 @@ fn accepts_greatest(
     let setting = made_setting(rt.alloc(), store.catalog(), "root", &bound, "")?;
     assert!(rt; setting.conditions.len() == 64, "not 64 conditions");
     let code = made_code(rt, code)?;
-    accepts(rt, &setting, &bound, &code, 4380)
+    accepts(rt, &setting, &bound, &code, 5505)
 }
 
 #[test]
@@ -189,9 +189,11 @@ fn trails_of_the_greatest_query_are_accepted(rt: HostRuntime) -> Result<(), Fail
     let Ok(query) = parse_query(rt.alloc(), text.as_str()) else {
         panic!(rt; "no query");
     };
-    let written = "1 f n, 2 f n, 3 f n, 4 f n, 5 f n, 6 f n, 7 f n, 8 f n";
+    let written =
+        "1 f n, 2 f n, 3 f n, 4 f n, 5 f n, 6 f n, 7 f n, 8 f n, 9 f n, 10 f n, 11 f n, 12 f n";
     accepts_greatest(&rt, &store, &query, written)?;
-    let turned = "8 f n, 7 f n, 6 f n, 5 f n, 4 f n, 3 f n, 2 f n, 1 f n";
+    let turned =
+        "12 f n, 11 f n, 10 f n, 9 f n, 8 f n, 7 f n, 6 f n, 5 f n, 4 f n, 3 f n, 2 f n, 1 f n";
     accepts_greatest(&rt, &store, &query, turned)?;
     Ok(())
 }

@@ -324,14 +324,14 @@ id,second,third
 4,3,3
 4,4,3
 
--- eight_entries
-lone: SELECT h.name FROM region a, region b, region c, region d, region e, region f, region g, region h WHERE a.id = 1 AND b.id = 2 AND c.id = 1 AND d.id = 2 AND e.id = 1 AND f.id = 2 AND g.id = 1 AND h.id > g.id
+-- twelve_entries
+lone: SELECT h.name FROM region a, region b, region c, region d, region e, region f, region g, region h, region i, region j, region k, region l WHERE a.id = 1 AND b.id = 2 AND c.id = 1 AND d.id = 2 AND e.id = 1 AND f.id = 2 AND g.id = 1 AND h.id > g.id AND i.id = 2 AND j.id = 1 AND k.id = 2 AND l.id = 1
 0
 name
 south
 
--- nine_entries
-lone: SELECT 1 FROM region a, region b, region c, region d, region e, region f, region g, region h, region i
+-- thirteen_entries
+lone: SELECT 1 FROM region a, region b, region c, region d, region e, region f, region g, region h, region i, region j, region k, region l, region m
 3
 refused 54000
 ";
@@ -828,9 +828,14 @@ guest: SELECT * FROM region r LEFT JOIN deal d ON r.id = d.id
 denied 42501 column owner of table deal
 
 -- entries_of_left_joins_are_limited
-audit: SELECT count(*) FROM region a LEFT JOIN region b1 ON FALSE LEFT JOIN region b2 ON FALSE LEFT JOIN region b3 ON FALSE LEFT JOIN region b4 ON FALSE LEFT JOIN region b5 ON FALSE LEFT JOIN region b6 ON FALSE LEFT JOIN region b7 ON FALSE LEFT JOIN region b8 ON FALSE
+audit: SELECT count(*) FROM region a LEFT JOIN region b1 ON FALSE LEFT JOIN region b2 ON FALSE LEFT JOIN region b3 ON FALSE LEFT JOIN region b4 ON FALSE LEFT JOIN region b5 ON FALSE LEFT JOIN region b6 ON FALSE LEFT JOIN region b7 ON FALSE LEFT JOIN region b8 ON FALSE LEFT JOIN region b9 ON FALSE LEFT JOIN region b10 ON FALSE LEFT JOIN region b11 ON FALSE LEFT JOIN region b12 ON FALSE
 3
 refused 54000
+
+audit: SELECT count(*) FROM region a LEFT JOIN region b1 ON FALSE LEFT JOIN region b2 ON FALSE LEFT JOIN region b3 ON FALSE LEFT JOIN region b4 ON FALSE LEFT JOIN region b5 ON FALSE LEFT JOIN region b6 ON FALSE LEFT JOIN region b7 ON FALSE LEFT JOIN region b8 ON FALSE LEFT JOIN region b9 ON FALSE LEFT JOIN region b10 ON FALSE LEFT JOIN region b11 ON a.id = 1
+0
+count
+5
 
 -- conjuncts_of_left_joins_are_limited
 audit: SELECT count(*) FROM region a LEFT JOIN region b ON a.id = b.id AND a.id = b.id AND a.id = b.id AND a.id = b.id AND a.id = b.id AND a.id = b.id AND a.id = b.id AND a.id = b.id AND a.id = b.id AND a.id = b.id AND a.id = b.id AND a.id = b.id AND a.id = b.id AND a.id = b.id AND a.id = b.id AND a.id = b.id AND a.id = b.id AND a.id = b.id AND a.id = b.id AND a.id = b.id AND a.id = b.id AND a.id = b.id AND a.id = b.id AND a.id = b.id AND a.id = b.id AND a.id = b.id AND a.id = b.id AND a.id = b.id AND a.id = b.id AND a.id = b.id AND a.id = b.id AND a.id = b.id AND a.id = b.id WHERE a.id > 0 AND a.id > 0 AND a.id > 0 AND a.id > 0 AND a.id > 0 AND a.id > 0 AND a.id > 0 AND a.id > 0 AND a.id > 0 AND a.id > 0 AND a.id > 0 AND a.id > 0 AND a.id > 0 AND a.id > 0 AND a.id > 0 AND a.id > 0 AND a.id > 0 AND a.id > 0 AND a.id > 0 AND a.id > 0 AND a.id > 0 AND a.id > 0 AND a.id > 0 AND a.id > 0 AND a.id > 0 AND a.id > 0 AND a.id > 0 AND a.id > 0 AND a.id > 0 AND a.id > 0 AND a.id > 0 AND a.id > 0

@@ -110,8 +110,8 @@ static REFUSALS: [Request; 3] = [
     },
 ];
 
-// Plans of joins. With a condition on the region it has one row: a pass over 1,000 deals that are not known, and 1,000 pairs with 3
-// steps to read the regions.
+// Plans of joins. Of the deals alice sees three. With a condition on the region it has one row: 3 steps read the deals, 3 the regions,
+// and there are three pairs.
 static PLANS: [Request; 4] = [
     Request {
         role: "audit",
@@ -125,14 +125,14 @@ static PLANS: [Request; 4] = [
         text: JOIN,
         asked: Asked::Plan,
         status: 0,
-        written: "cost 2009\nfilter 1 (d.region = r.id)\nfirst d full\nhash 1 r full\ntrail\n",
+        written: "cost 15\nfilter 1 (d.region = r.id)\nfirst d full\nnested r full\ntrail\n",
     },
     Request {
         role: "alice",
         text: "SELECT d.id FROM deal d, region r WHERE d.region = r.id AND r.name = 'north'",
         asked: Asked::Plan,
         status: 0,
-        written: "cost 2003\nfilter 1 (d.region = r.id)\nfilter 2 (r.name = 'north')\nfirst d full\nnested r full\ntrail\n",
+        written: "cost 9\nfilter 1 (d.region = r.id)\nfilter 2 (r.name = 'north')\nfirst d full\nnested r full\ntrail\n",
     },
     Request {
         role: "audit",

@@ -54,22 +54,22 @@ const NESTED: CodeStep = CodeStep {
     method: Method::Nested,
 };
 
-// Alice sees three of five deals, two of them with a region: 5 steps read the deals, 3 the regions, 3 + 2 * 3 go to the hash table, and
-// two pairs have equal keys. With one region that is wanted there are three pairs. Audit sees all, with four such pairs.
+// Alice sees three of five deals, two of them with a region: 5 steps read the deals, 3 the regions, and there are nine pairs. With one
+// region that is wanted there are three pairs. Audit sees all: 5 + 2 * 3 steps go to the hash table, and four pairs have equal keys.
 static PLANNED: [Planned; 3] = [
     Planned {
         role: "alice",
         text: "SELECT d.id, r.name FROM deal d, region r WHERE d.region = r.id",
-        code: [DEALS, HASHED],
-        cost: 2009,
+        code: [DEALS, NESTED],
+        cost: 15,
         combinations: 2,
-        work: 19,
+        work: 17,
     },
     Planned {
         role: "alice",
         text: "SELECT d.amount/d.parts FROM deal d, region r WHERE d.region = r.id AND r.name = 'north'",
         code: [DEALS, NESTED],
-        cost: 2003,
+        cost: 9,
         combinations: 1,
         work: 11,
     },
@@ -103,18 +103,19 @@ fn contents<'s, A: Heap>(
     Ok(all)
 }
 
-// The statistics of the tables of which every row is seen, and the unknown ones of the others.
+// The columns of deals, and more than regions have.
+const COLUMNS: [usize; 5] = [0, 1, 2, 3, 4];
+
+// Of each entry the statistics of the rows that the role sees.
 fn statistics<A: Heap>(
     alloc: A,
     rows: &[&Table<A>],
     frame: &[Guard<A>],
+    role: &str,
 ) -> Result<Items<Stats<A>, A>, AllocError> {
     let mut all = Items::new(alloc);
     for (table, guard) in rows.iter().zip(frame.iter()) {
-        all.push(match guard {
-            Guard::All => Stats::of(alloc, table)?,
-            Guard::None | Guard::Expr(_) => Stats::unknown(),
-        })?;
+        all.push(Stats::of_seen(alloc, table, guard, role, &COLUMNS)?)?;
     }
     Ok(all)
 }
@@ -144,7 +145,7 @@ fn searched<A: Heap>(
     setting: &Setting<A>,
     planned: &Planned,
 ) -> Result<Code<A>, AllocError> {
-    let statistics = statistics(alloc, rows, setting.frame.as_slice())?;
+    let statistics = statistics(alloc, rows, setting.frame.as_slice(), planned.role)?;
     let lent = lent(alloc, statistics.as_slice())?;
     assert!(rt;
         lent.len() == setting.frame.len(),

@@ -97,8 +97,8 @@ change 0 GRANT SELECT ON deal => refused 42601 at 20
 ask 0 SELECT 1 FROM deal WHERE id = 'x' => refused 42804 at 28
 ask 0 SELECT nosuch FROM deal => refused 42703 at 7
 ask 0 SELECT id FROM deal, region => refused 42702 at 7
-ask 0 SELECT a.id FROM region a, region b, region c, region d, region e, region f, region g, region h, region i => refused 54000
-prepare 0 p SELECT a.id FROM region a, region b, region c, region d, region e, region f, region g, region h, region i => refused 54000
+ask 0 SELECT a.id FROM region a, region b, region c, region d, region e, region f, region g, region h, region i, region j, region k, region l, region m => refused 54000
+prepare 0 p SELECT a.id FROM region a, region b, region c, region d, region e, region f, region g, region h, region i, region j, region k, region l, region m => refused 54000
 execute 0 p => refused 26000
 ask 0 SELECT amount / parts FROM deal => fault 22012 at 14
 ask 0 SELECT id FROM deal => id / 1 / 2 / 3 / 4 / 5

@@ -71,7 +71,7 @@ static REQUESTS: [Request; 8] = [
     Request {
         text: "SELECT id FROM deal WHERE id = 3 ORDER BY id",
         asked: Asked::Plan,
-        written: "cost 1700\nfilter 1 (deal.id = 3)\nfirst deal full\nsort deal.id\ntrail\n13 .\n14 .\n8 .\n",
+        written: "cost 3\nfilter 1 (deal.id = 3)\nfirst deal full\nsort deal.id\ntrail\n13 .\n14 .\n8 .\n",
         status: 0,
     },
     Request {

@@ -1,6 +1,7 @@
 -- The plan that explains a text is accepted by its audit.
-use Rattle.std.proofs.Common.{◌≡◌, ◌<◌, ◌≤◌, ◌+◌, ◌^◌, ℕ, zero, suc, Bool, true, false, cond, if◌then◌else◌, List, [], ◌∷◌, map, filter, length, option_map, Some, Result, Ok, Err, slice_index_or, refl, ap, subst, ◌∙◌, arith}
+use Rattle.std.proofs.Common.{◌≡◌, ◌<◌, ◌≤◌, ◌+◌, ◌^◌, ℕ, zero, suc, Bool, true, false, not, cond, if◌then◌else◌, List, [], ◌∷◌, map, filter, length, option_map, Some, Result, Ok, Err, slice_index_or, refl, ap, subst, ◌∙◌, arith}
 use Rattle.std.specs.List.{All, AllByRecursion, IsDistinct, sum_by}
+use Rattle.std.proofs.lemmas.List.Filters.{length-filter_both}
 use Rattle.std.proofs.lemmas.List.Sums.{sum_by-cons}
 use Rattle.value.specs.Limits.{most_conjuncts}
 use Rattle.std.specs.Str.{IsUtf8, bytes_eq}
@@ -8,6 +9,7 @@ use Rattle.std.proofs.lemmas.List.{length-map}
 use Rattle.std.proofs.lemmas.List.Elements.{recursion_from_All}
 use Rattle.std.proofs.lemmas.Option.{slice_get_within}
 use Rattle.value.specs.Names.{Name}
+use Rattle.value.specs.Restricted.{restricted}
 use Rattle.expr.specs.Bound.{BoundExpr, Column, Literal, CurrentUser, Negate, Arithmetic, Comparison, Between, In, IsNull, Not, And, Or, Cast, Case, CountStar, Call, BoundExprs, no_expr, one_expr}
 use Rattle.expr.specs.BoundQuery.{BoundQuery}
 use Rattle.expr.specs.Codes.{Code}
@@ -18,10 +20,10 @@ use Rattle.predicates.specs.Offsets.{without_offset, without_offsets}
 use Rattle.predicates.specs.Rebuilt.{all_rebuilt}
 use Rattle.expr.specs.NamedColumns.{named_columns}
 use Rattle.expr.specs.declared.bound.ColumnId.{ColumnId}
-use Rattle.row_objects.specs.Objects.{Table}
 use Rattle.scope.specs.Entry.{Entry}
 use Rattle.catalog.specs.Catalog.{Catalog}
 use Rattle.catalog_laws.specs.WellFormed.{IsWellFormed}
+use Rattle.access.specs.Access.{sees, visible}
 use Rattle.access.specs.Guards.{guard}
 use Rattle.stats.specs.Statistics.{Stats, Unknown, row_count}
 use Rattle.algebra.specs.PlanningList.{planning_list, remaining_lefts}
@@ -47,17 +49,21 @@ use Rattle.syntax.specs.Tables.{HaveTables}
 use Rattle.resolve.specs.EntryTables.{AreTables}
 use Rattle.resolve.specs.Resolved.{Bound}
 use Rattle.replies.specs.Reply.{Reply}
+use Rattle.report.specs.Restricted.{columns_at}
+use Rattle.store.specs.Database.{Rows}
 use Rattle.store.specs.Derived.{column_number}
 use Rattle.analysis.specs.Analysis.{admitted}
 use Rattle.query_laws.specs.Admitted.{IsGranted, NamedAreGranted}
 use Rattle.engine.specs.Audits.{Judged, admitted_audit, audit_of, judged}
+use Rattle.engine.specs.Answer.{seen}
 use Rattle.engine.specs.Explained.{best_text, explained_query, plan_with, problem, text_if_found, trail}
+use Rattle.engine.specs.SeenStatistics.{entry_statistics, planned_columns, seen_statistics}
 use Rattle.engine.specs.Settings.{setting}
 use Rattle.engine.proofs.OfText as of_text
 use Rattle.engine.proofs.FewConjuncts.{member_count}
 use Rattle.engine.proofs.OfText.{setting_of_query, text_conjuncts, text_entries, text_few, text_lefts, text_members, text_tables}
 use Rattle.plan_laws.specs.Names.{AreNames}
-use Rattle.audit_laws.specs.ExplainedPlans.{ExplainedAreAccepted, ExplainedArePlans, HasCounts}
+use Rattle.audit_laws.specs.ExplainedPlans.{AreFew, ExplainedAreAccepted, ExplainedArePlans}
 use Rattle.audit_laws.proofs.EntryNames.{admitted_aliases_differ, column_named, columns_few, entry_named, index_named, small_number, unmistakable}
 use Rattle.plan_laws.proofs.SoundPlans.{Facts, filters_each, is_right, ons_each, plan_is, trail_accepted}
 
@@ -73,20 +79,25 @@ best_there : BestIsThere → HaveTables → (cat : Catalog) (role : Name) (text 
 best_there there have cat role text b counts is = there (problem cat role b counts) (let l = left_joined_few have cat role text b is in omega (arith, l))
 
 pub explained_are_plans : BestIsThere → HaveTables → ExplainedArePlans
-explained_are_plans there have cat statistics role text b is =
-    let counts : List Stats = map (λ (e : Entry). statistics e.table) b.entries in
+explained_are_plans there have cat rows role text b is =
+    let counts : List Stats = seen_statistics cat rows role b in
     let it = best_there there have cat role text b counts is in (
       plan_with cat role b counts it.0,
       ap (option_map (plan_with cat role b counts)) it.1,
-      ap (explained_query cat statistics role) is ∙ ap (λ o. let r : Result (List ℕ) Reply = Ok (text_if_found b.entries (option_map (plan_with cat role b counts) o)) in r) it.1,
+      ap (explained_query cat rows role) is ∙ ap (λ o. let r : Result (List ℕ) Reply = Ok (text_if_found b.entries (option_map (plan_with cat role b counts) o)) in r) it.1,
     )
 
 -- ---- the counts of rows
 
-rows_few : (statistics : Table → Stats) → HasCounts statistics → (es : List Entry) (i : ℕ) → row_count (slice_index_or (map (λ (e : Entry). statistics e.table) es) i Unknown) < 2 ^ 64
-rows_few statistics few [] i = omega arith
-rows_few statistics few (e ∷ es) zero = few e.table
-rows_few statistics few (e ∷ es) (suc i) = rows_few statistics few es i
+-- no more rows are seen than there are
+rows_few : (cat : Catalog) (role : Name) (rows : Rows) → AreFew rows → (q : BoundQuery) (n : ℕ) (es : List Entry) (i : ℕ) → row_count (slice_index_or (entry_statistics q n es (seen cat rows role es)) i Unknown) < 2 ^ 64
+rows_few cat role rows few q n [] i = omega arith
+rows_few cat role rows few q n (e ∷ es) zero =
+    let all = rows e.table.name in
+    let part = length-filter_both (sees cat role e.table) (λ row. not (sees cat role e.table row)) (λ row. refl) all in
+    let same = length-map (visible cat role e.table all) (restricted (columns_at n (planned_columns q))) in
+    omega (arith, part, same, few e.table.name)
+rows_few cat role rows few q n (e ∷ es) (suc i) = rows_few cat role rows few q (n + 1) es i
 
 -- ---- the columns that are named
 
@@ -186,9 +197,9 @@ module _ (laws : Laws) where
       query = granted_columns cat role b.entries (named_columns b.query) (recursion_from_All (IsGranted cat role b.entries) (named_columns b.query) (laws.granted cat role text b is));
     }
 
-    module _ (IsSaid : List Entry → BoundExpr → Type 0) (said_filter : SaidAreFilters IsSaid) (said : All (IsSaid b.entries) (planning_list b.query)) (said_lefts : All (IsSaid b.entries) (left_conditions b.query)) (statistics : Table → Stats) (few : HasCounts statistics) where
+    module _ (IsSaid : List Entry → BoundExpr → Type 0) (said_filter : SaidAreFilters IsSaid) (said : All (IsSaid b.entries) (planning_list b.query)) (said_lefts : All (IsSaid b.entries) (left_conditions b.query)) (rows : Rows) (few : AreFew rows) where
       abbrev counts : List Stats
-      counts = map (λ (e : Entry). statistics e.table) b.entries
+      counts = seen_statistics cat rows role b
 
       module _ (code : Code) (admissible : is_admissible at code ≡ true) where
         abbrev plan : Plan
@@ -196,7 +207,7 @@ module _ (laws : Laws) where
 
         whole : IsPlan (plan_entries b.entries) plan
         whole =
-            plan_is b.entries b.query at facts column_number small_number counts (rows_few statistics few b.entries) code admissible
+            plan_is b.entries b.query at facts column_number small_number counts (rows_few cat role rows few b.query 0 b.entries) code admissible
             (filters_each b.entries b.query at facts (IsSaid b.entries) (said_filter b.entries facts.differ) (recursion_from_All (IsSaid b.entries) (planning_list b.query) said))
             (ons_each b.entries b.query at facts (IsSaid b.entries) (said_filter b.entries facts.differ) (remaining_each (IsSaid b.entries) b.query (recursion_from_All (IsSaid b.entries) (left_conditions b.query) said_lefts)))
 
@@ -231,14 +242,14 @@ module _ (laws : Laws) where
     AliasesAreNames = (cat : Catalog) (role : Name) (text : List ℕ) (b : Bound) → IsWellFormed cat → AreNames cat → IsUtf8 text → admitted cat role text ≡ Ok b → All (λ (e : Entry). IsName e.alias) b.entries
 
     pub explained_accepted : SaidAreFilters IsSaid → AdmittedAreSaid → AdmittedLeftsAreSaid → PlanningListsAreSaid → AliasesAreNames → ExplainedAreAccepted
-    explained_accepted said_filter admitted_said admitted_lefts_said planning_said admitted_aliases cat statistics role text plan fit names few utf8 explains = go (admitted cat role text) refl explains
+    explained_accepted said_filter admitted_said admitted_lefts_said planning_said admitted_aliases cat rows role text plan fit names few utf8 explains = go (admitted cat role text) refl explains
       where
         same_text : (s t : List ℕ) → ◌≡◌ {A = Result (List ℕ) Reply} (Ok s) (Ok t) → s ≡ t
         same_text s t e = cc
 
-        go : (r : Result Bound Reply) → admitted cat role text ≡ r → explained_query cat statistics role r ≡ Ok plan → admitted_audit cat role plan r ≡ Judged Accepted
+        go : (r : Result Bound Reply) → admitted cat role text ≡ r → explained_query cat rows role r ≡ Ok plan → admitted_audit cat role plan r ≡ Judged Accepted
         go (Err refusal) is e = absurd (cc)
         go (Ok b) is e =
-            let text_is : best_text cat role b (map (λ (e : Entry). statistics e.table) b.entries) ≡ plan = same_text (best_text cat role b (map (λ (e : Entry). statistics e.table) b.entries)) plan e in
+            let text_is : best_text cat role b (seen_statistics cat rows role b) ≡ plan = same_text (best_text cat role b (seen_statistics cat rows role b)) plan e in
             subst (λ p. audit_of cat role b (plan_at (plan_entries b.entries) p) ≡ Judged Accepted) text_is
-            (best_audited cat role b text is fit names (admitted_aliases cat role text b fit names utf8 is) IsSaid said_filter (planning_said b.entries b.query (admitted_said cat role text b fit names utf8 is) (admitted_lefts_said cat role text b fit names utf8 is)) (admitted_lefts_said cat role text b fit names utf8 is) statistics few)
+            (best_audited cat role b text is fit names (admitted_aliases cat role text b fit names utf8 is) IsSaid said_filter (planning_said b.entries b.query (admitted_said cat role text b fit names utf8 is) (admitted_lefts_said cat role text b fit names utf8 is)) (admitted_lefts_said cat role text b fit names utf8 is) rows few)

@@ -1,10 +1,8 @@
 -- The plan that explains a text, and its audit.
-use Rattle.std.specs.Prelude.{◌≡◌, ◌<◌, ◌^◌, ℕ, List, map, Some, Ok}
+use Rattle.std.specs.Prelude.{◌≡◌, ◌<◌, ◌^◌, ℕ, List, length, Some, Ok}
 use Rattle.std.specs.Str.{IsUtf8}
 use Rattle.value.specs.Names.{Name}
 use Rattle.plan_laws.specs.Names.{AreNames}
-use Rattle.row_objects.specs.Objects.{Table}
-use Rattle.stats.specs.Statistics.{Stats, row_count}
 use Rattle.trailcheck.specs.declared.verdict.Verdict.TheVariants.{Accepted}
 use Rattle.plan_texts.specs.Plans.{Plan}
 use Rattle.plan_texts.specs.PlanTexts.{plan_text}
@@ -12,20 +10,22 @@ use Rattle.bound_plans.specs.Entries.{plan_entries}
 use Rattle.catalog.specs.Catalog.{Catalog}
 use Rattle.catalog_laws.specs.WellFormed.{IsWellFormed}
 use Rattle.resolve.specs.Resolved.{Bound}
+use Rattle.store.specs.Database.{Rows}
 use Rattle.analysis.specs.Analysis.{admitted}
 use Rattle.engine.specs.Audits.{Judged, audit}
 use Rattle.engine.specs.Explained.{best_plan, explained}
+use Rattle.engine.specs.SeenStatistics.{seen_statistics}
 
--- no table counts more rows than a number of 64 bits
-abbrev pub HasCounts : (Table → Stats) → Type 0
-HasCounts statistics = (t : Table) → row_count (statistics t) < 2 ^ 64
+-- no table has more rows than a number of 64 bits
+abbrev pub AreFew : Rows → Type 0
+AreFew rows = (name : Name) → length (rows name) < 2 ^ 64
 
--- the plan that explains an admitted text is accepted, by whatever statistics it was chosen
+-- the plan that explains an admitted text is accepted
 abbrev pub ExplainedAreAccepted : Type 0
-ExplainedAreAccepted = (cat : Catalog) (statistics : Table → Stats) (role : Name) (text plan : List ℕ) → IsWellFormed cat → AreNames cat → HasCounts statistics → IsUtf8 text
-    → explained cat statistics role text ≡ Ok plan → audit cat role text plan ≡ Judged Accepted
+ExplainedAreAccepted = (cat : Catalog) (rows : Rows) (role : Name) (text plan : List ℕ) → IsWellFormed cat → AreNames cat → AreFew rows → IsUtf8 text
+    → explained cat rows role text ≡ Ok plan → audit cat role text plan ≡ Judged Accepted
 
 -- what explains an admitted text is the text of a plan: the one with the best code, which is always there
 abbrev pub ExplainedArePlans : Type 0
-ExplainedArePlans = (cat : Catalog) (statistics : Table → Stats) (role : Name) (text : List ℕ) (b : Bound) → admitted cat role text ≡ Ok b
-    → (p : Plan) × (best_plan cat role b (map (λ e. statistics e.table) b.entries) ≡ Some p) × (explained cat statistics role text ≡ Ok (plan_text (plan_entries b.entries) p))
+ExplainedArePlans = (cat : Catalog) (rows : Rows) (role : Name) (text : List ℕ) (b : Bound) → admitted cat role text ≡ Ok b
+    → (p : Plan) × (best_plan cat role b (seen_statistics cat rows role b) ≡ Some p) × (explained cat rows role text ≡ Ok (plan_text (plan_entries b.entries) p))

@@ -34,8 +34,8 @@ pub fn law_explained_texts_are_plans()
     law_queries_have_tables();
 }
 
-/// The plan that explains a text is accepted by its audit, by whatever statistics it was chosen. The names of columns have to be words
-/// of the grammar, which they are where the statements of tables are read from texts.
+/// The plan that explains a text is accepted by its audit. The names of columns have to be words of the grammar, which they are
+/// where the statements of tables are read from texts.
 pub fn law_explained_plans_are_accepted()
     ensures { ExplainedAreAccepted }
 {

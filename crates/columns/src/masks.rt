@@ -66,6 +66,14 @@ impl<A: Heap> Mask<A> {
         }
     }
 
+    /// The list whose words these are: so many bits, and no other bit set.
+    pub fn of_words(words: Vec<u64, A>, len: usize) -> Mask<A>
+        requires { IsMaskOf (bits_from words.items 0 len) words.items }
+        ensures { result ≡ bits_from words.items 0 len }
+    {
+        Mask { words, len }
+    }
+
     /// The number of items.
     pub fn len(&self) -> usize
         ensures { result ≡ length self.now }

@@ -1,16 +1,11 @@
--- What explains a text: it depends on no statistics but those of the tables of which the role sees every row, and is the text of the
--- best plan.
-use Rattle.std.proofs.Common.{◌≡◌, ◌∙◌, ℕ, suc, List, [], ◌∷◌, ◌++◌, map, Option, Some, option_map, Result, Ok, Err, refl, sym, subst, ap, ap₂, arith}
-use Rattle.std.specs.List.{All}
+-- What explains a text: it depends on the rows that the role sees alone, and is the text of the best plan.
+use Rattle.std.proofs.Common.{◌≡◌, ◌∙◌, ℕ, List, ◌++◌, map, Option, Some, option_map, Result, Ok, Err, refl, sym, subst, ap, ap₂}
 use Rattle.value.specs.Names.{Name}
 use Rattle.expr.specs.Bound.{BoundExpr}
 use Rattle.expr.specs.BoundQuery.{BoundQuery}
 use Rattle.expr.specs.Codes.{Code}
 use Rattle.scope.specs.Entry.{Entry}
 use Rattle.catalog.specs.Catalog.{Catalog}
-use Rattle.access.specs.Guards.{frame, guard}
-use Rattle.tuples.specs.Guards as guards
-use Rattle.tuples.specs.Guards.{Guard}
 use Rattle.stats.specs.Statistics.{Stats}
 use Rattle.algebra.specs.PlanningList.{planning_list, remaining_lefts}
 use Rattle.algebra.specs.Steps.{Step}
@@ -35,36 +30,23 @@ use Rattle.replies.specs.Reply.{Reply, no_memory}
 use Rattle.replies.specs.ReplyText.{reply_text}
 use Rattle.replies.proofs.Statuses.{only_no_memory}
 use Rattle.analysis.specs.Analysis.{admitted}
-use Rattle.store.specs.Database.{Database}
-use Rattle.engine.specs.Explained.{KnowsSame, best_text, explained, explained_query, explained_status, explained_text, known, plan_with, problem, sort_column, text_if_found}
-use Rattle.engine.specs.Known.{known_behind, known_statistics, statistics_in}
+use Rattle.report.specs.Restricted as tables
+use Rattle.store.specs.Database.{Rows}
+use Rattle.engine.specs.Answer.{seen}
+use Rattle.engine.specs.Explained.{best_text, explained, explained_query, explained_status, explained_text, plan_with, problem, sort_column, text_if_found}
+use Rattle.engine.specs.Hidden.{SeesSame}
 use Rattle.engine.specs.Settings.{setting}
+use Rattle.engine.proofs.SeenStatistics.{same_statistics}
 
--- the statistics gathered by entries and guards are those known of each entry's table
-pub known_of_each : (cat : Catalog) (role : Name) (database : Database) (es : List Entry) → known_statistics database es (frame cat role es) ≡ map (λ e. known cat role (statistics_in database) e.table) es
-known_of_each cat role database [] = refl
-known_of_each cat role database (e ∷ es) = ap (λ ss. known cat role (statistics_in database) e.table ∷ ss) (known_of_each cat role database es)
+-- ---- rows that the role does not see, and columns that the text does not name
 
-known_same : (g : Guard) (one other : Stats) → (g ≡ guards.All → one ≡ other) → known_behind g one ≡ known_behind g other
-known_same guards.All one other h = h refl
-known_same guards.None one other h = refl
-known_same (guards.Expr e) one other h = refl
+same_query : (cat : Catalog) (role : Name) (one other : Rows) (r : Result Bound Reply) → ((b : Bound) → r ≡ Ok b → tables.SeesSame b.query (seen cat one role b.entries) (seen cat other role b.entries))
+    → explained_query cat one role r ≡ explained_query cat other role r
+same_query cat role one other (Err refusal) same = refl
+same_query cat role one other (Ok b) same = ap (λ ss. Ok (best_text cat role b ss)) (same_statistics b.query b.entries (seen cat one role b.entries) (seen cat other role b.entries) (same b refl))
 
-module _ (cat : Catalog) (role : Name) (one other : Name → Stats) where
-  abbrev AreSame : List Entry → Type 0
-  AreSame es = All (λ e. guard cat role e.table ≡ guards.All → one e.table.name ≡ other e.table.name) es
-
-  each_same : (es : List Entry) → AreSame es → map (λ e. known cat role one e.table) es ≡ map (λ e. known cat role other e.table) es
-  each_same [] h = refl
-  each_same (e ∷ es) h =
-      ap₂ (λ s ss. s ∷ ss) (known_same (guard cat role e.table) (one e.table.name) (other e.table.name) (h 0 e (omega arith))) (each_same es (λ k d within. h (suc k) d (omega (arith, within))))
-
-  same_query : (r : Result Bound Reply) → ((b : Bound) → r ≡ Ok b → AreSame b.entries) → explained_query cat (known cat role one) role r ≡ explained_query cat (known cat role other) role r
-  same_query (Err refusal) h = refl
-  same_query (Ok b) h = ap (λ ss. Ok (best_text cat role b ss)) (each_same b.entries (h b refl))
-
-pub same_explained : (cat : Catalog) (role : Name) (text : List ℕ) (one other : Name → Stats) → KnowsSame cat role text one other → explained cat (known cat role one) role text ≡ explained cat (known cat role other) role text
-same_explained cat role text one other h = same_query cat role one other (admitted cat role text) h
+pub same_explained : (cat : Catalog) (role : Name) (text : List ℕ) (one other : Rows) → SeesSame cat role text one other → explained cat one role text ≡ explained cat other role text
+same_explained cat role text one other same = same_query cat role one other (admitted cat role text) same
 
 -- ---- the text of the best plan
 

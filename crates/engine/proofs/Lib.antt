@@ -11,7 +11,7 @@ pub mod Made
 pub mod OfText
 pub mod Planned
 pub mod Readable
-pub mod Statistics
+pub mod SeenStatistics
 pub mod Steps
 pub mod Tables
 pub mod Texts

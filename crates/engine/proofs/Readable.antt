@@ -1,17 +1,18 @@
 -- Contents that are the same in all that a role may read are the same to every text of it.
-use Rattle.std.proofs.Common.{◌≡◌, ℕ, zero, suc, ◌+◌, ◌==◌, Bool, true, false, ◌||◌, if◌then◌else◌, cond, List, [], ◌∷◌, map, filter, find, Contains, Option, Some, None, Ok, refl, sym, ap, ap₂, subst, ◌∙◌, arith}
+use Rattle.std.proofs.Common.{◌≡◌, ℕ, zero, suc, ◌+◌, ◌==◌, Bool, true, false, ◌||◌, if◌then◌else◌, cond, List, [], ◌∷◌, map, filter, find, Contains, Option, Some, None, Ok, refl, sym, ap, subst, ◌∙◌, arith}
 use Rattle.std.specs.Prelude.{IsPermutation, option_map, slice_index_or, unwrap_or}
-use Rattle.std.specs.List.{All, list_any, slice_get}
+use Rattle.std.specs.List.{All, slice_get}
 use Rattle.std.specs.Str.{bytes_eq}
 use Rattle.std.proofs.lemmas.Bool.{eqb-true, eq-eqb}
 use Rattle.std.proofs.lemmas.Option.{get_or_from_slice_get, slice_get-map, slice_get_within, unwrap_or-slice_get}
 use Rattle.std.proofs.lemmas.List.{length-map}
 use Rattle.std.proofs.lemmas.List.Sorted.{IsPermutation-map, IsPermutation-refl}
-use Rattle.std.proofs.lemmas.Simd.{map-map}
 use Rattle.memory.proofs.Cases.{or_second, some_is}
 use Rattle.value.specs.Columns.{Column}
-use Rattle.value.specs.Datum.{Datum, null, Row}
+use Rattle.value.specs.Datum.{Row}
 use Rattle.value.specs.Names.{Name}
+use Rattle.value.specs.Restricted.{IsWithin, is_one_of, restricted}
+use Rattle.value.proofs.Restricted.{again}
 use Rattle.row_objects.specs.Objects.{Table}
 use Rattle.expr.specs.declared.bound.ColumnId.{ColumnId}
 use Rattle.expr.specs.NamedColumns.{named_columns}
@@ -20,7 +21,7 @@ use Rattle.catalog.specs.Catalog.{Catalog, table_named}
 use Rattle.access.specs.Access.{granted, select_on, visible}
 use Rattle.access.specs.Needed.{select_any}
 use Rattle.report.specs.Restricted as tables
-use Rattle.report.specs.Restricted.{kept_from, named_in, restricted}
+use Rattle.report.specs.Restricted.{named_in}
 use Rattle.resolve.specs.EntryTables.{AreTables}
 use Rattle.resolve.specs.Resolved.{Bound}
 use Rattle.resolve.proofs.EntryTables.{binds_tables}
@@ -36,33 +37,13 @@ use Rattle.engine.proofs.HiddenRows.{same_reply}
 
 -- ---- indexes in a list
 
-abbrev has : List ℕ → ℕ → Bool
-has columns i = list_any (λ c. c == i) columns
-
--- each index of the first is one of the second
-abbrev IsWithin : List ℕ → List ℕ → Type 0
-IsWithin some all = (i : ℕ) → has some i ≡ true → has all i ≡ true
-
 itself : (i : ℕ) → (i == i) ≡ true
 itself i = eq-eqb i i refl
-
--- a row restricted twice, the second time to fewer columns
-cell_again : (a b : Bool) (d : Datum) → (b ≡ true → a ≡ true) → (if b then (if a then d else null) else null) ≡ (if b then d else null)
-cell_again a false d h = refl
-cell_again true true d h = refl
-cell_again false true d h = absurd (let e = h refl in cc)
-
-again_from : (i : ℕ) (some all : List ℕ) (row : Row) → IsWithin some all → kept_from i some (kept_from i all row) ≡ kept_from i some row
-again_from i some all [] h = refl
-again_from i some all (d ∷ ds) h = ap₂ (λ d ds. d ∷ ds) (cell_again (has all i) (has some i) d (h i)) (again_from (i + 1) some all ds h)
-
-again : (some all : List ℕ) (rows : List Row) → IsWithin some all → map (restricted some) (map (restricted all) rows) ≡ map (restricted some) rows
-again some all rows h = map-map (restricted some) (restricted all) rows ∙ (λ i. map (λ row. again_from 0 some all row h i) rows)
 
 -- ---- the columns that are granted
 
 -- the index of a granted column is among them
-granted_at : (cat : Catalog) (role : Name) (t : Table) (n j : ℕ) (cs : List Column) (c : Column) → slice_get cs j ≡ Some c → granted cat role (select_on t c.name) ≡ true → has (granted_from cat role t n cs) (n + j) ≡ true
+granted_at : (cat : Catalog) (role : Name) (t : Table) (n j : ℕ) (cs : List Column) (c : Column) → slice_get cs j ≡ Some c → granted cat role (select_on t c.name) ≡ true → is_one_of (granted_from cat role t n cs) (n + j) ≡ true
 granted_at cat role t n j [] c at h = absurd (cc)
 granted_at cat role t n zero (x ∷ xs) c at h =
     let same : x ≡ c = some_is x c at in
@@ -71,10 +52,10 @@ granted_at cat role t n zero (x ∷ xs) c at h =
     rw (is, here, itself n) refl
 granted_at cat role t n (suc j) (x ∷ xs) c at h =
     let next : n + 1 + j ≡ n + suc j = omega arith in
-    let rest : has (granted_from cat role t (n + 1) xs) (n + suc j) ≡ true = subst (λ k. has (granted_from cat role t (n + 1) xs) k ≡ true) next (granted_at cat role t (n + 1) j xs c at h) in
+    let rest : is_one_of (granted_from cat role t (n + 1) xs) (n + suc j) ≡ true = subst (λ k. is_one_of (granted_from cat role t (n + 1) xs) k ≡ true) next (granted_at cat role t (n + 1) j xs c at h) in
     past (granted cat role (select_on t x.name)) rest
   where
-    past : (b : Bool) → has (granted_from cat role t (n + 1) xs) (n + suc j) ≡ true → has (if b then n ∷ granted_from cat role t (n + 1) xs else granted_from cat role t (n + 1) xs) (n + suc j) ≡ true
+    past : (b : Bool) → is_one_of (granted_from cat role t (n + 1) xs) (n + suc j) ≡ true → is_one_of (if b then n ∷ granted_from cat role t (n + 1) xs else granted_from cat role t (n + 1) xs) (n + suc j) ≡ true
     past true h = or_second (n == (n + suc j)) _ h
     past false h = h
 
@@ -84,20 +65,20 @@ named_granted : (cat : Catalog) (role : Name) (es : List Entry) (k : ℕ) (e : E
 named_granted cat role es k e [] at h i is = absurd (cc)
 named_granted cat role es k e (id ∷ ids) at h i is = go (id.entry == k) refl (named_granted cat role es k e ids at (λ j d l. h (suc j) d (omega arith)) i) is
   where
-    first : id.entry ≡ k → id.column ≡ i → has (granted_columns cat role e.table) i ≡ true
+    first : id.entry ≡ k → id.column ≡ i → is_one_of (granted_columns cat role e.table) i ≡ true
     first here same =
         let it = h 0 id (omega arith) in
         let entry_is : it.entry ≡ e = some_is it.entry e (sym it.entry_is ∙ ap (slice_get es) here ∙ at) in
         let column_is : slice_get e.table.columns id.column ≡ Some it.column = subst (λ (x : Entry). slice_get x.table.columns id.column ≡ Some it.column) entry_is it.column_is in
         let held : granted cat role (select_on e.table it.column.name) ≡ true = subst (λ (x : Entry). granted cat role (select_on x.table it.column.name) ≡ true) entry_is it.is_granted in
         let from : 0 + id.column ≡ i = omega arith in
-        subst (λ n. has (granted_columns cat role e.table) n ≡ true) from (granted_at cat role e.table 0 id.column e.table.columns it.column column_is held)
+        subst (λ n. is_one_of (granted_columns cat role e.table) n ≡ true) from (granted_at cat role e.table 0 id.column e.table.columns it.column column_is held)
 
-    either : (a b : Bool) → (id.column == i) ≡ a → id.entry ≡ k → has (map (λ id. id.column) (filter (λ id. id.entry == k) ids)) i ≡ b → (has (map (λ id. id.column) (filter (λ id. id.entry == k) ids)) i ≡ true → has (granted_columns cat role e.table) i ≡ true) → (a || b) ≡ true → has (granted_columns cat role e.table) i ≡ true
+    either : (a b : Bool) → (id.column == i) ≡ a → id.entry ≡ k → is_one_of (map (λ id. id.column) (filter (λ id. id.entry == k) ids)) i ≡ b → (is_one_of (map (λ id. id.column) (filter (λ id. id.entry == k) ids)) i ≡ true → is_one_of (granted_columns cat role e.table) i ≡ true) → (a || b) ≡ true → is_one_of (granted_columns cat role e.table) i ≡ true
     either true b same here r rest is = first here (eqb-true id.column i same)
     either false b same here r rest is = rest (r ∙ is)
 
-    go : (b : Bool) → (id.entry == k) ≡ b → (has (map (λ id. id.column) (filter (λ id. id.entry == k) ids)) i ≡ true → has (granted_columns cat role e.table) i ≡ true) → has (map (λ id. id.column) (cond b (id ∷ filter (λ id. id.entry == k) ids) (filter (λ id. id.entry == k) ids))) i ≡ true → has (granted_columns cat role e.table) i ≡ true
+    go : (b : Bool) → (id.entry == k) ≡ b → (is_one_of (map (λ id. id.column) (filter (λ id. id.entry == k) ids)) i ≡ true → is_one_of (granted_columns cat role e.table) i ≡ true) → is_one_of (map (λ id. id.column) (cond b (id ∷ filter (λ id. id.entry == k) ids) (filter (λ id. id.entry == k) ids))) i ≡ true → is_one_of (granted_columns cat role e.table) i ≡ true
     go true here rest is = either (id.column == i) _ refl (eqb-true id.entry k here) refl rest is
     go false here rest is = rest is
 
@@ -161,7 +142,7 @@ module _ (cat : Catalog) (role : Name) (one other : Rows) (same : ReadsSame cat 
     rows = λ k. at_index k (slice_get b.entries k) refl;
   }
 
-reads_sees : (cat : Catalog) (role : Name) (text : List ℕ) (one other : Rows) → ReadsSame cat role one other → SeesSame cat role text one other
+pub reads_sees : (cat : Catalog) (role : Name) (text : List ℕ) (one other : Rows) → ReadsSame cat role one other → SeesSame cat role text one other
 reads_sees cat role text one other same b is = sees_same cat role one other same text b is
 
 pub same_to_readers : (cat : Catalog) (role : Name) (text : List ℕ) (one other : Rows) → ReadsSame cat role one other → reply_to cat one role text ≡ reply_to cat other role text

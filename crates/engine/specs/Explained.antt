@@ -1,14 +1,10 @@
 -- The plan of a role's query, and its text.
 use Rattle.std.specs.Prelude.{◌≡◌, ◌<◌, ℕ, List, [], ◌++◌, map, Option, Some, None, option_map, Result, Ok, Err}
-use Rattle.std.specs.List.{All}
 use Rattle.value.specs.Names.{Name}
 use Rattle.expr.specs.Codes.{Code}
 use Rattle.expr.specs.declared.bound.ColumnId.{ColumnId}
-use Rattle.row_objects.specs.Objects.{Table}
 use Rattle.scope.specs.Entry.{Entry}
 use Rattle.catalog.specs.Catalog.{Catalog}
-use Rattle.access.specs.Guards.{guard}
-use Rattle.tuples.specs.Guards as guards
 use Rattle.stats.specs.Statistics.{Stats}
 use Rattle.algebra.specs.PlanningList.{planning_list, remaining_lefts}
 use Rattle.algebra.specs.Steps.{Step}
@@ -28,9 +24,10 @@ use Rattle.bound_plans.specs.Named.{named}
 use Rattle.resolve.specs.Resolved.{Bound}
 use Rattle.replies.specs.Reply.{Reply, reply_status}
 use Rattle.replies.specs.ReplyText.{reply_text}
+use Rattle.store.specs.Database.{Rows}
 use Rattle.store.specs.Derived.{column_number}
 use Rattle.analysis.specs.Analysis.{admitted}
-use Rattle.engine.specs.Known.{known_behind}
+use Rattle.engine.specs.SeenStatistics.{seen_statistics}
 use Rattle.engine.specs.Settings.{setting}
 
 -- ---- the plan
@@ -72,13 +69,13 @@ best_text cat role b statistics = text_if_found b.entries (best_plan cat role b 
 
 -- ---- what explains a text
 
-abbrev pub explained_query : Catalog → (Table → Stats) → Name → Result Bound Reply → Result (List ℕ) Reply
-explained_query cat statistics role (Err refusal) = Err refusal
-explained_query cat statistics role (Ok b) = Ok (best_text cat role b (map (λ e. statistics e.table) b.entries))
+abbrev pub explained_query : Catalog → Rows → Name → Result Bound Reply → Result (List ℕ) Reply
+explained_query cat rows role (Err refusal) = Err refusal
+explained_query cat rows role (Ok b) = Ok (best_text cat role b (seen_statistics cat rows role b))
 
--- the text of the best plan of a role's text, by the statistics of the tables; or its refusal or denial
-abbrev pub explained : Catalog → (Table → Stats) → Name → (text : List ℕ) → Result (List ℕ) Reply
-explained cat statistics role text = explained_query cat statistics role (admitted cat role text)
+-- the text of the best plan of a role's text, by the statistics of the rows that it sees; or its refusal or denial
+abbrev pub explained : Catalog → Rows → Name → (text : List ℕ) → Result (List ℕ) Reply
+explained cat rows role text = explained_query cat rows role (admitted cat role text)
 
 abbrev pub explained_text : Result (List ℕ) Reply → List ℕ
 explained_text (Ok text) = text
@@ -87,16 +84,6 @@ explained_text (Err refusal) = reply_text refusal
 abbrev pub explained_status : Result (List ℕ) Reply → ℕ
 explained_status (Ok text) = 0
 explained_status (Err refusal) = reply_status refusal
-
--- ---- what of the tables it depends on
-
--- the statistics that a role's plans are made with: none of a table of which a row may be hidden from it
-abbrev pub known : Catalog → Name → (Name → Stats) → Table → Stats
-known cat role statistics t = known_behind (guard cat role t) (statistics t.name)
-
--- if the text is admitted, both have the same statistics of each of its tables of which the role sees every row
-abbrev pub KnowsSame : Catalog → Name → (text : List ℕ) → (one other : Name → Stats) → Type 0
-KnowsSame cat role text one other = (b : Bound) → admitted cat role text ≡ Ok b → All (λ e. guard cat role e.table ≡ guards.All → one e.table.name ≡ other e.table.name) b.entries
 
 -- these bytes and this status are what explains a text
 abbrev pub IsExplanation : (text : List ℕ) → (status : ℕ) → Result (List ℕ) Reply → Type 0

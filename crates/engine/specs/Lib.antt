@@ -4,10 +4,10 @@ pub mod Explained
 pub mod Guarded
 pub mod Held
 pub mod Hidden
-pub mod Known
 pub mod PlanView
 pub mod Plans
 pub mod Readable
+pub mod SeenStatistics
 pub mod Serving
 pub mod Settings
 pub mod View

@@ -15,9 +15,9 @@ use Rattle.planning.specs.Plans.{IsPlan}
 use Rattle.planning.specs.Listing.{simplifying}
 use Rattle.planning.specs.Wanted.{wanted_column}
 use Rattle.resolve.specs.Resolved.{Bound}
-use Rattle.store.specs.Database.{Database}
+use Rattle.store.specs.Database.{Database, rows_of}
 use Rattle.analysis.specs.Analysis.{admitted}
-use Rattle.engine.specs.Known.{known_statistics}
+use Rattle.engine.specs.SeenStatistics.{seen_statistics}
 use Rattle.engine.specs.Settings as settings
 
 -- what a plan is made from, and its code with its cost; it does not have the query that it is for
@@ -45,10 +45,10 @@ IsSomePlan p = (q : BoundQuery) × IsPlan (with_query q p)
 abbrev pub IsAdmitted : Catalog → Name → Bound → Type 0
 IsAdmitted cat role b = (text : List ℕ) × (admitted cat role text ≡ Ok b)
 
--- It is the plan of a role's bound query in this database: the best one by the statistics that the role may know, under guards
--- that show exactly the rows that the role sees.
+-- It is the plan of a role's bound query in this database: the best one by the statistics of the rows that the role sees, under
+-- guards that show exactly these rows.
 pub record IsPlanFor (database : Database) (role : Name) (b : Bound) (p : Plan) : Type 0 where
   pub is_best : IsPlan (with_query b.query p)
   pub of_setting : p.setting ≡ settings.setting database.catalog role b
-  pub of_statistics : p.statistics ≡ known_statistics database b.entries p.setting.frame
+  pub of_statistics : p.statistics ≡ seen_statistics database.catalog (rows_of database) role b
   pub of_guards : (row : Row) → map (λ g. shows role g row) p.setting.frame ≡ map (λ e. sees database.catalog role e.table row) b.entries

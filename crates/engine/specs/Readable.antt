@@ -3,11 +3,11 @@ use Rattle.std.specs.Prelude.{◌≡◌, ℕ, ◌+◌, true, List, [], ◌∷◌
 use Rattle.value.specs.Columns.{Column}
 use Rattle.value.specs.Datum.{Row}
 use Rattle.value.specs.Names.{Name}
+use Rattle.value.specs.Restricted.{restricted}
 use Rattle.row_objects.specs.Objects.{Table}
 use Rattle.catalog.specs.Catalog.{Catalog}
 use Rattle.access.specs.Access.{granted, select_on, visible}
 use Rattle.access.specs.Needed.{select_any}
-use Rattle.report.specs.Restricted.{restricted}
 use Rattle.store.specs.Database.{Rows}
 
 -- the indexes of those of these columns on which the role has SELECT; the first has an index

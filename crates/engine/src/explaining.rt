@@ -6,7 +6,6 @@ ghost use Rattle.row_ast.specs.View.{expr_of, query_of};
 ghost use Rattle.expr.specs.Conjuncts.{movable_conjuncts};
 ghost use Rattle.scope.specs.View.{entries_of};
 ghost use Rattle.catalog.specs.Catalog.{Catalog};
-ghost use Rattle.stats.specs.Statistics as stats;
 ghost use Rattle.algebra.specs.View.{step_of};
 ghost use Rattle.planning.specs.Listing.{simplifying};
 ghost use Rattle.query_laws.specs.LeftJoins.{HasLeftJoins};
@@ -25,13 +24,16 @@ ghost use Rattle.replies.specs.Reply.{no_memory, reply_status};
 ghost use Rattle.replies.specs.ReplyText.{reply_text};
 ghost use Rattle.replies.specs.View.{reply_of};
 ghost use Rattle.analysis.specs.Analysis.{admitted_query};
-ghost use Rattle.store.specs.Database.{Database};
+ghost use Rattle.store.specs.Database.{Rows, rows_of};
 ghost use Rattle.engine.specs.Explained as spec;
-ghost use Rattle.engine.specs.Explained.{KnowsSame, explained, explained_query, explained_status, explained_text, known};
-ghost use Rattle.engine.specs.Known.{statistics_in};
+ghost use Rattle.engine.specs.Explained.{explained, explained_query, explained_status, explained_text};
+ghost use Rattle.engine.specs.Hidden.{SeesSame};
+ghost use Rattle.engine.specs.Readable.{ReadsSame};
+ghost use Rattle.engine.specs.SeenStatistics.{seen_statistics};
 ghost use Rattle.engine.specs.Serving.{IsExplained};
 
-use crate::known::known_statistics;
+use crate::preparing::each_of;
+use crate::seen_statistics::seen_statistics;
 use crate::setting::setting_with;
 use algebra::Step;
 use analysis::{admit, read_query};
@@ -45,7 +47,6 @@ use replies::{Reply, reply_status, reply_text};
 use resolve::Bound;
 use row_ast::{Expr, Query};
 use scope::Entry;
-use stats::Stats;
 use std::alloc::AllocError;
 use store::{Store, column_number};
 use syntax::{law_parsing_is_determined, law_queries_have_tables};
@@ -127,7 +128,7 @@ fn best_text<A: Heap>(
     requires few { length (bound_of bound.now).entries ≤ most_entries }
     requires conjuncts { length (movable_conjuncts (bound_of bound.now).query) ≤ most_conjuncts }
     requires lefts { HasLeftJoins (bound_of bound.now) }
-    ensures { IfOk result (λ text. text.items ≡ spec.best_text store.now.catalog role.now (bound_of bound.now) (map (λ e. known store.now.catalog role.now (statistics_in store.now) e.table) (bound_of bound.now).entries)) }
+    ensures { IfOk result (λ text. text.items ≡ spec.best_text store.now.catalog role.now (bound_of bound.now) (seen_statistics store.now.catalog (rows_of store.now) role.now (bound_of bound.now))) }
 {
     let entries = bound.entries.as_slice();
     let Simplified {
@@ -137,9 +138,9 @@ fn best_text<A: Heap>(
     } = simplify(alloc, &bound.query)?;
     let setting = setting_with(alloc, store.catalog(), role, bound, conditions, lefts)?;
     let frame = setting.frame.as_slice();
-    let unknown = Stats::unknown();
-    let statistics = known_statistics(alloc, store, entries, frame, &unknown)?;
-    let found = Plan::new(alloc, &bound.query, &setting, &statistics)?;
+    let statistics = seen_statistics(alloc, store, role, bound, frame)?;
+    let each = each_of(alloc, statistics.as_slice())?;
+    let found = Plan::new(alloc, &bound.query, &setting, &each)?;
     let conditions = setting.conditions.as_slice();
     let lefts = setting.lefts.as_slice();
     let plan = plan_with(alloc, entries, conditions, lefts, found, trail)?;
@@ -162,7 +163,7 @@ fn explained_query<A: Heap>(
 ) -> Result<(Vec<u8, A>, u8), AllocError>
     requires limits { within_limits (query_of query.now) ≡ true }
     requires from { 0 < length (query_of query.now).from }
-    ensures { IfOk result (λ r. spec.IsExplanation r.0.items r.1 (explained_query store.now.catalog (known store.now.catalog role.now (statistics_in store.now)) role.now (admitted_query store.now.catalog role.now (query_of query.now)))) }
+    ensures { IfOk result (λ r. spec.IsExplanation r.0.items r.1 (explained_query store.now.catalog (rows_of store.now) role.now (admitted_query store.now.catalog role.now (query_of query.now)))) }
 {
     match admit(alloc, store.catalog(), role, query)? {
         Ok(bound) => Ok((best_text(alloc, store, role, &bound)?, 0)),
@@ -177,7 +178,7 @@ fn explained<A: Heap>(
     role: &str,
     text: &str,
 ) -> Result<(Vec<u8, A>, u8), AllocError>
-    ensures { IfOk result (λ r. spec.IsExplanation r.0.items r.1 (explained store.now.catalog (known store.now.catalog role.now (statistics_in store.now)) role.now text.now)) }
+    ensures { IfOk result (λ r. spec.IsExplanation r.0.items r.1 (explained store.now.catalog (rows_of store.now) role.now text.now)) }
 {
     law_parsing_is_determined();
     law_queries_have_tables();
@@ -193,9 +194,9 @@ fn explained<A: Heap>(
 
 /// Writes the text of the plan by which a role's query is answered (PostgreSQL: EXPLAIN), and gives its status: 0 a plan,
 /// with its estimated cost in steps of work, the planning list, the code, a last sort and the trail that `verify` accepts; else the
-/// refusal or denial of the text with its status, as `serve`; 7 out of memory, 8 a writer that failed. No row is read: of the
-/// tables of which the role sees every row it reads the statistics, of the others nothing. Nothing is written before the text is
-/// whole, and the writer is not flushed.
+/// refusal or denial of the text with its status, as `serve`; 7 out of memory, 8 a writer that failed. It is the best plan by the
+/// statistics of the rows that the role sees, in the columns that its conditions name. Nothing is written before the text is whole,
+/// and the writer is not flushed.
 pub fn explain<A: Heap, W: Out>(
     alloc: A,
     store: &Store<A>,
@@ -204,11 +205,14 @@ pub fn explain<A: Heap, W: Out>(
     out: &mut W,
 ) -> u8
     // The whole text of the plan, of the refusal or of the denial, and its status; or memory ran out, or the writer failed.
-    ensures sent { let due = explained store.now.catalog (known store.now.catalog role.now (statistics_in store.now)) role.now text.now in
+    ensures sent { let due = explained store.now.catalog (rows_of store.now) role.now text.now in
         IsSent (W.taken out.old) (W.taken out.new) (W.failures out.old) (W.failures out.new) result (explained_status due) (explained_text due) (reply_text no_memory) }
-    // A database whose tables of which the role sees every row have the same statistics makes no difference.
-    ensures hidden { (other : Database) → KnowsSame store.now.catalog role.now text.now (statistics_in store.now) (statistics_in other) → result ≢ 7 → result ≢ 8 →
-        IsExplained (W.taken out.old) (W.taken out.new) result (explained store.now.catalog (known store.now.catalog role.now (statistics_in other)) role.now text.now) }
+    // Rows that the role does not see, and columns that the text does not name, make no difference.
+    ensures hidden { (other : Rows) → SeesSame store.now.catalog role.now text.now (rows_of store.now) other → result ≢ 7 → result ≢ 8 →
+        IsExplained (W.taken out.old) (W.taken out.new) result (explained store.now.catalog other role.now text.now) }
+    // Columns on which the role has no SELECT make no difference.
+    ensures ungranted { (other : Rows) → ReadsSame store.now.catalog role.now (rows_of store.now) other → result ≢ 7 → result ≢ 8 →
+        IsExplained (W.taken out.old) (W.taken out.new) result (explained store.now.catalog other role.now text.now) }
 {
     match explained(alloc, store, role, text) {
         Ok((bytes, status)) => send(out, &bytes, status),
@@ -216,9 +220,9 @@ pub fn explain<A: Heap, W: Out>(
     }
 }
 
-/// What explains a text is the same whatever rows are hidden from the role: two databases that have the same statistics of each
-/// of the text's tables of which the role sees every row give the same plan, and so equal bytes and statuses.
+/// What explains a text depends on its own rows of the role alone: two contents of which the rows that the role sees of each entry,
+/// restricted to the columns that the text names, are the same bag give the same plan, and so equal bytes and statuses.
 #[tactic(auto, using(crate::proofs::ExplainedTexts::same_explained))]
-pub fn law_known_statistics()
-    ensures { (cat : Catalog) (role : Name) (text : List ℕ) (one other : Name → stats.Stats) → KnowsSame cat role text one other → explained cat (known cat role one) role text ≡ explained cat (known cat role other) role text }
+pub fn law_seen_rows()
+    ensures { (cat : Catalog) (role : Name) (text : List ℕ) (one other : Rows) → SeesSame cat role text one other → explained cat one role text ≡ explained cat other role text }
 {}

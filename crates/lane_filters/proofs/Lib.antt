@@ -1,3 +1,4 @@
+pub mod Equality
 pub mod Holds
 pub mod Members
 pub mod Nodes

@@ -5,7 +5,7 @@ use Rattle.std.proofs.lemmas.Simd.{splat_is_map}
 use Rattle.value.proofs.Conditions.{truth_back}
 use Rattle.value.specs.Datum.{Datum, Row, cell}
 use Rattle.value.specs.Names.{Name}
-use Rattle.value.specs.Conditions.{truth_at, at_truth}
+use Rattle.value.specs.Conditions.{truth_at}
 use Rattle.value.specs.Truths.{least, greatest, negated}
 use Rattle.value.specs.declared.order.Truth.{Truth}
 use Rattle.value.specs.declared.order.Truth.TheVariants.{False, Unknown, True}

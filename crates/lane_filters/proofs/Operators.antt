@@ -1,7 +1,6 @@
 -- Comparisons of operands that are numbers.
 use Rattle.std.proofs.Common.{◌≡◌, ℕ, zero, suc, ℤ, true, false, List, [], ◌∷◌, length, map, replicate, refl, sym, ap, ◌∙◌}
-use Rattle.std.specs.Ordering.{int_cmp, ordering_reverse}
-use Rattle.std.specs.declared.cmp.Ordering.{Ordering}
+use Rattle.std.specs.Ordering.{int_cmp}
 use Rattle.std.specs.declared.cmp.Ordering.TheVariants as o
 use Rattle.std.specs.Simd.Lanes.{zip2}
 use Rattle.std.proofs.lemmas.Cmp.{int_cmp_total}
@@ -13,7 +12,6 @@ use Rattle.value.specs.Orders.{of_bool, test_of}
 use Rattle.value.proofs.Commutators.{commuted}
 use Rattle.value.specs.declared.order.Truth.{Truth}
 use Rattle.value.specs.declared.operators.Comparison.{Comparison}
-use Rattle.value.specs.declared.operators.Comparison.TheVariants.{Equal, NotEqual, Less, LessOrEqual, Greater, GreaterOrEqual}
 use Rattle.eval.specs.Operators.{comparison_of}
 use Rattle.columns.specs.Comparing.{holds}
 use Rattle.columns.proofs.Truths.{int_order}

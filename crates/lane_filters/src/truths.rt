@@ -1,16 +1,19 @@
 //! Truth values of all rows of a table, 64 to a word.
 
-ghost use Rattle.std.specs.Prelude.{◌≡◌, ◌<◌, IfOk, length, map, get_or, replicate};
+ghost use Rattle.std.specs.Prelude.{◌≡◌, ◌<◌, ◌≤◌, IfOk, length, map, get_or, replicate};
 ghost use Rattle.std.specs.Simd.Lanes.{zip2};
+ghost use Rattle.value.specs.Datum as value;
 ghost use Rattle.value.specs.Datum.{int};
-ghost use Rattle.value.specs.Orders.{is_true, of_bool};
+ghost use Rattle.value.specs.Orders.{equal_of, is_true, of_bool};
 ghost use Rattle.value.specs.Truths.{greatest, least, negated};
 ghost use Rattle.value.specs.declared.order.Truth.TheVariants.{False};
 ghost use Rattle.eval.specs.Operators.{comparison_of, null_test};
 ghost use Rattle.columns.specs.Data.{cells_of};
 ghost use Rattle.columns.specs.Bits as masks;
+ghost use Rattle.columns.specs.Optional.{text_or_null};
+ghost use Rattle.tables.specs.declared.TheConstants.{MAX_ROWS};
 
-use columns::{ColumnData, Ints, and_masks, cmp_cols, cmp_lit, not_masks, or_masks};
+use columns::{ColumnData, Ints, Mask, Texts, and_masks, cmp_cols, cmp_lit, not_masks, or_masks};
 use memory::Heap;
 use std::alloc::AllocError;
 use std::marker::Model;
@@ -49,6 +52,37 @@ fn zeros<A: Heap>(alloc: A, words: usize) -> Result<Vec<u64, A>, AllocError>
     ensures { IfOk result (λ v. v.items ≡ replicate words 0) }
 {
     Vec::from_elem(alloc, 0, words)
+}
+
+// Whether the value of a cell, which may be null, is a text.
+fn is_text(cell: Option<&str>, text: &str) -> bool
+    ensures { result ≡ is_true (equal_of (text_or_null cell.entry) (value.text text.now)) }
+{
+    match cell {
+        Some(value) => value == text,
+        None => false,
+    }
+}
+
+// Whether each value of a column is a text.
+fn equal_mask<A: Heap>(alloc: A, column: &Texts<A>, text: &str) -> Result<Mask<A>, AllocError>
+    requires { length column.now ≤ MAX_ROWS }
+    ensures { IfOk result (λ m. m ≡ map (λ d. is_true (equal_of d (value.text text.now))) column.now) }
+{
+    let mut equal = Mask::new(alloc);
+    for i in 0..column.len() {
+        equal.push(is_text(column.get(i), text))?;
+    }
+    Ok(equal)
+}
+
+// A copy of words.
+fn copied<A: Heap>(alloc: A, words: &[u64]) -> Result<Vec<u64, A>, AllocError>
+    ensures { IfOk result (λ v. v.items ≡ words.now) }
+{
+    let mut copy = zeros(alloc, words.len())?;
+    copy.copy_from_slice(words);
+    Ok(copy)
 }
 
 impl<A: Heap> Truths<A> {
@@ -123,6 +157,23 @@ impl<A: Heap> Truths<A> {
         })
     }
 
+    /// Whether each value of a column is a text.
+    pub(crate) fn of_equal(alloc: A, column: &Texts<A>, text: &str) -> Result<Truths<A>, AllocError>
+        requires { length column.now ≤ MAX_ROWS }
+        ensures { IfOk result (λ t. t ≡ map (λ d. equal_of d (value.text text.now)) column.now) }
+    {
+        let equal = equal_mask(alloc, column, text)?;
+        let bits = equal.words();
+        let trues = copied(alloc, bits)?;
+        let missing = column.nulls();
+        let nulls = copied(alloc, missing)?;
+        Ok(Truths {
+            trues,
+            nulls,
+            len: column.len(),
+        })
+    }
+
     /// IS NULL of each value of a column.
     pub(crate) fn of_nulls(alloc: A, column: &ColumnData<A>) -> Result<Truths<A>, AllocError>
         ensures { IfOk result (λ t. t ≡ map null_test (cells_of column.now)) }
@@ -166,6 +217,13 @@ impl<A: Heap> Truths<A> {
         ensures { result ≡ length self.now }
     {
         self.len
+    }
+
+    /// Whether each is true: neither false nor null.
+    pub(crate) fn into_mask(self) -> Mask<A>
+        ensures { result ≡ map is_true self }
+    {
+        Mask::of_words(self.trues, self.len)
     }
 
     /// True where the condition is true on the row of this number: neither false nor null.

@@ -55,7 +55,7 @@ query_conjuncts : (q : BoundQuery) → flat_map columns (conjuncts q) ≡ flat_m
 query_conjuncts q = flat_map-append columns (flat_map conjuncts_in (inner_ons q)) (conjuncts_in q.filter) ∙ ap₂ ◌++◌ (ons_conjuncts (inner_ons q)) (condition_conjuncts q.filter)
 
 -- the ONs as they are written
-whole_ons : (ons : List (Option BoundExpr)) → flat_map columns (flat_map option_to_list ons) ≡ flat_map condition_columns ons
+pub whole_ons : (ons : List (Option BoundExpr)) → flat_map columns (flat_map option_to_list ons) ≡ flat_map condition_columns ons
 whole_ons [] = refl
 whole_ons (None ∷ ons) = whole_ons ons
 whole_ons (Some e ∷ ons) = ap (λ ids. columns e ++ ids) (whole_ons ons)

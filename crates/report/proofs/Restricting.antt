@@ -1,31 +1,23 @@
 -- Restricted rows of combinations.
-use Rattle.std.proofs.Common.{◌≡◌, ℕ, zero, suc, ◌+◌, ◌==◌, Bool, true, false, cond, List, [], ◌∷◌, map, filter, slice_index_or, refl, arith, Contains, add-zero, zero-add, subst}
+use Rattle.std.proofs.Common.{◌≡◌, ◌∙◌, ℕ, zero, suc, ◌+◌, ◌==◌, Bool, true, false, cond, List, [], ◌∷◌, map, filter, slice_index_or, refl, ap, arith, Contains, subst}
 use Rattle.std.specs.List.{list_any}
 use Rattle.memory.proofs.Cases.{or_second}
-use Rattle.value.specs.Datum.{Row, cell}
+use Rattle.value.specs.Datum.{Row, cell, null}
+use Rattle.value.specs.Restricted.{is_one_of, restricted}
+use Rattle.value.proofs.Restricted.{cell_of_restricted}
 use Rattle.expr.specs.declared.bound.ColumnId.{ColumnId}
 use Rattle.eval.specs.Laws.{AgreeOn}
 use Rattle.expr.specs.BoundQuery.{BoundQuery}
 use Rattle.tuples.specs.Combinations.{Combination, joined_cells}
 use Rattle.expr.specs.NamedColumns.{named_columns}
 use Rattle.row_marks.proofs.MarkOutcomes.{itself}
-use Rattle.report.specs.Restricted.{kept_from, restricted, named_in}
+use Rattle.report.specs.Restricted.{columns_at, named_in}
 use Rattle.report.proofs.ChangedRows.{each_row}
 
 -- ---- a column that is kept is as it was
 
-cell_kept : (i : ℕ) (slots : List ℕ) (row : Row) (k : ℕ) → list_any (λ c. c == (i + k)) slots ≡ true → cell (kept_from i slots row) k ≡ cell row k
-cell_kept i slots [] k here = refl
-cell_kept i slots (d ∷ ds) zero here = rw (rw add-zero at here)
-cell_kept i slots (d ∷ ds) (suc k) here =
-    let e : i + suc k ≡ i + 1 + k = omega arith in
-    cell_kept (i + 1) slots ds k (subst (λ n. list_any (λ c. c == n) slots ≡ true) e here)
-
-pub cell_of_restricted : (slots : List ℕ) (row : Row) (k : ℕ) → list_any (λ c. c == k) slots ≡ true → cell (restricted slots row) k ≡ cell row k
-cell_of_restricted slots row k here = cell_kept 0 slots row k (rw zero-add here)
-
 -- the index of a column is among those of the columns of its entry
-pub place_among : (ids : List ColumnId) (id : ColumnId) → Contains ids id → list_any (λ c. c == id.column) (map (λ x. x.column) (filter (λ x. x.entry == id.entry) ids)) ≡ true
+pub place_among : (ids : List ColumnId) (id : ColumnId) → Contains ids id → is_one_of (columns_at id.entry ids) id.column ≡ true
 place_among [] id c = absurd (none c)
   where
     none : Contains {X = ColumnId} [] id → ⊥
@@ -57,7 +49,7 @@ pub named_kept : (q : BoundQuery) (these : Combination) → AgreeOn (named_colum
 named_kept q these = record {
   columns = λ id within.
       let e : id.entry ≡ 0 + id.entry = omega arith in
-      let kept : (row : Row) → cell (to_named q id.entry row) id.column ≡ cell row id.column = λ row. cell_of_restricted (named_in q id.entry) row id.column (place_among (named_columns q) id within) in
+      let kept : (row : Row) → cell (to_named q id.entry row) id.column ≡ cell row id.column = λ row. cell_of_restricted (named_in q id.entry) row id.column ∙ ap (λ b. cond b (cell row id.column) null) (place_among (named_columns q) id within) in
       cell_of_each (to_named q) 0 these id.entry id.column (subst (λ n. (row : Row) → cell (to_named q n row) id.column ≡ cell row id.column) e kept);
   aggregates = λ offset. refl;
 }

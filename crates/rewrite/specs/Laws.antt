@@ -44,7 +44,7 @@ PlansAreAccepted =
 
 -- the most steps of both together
 abbrev pub most_plan_steps : ℕ
-most_plan_steps = 4380
+most_plan_steps = 5505
 
 -- both together are no more, of such a query
 abbrev pub PlansAreShort : Type 0

@@ -24,7 +24,7 @@ pub fn law_shapes_mean_same()
 }
 
 /// The checker accepts the steps that `simplify` and then `place` make, of every query within the limits and every admissible
-/// code: at most 4,380 steps.
+/// code: at most 5,505 steps.
 pub fn law_plans_are_accepted()
     ensures accepted { PlansAreAccepted }
     ensures short { PlansAreShort }

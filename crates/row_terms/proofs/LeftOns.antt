@@ -1,6 +1,6 @@
 -- The ONs of left joined entries that cannot fault, one entry after another.
 use Rattle.std.proofs.Common.{◌≡◌, ℕ, zero, suc, ◌-◌, List, [], ◌∷◌, ◌++◌, map, filter, flat_map, take, drop, length, Option, option_to_list, refl, sym, ap, ap₂, ◌∙◌, arith}
-use Rattle.std.proofs.lemmas.List.{length-map, map-append}
+use Rattle.std.proofs.lemmas.List.{drop-map, length-map, map-append}
 use Rattle.std.proofs.Math.Seq.{take-length}
 use Rattle.std.proofs.lemmas.List.Elements.{filter-append}
 use Rattle.expr.specs.Bound.{BoundExpr}
@@ -16,19 +16,15 @@ of_each (on ∷ ons) =
     ∙ sym (map-append without_offsets (filter movable (option_to_list on)) (filter movable (flat_map option_to_list ons)))
     ∙ ap (map without_offsets) (sym (filter-append movable (option_to_list on) (flat_map option_to_list ons)))
 
-viewed : {X : Type 0} (view : X → Option BoundExpr) (n : ℕ) (xs : List X) → map view (drop n xs) ≡ drop n (map view xs)
-viewed view zero xs = refl
-viewed view (suc n) [] = refl
-viewed view (suc n) (x ∷ xs) = viewed view n xs
-
-rest_of : {X : Type 0} (n : ℕ) (xs : List X) → take (length xs - n) (drop n xs) ≡ drop n xs
+-- so many from there on are all the rest
+pub rest_of : {X : Type 0} (n : ℕ) (xs : List X) → take (length xs - n) (drop n xs) ≡ drop n xs
 rest_of zero xs = let e : length xs - 0 ≡ length xs = omega arith in rw e (take-length xs)
 rest_of {X} (suc n) [] = let e : 0 - suc n ≡ 0 = omega arith in let none : List X = [] in ap (λ k. take k none) e
 rest_of (suc n) (x ∷ xs) = let e : suc (length xs) - suc n ≡ length xs - n = omega arith in rw e (rest_of n xs)
 
 -- the views of the last ONs, those of left joins
-last_viewed : {Y : Type 0} (v : Y → Option BoundExpr) (q : BoundQuery) (xs ys : List Y) (n : ℕ) → xs ≡ ys → q.ons ≡ map v ys → n ≡ length xs - q.left_count → map v (drop n xs) ≡ drop (length q.ons - q.left_count) q.ons
-last_viewed v q xs ys n e o l = rw (l, e, o) (viewed v (length ys - q.left_count) ys ∙ ap (λ k. drop (k - q.left_count) (map v ys)) (sym (length-map ys v)))
+pub last_viewed : {Y : Type 0} (v : Y → Option BoundExpr) (q : BoundQuery) (xs ys : List Y) (n : ℕ) → xs ≡ ys → q.ons ≡ map v ys → n ≡ length xs - q.left_count → map v (drop n xs) ≡ drop (length q.ons - q.left_count) q.ons
+last_viewed v q xs ys n e o l = rw (l, e, o) (sym (drop-map v (length ys - q.left_count) ys) ∙ ap (λ k. drop (k - q.left_count) (map v ys)) (sym (length-map ys v)))
 
 pub all_of : {Y : Type 0} (v : Y → Option BoundExpr) (q : BoundQuery) (xs ys : List Y) (n : ℕ) (k0 k1 : List BoundExpr) → xs ≡ ys → q.ons ≡ map v ys → n ≡ length xs - q.left_count → k0 ≡ [] → k1 ≡ k0 ++ flat_map left_condition_in (map v (take (length xs - n) (drop n xs))) → k1 ≡ left_conditions q
 all_of v q xs ys n k0 k1 e o l z k =

@@ -1,5 +1,6 @@
 pub mod Card
 pub mod Factors
+pub mod Marked
 pub mod Repeats
 pub mod Runs
 pub mod Statistics

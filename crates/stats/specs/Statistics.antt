@@ -1,4 +1,4 @@
--- The statistics of a table: how many rows it has, and of each column how many distinct values, and their bounds.
+-- The statistics of rows: how many there are, and of each column how many distinct values, and their bounds.
 use Rattle.std.specs.Prelude.{ℕ, ℤ, Bool, true, false, List, length, map, filter, Option, Some, None, slice_index_or}
 use Rattle.std.specs.List.{filter_map, range_with_len}
 use Rattle.std.specs.declared.cmp.Ordering.{Ordering}
@@ -6,6 +6,7 @@ use Rattle.std.specs.Ordering.{int_cmp}
 use Rattle.bags.specs.Least.{least}
 use Rattle.value.specs.Datum.{Datum, null, int, text, bool, Row, cell}
 use Rattle.value.specs.Orders.{datum_cmp}
+use Rattle.value.specs.Restricted.{restricted}
 use Rattle.tables.specs.Loading.{TableRows}
 use Rattle.stats.specs.declared.statistics.Bounds.{Bounds}
 use Rattle.stats.specs.declared.statistics.ColumnStats.{ColumnStats}
@@ -16,7 +17,7 @@ pub data Stats : Type 0 where
   Unknown : Stats
   Known : (rows : ℕ) → (columns : List ColumnStats) → Stats
 
--- ---- of a table
+-- ---- of rows
 
 abbrev pub is_value : Datum → Bool
 is_value null = false
@@ -54,9 +55,17 @@ bounds_of ns = between (least int_cmp ns) (greatest int_cmp ns)
 abbrev pub stats_of_values : List Datum → ColumnStats
 stats_of_values values = record { distinct = length (without_repeats datum_cmp values); bounds = bounds_of (numbers values) }
 
--- its rows, and of each column its values
+-- of rows with so many columns: how many rows, and of each column its values
+abbrev pub rows_stats : (count : ℕ) → List Row → Stats
+rows_stats count rows = Known (length rows) (map (λ column. stats_of_values (values_in rows column)) (range_with_len 0 count))
+
+-- of a table
 abbrev pub table_stats : TableRows → Stats
-table_stats t = Known (length t.rows) (map (λ column. stats_of_values (values_in t.rows column)) (range_with_len 0 (length t.columns)))
+table_stats t = rows_stats (length t.columns) t.rows
+
+-- of the rows that are seen, restricted to some columns: the others have no values
+abbrev pub seen_stats : (columns : List ℕ) → (count : ℕ) → (seen : List Row) → Stats
+seen_stats columns count seen = rows_stats count (map (restricted columns) seen)
 
 -- ---- as they are read
 

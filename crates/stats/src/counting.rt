@@ -1,16 +1,19 @@
 //! The statistics of a column, counted.
 
-ghost use Rattle.std.specs.Prelude.{◌≡◌, ◌<◌, ◌≤◌, ◌+ℤ◌, ◌<ℤ◌, ◌≤ℤ◌, All, IfOk, IfSome, Some, length, option_map, pos};
+ghost use Rattle.std.specs.Prelude.{◌≡◌, ◌<◌, ◌≤◌, ◌+ℤ◌, ◌<ℤ◌, ◌≤ℤ◌, All, IfOk, IfSome, Some, if◌then◌else◌, length, option_map, pos};
 ghost use Rattle.std.specs.Ordering.{bool_cmp, int_cmp, nat_cmp};
 ghost use Rattle.std.specs.Cmp.Lexicographic.{slice_cmp};
 ghost use Rattle.bags.specs.Least.{lesser};
+ghost use Rattle.value.specs.Datum.{cell, null, null_or, row_at};
 ghost use Rattle.tables.specs.declared.TheConstants.{MAX_ROWS};
+ghost use Rattle.stats.specs.Marked.{count_marks, is_marked, marked};
 ghost use Rattle.stats.specs.Repeats.{without_repeats};
 ghost use Rattle.stats.specs.Runs.{ends_run, runs};
 ghost use Rattle.stats.specs.Statistics as spec;
 ghost use Rattle.stats.specs.Types.{texts, truths};
 
 use crate::statistics::{Bounds, ColumnStats};
+use columns::Mask;
 use memory::Heap;
 use std::alloc::AllocError;
 use std::collections::HashSet;
@@ -26,19 +29,55 @@ struct Values<A: Heap> {
     truths: Vec<bool, A>,
 }
 
-// The values of a column, apart from null.
-fn values_in<A: Heap>(alloc: A, table: &Table<A>, column: u64) -> Result<Values<A>, AllocError>
-    requires { column < length table.now.columns }
-    ensures numbers { IfOk result (λ values. values.numbers.items ≡ spec.numbers (spec.values_in table.now.rows column)) }
-    ensures texts { IfOk result (λ values. values.distinct_texts ≡ length (without_repeats (slice_cmp nat_cmp) (texts (spec.values_in table.now.rows column)))) }
-    ensures truths { IfOk result (λ values. values.truths.items ≡ truths (spec.values_in table.now.rows column)) }
+// True where a row is marked; without marks every row is.
+fn is_marked<A: Heap>(marks: Option<&Mask<A>>, row: u64) -> bool
+    requires { IfSome marks (λ m. row < length m.now) }
+    ensures { result ≡ is_marked (option_map (λ m. m.now) marks.entry) row }
+{
+    match marks {
+        None => true,
+        Some(marks) => marks.get(row as usize),
+    }
+}
+
+// The value of a cell, unless it is null or its row is not marked.
+fn marked_value<'t, A: Heap>(
+    table: &'t Table<A>,
+    marks: Option<&Mask<A>>,
+    row: u64,
+    column: u64,
+) -> Option<Lent<'t>>
+    requires row { row < length table.now.rows }
+    requires column { column < length table.now.columns }
+    requires marks { IfSome marks (λ m. length m.now ≡ length table.now.rows) }
+    ensures { null_or result ≡ (if is_marked (option_map (λ m. m.now) marks.entry) row then cell (row_at table.now.rows row) column else null) }
+{
+    if is_marked(marks, row) {
+        table.value(row, column)
+    } else {
+        None
+    }
+}
+
+// The values of a column in the rows that are marked, apart from null.
+fn values_in<A: Heap>(
+    alloc: A,
+    table: &Table<A>,
+    marks: Option<&Mask<A>>,
+    column: u64,
+) -> Result<Values<A>, AllocError>
+    requires column { column < length table.now.columns }
+    requires marks { IfSome marks (λ m. length m.now ≡ length table.now.rows) }
+    ensures numbers { IfOk result (λ values. values.numbers.items ≡ spec.numbers (spec.values_in (marked (option_map (λ m. m.now) marks.entry) table.now.rows) column)) }
+    ensures texts { IfOk result (λ values. values.distinct_texts ≡ length (without_repeats (slice_cmp nat_cmp) (texts (spec.values_in (marked (option_map (λ m. m.now) marks.entry) table.now.rows) column)))) }
+    ensures truths { IfOk result (λ values. values.truths.items ≡ truths (spec.values_in (marked (option_map (λ m. m.now) marks.entry) table.now.rows) column)) }
     ensures few { length table.now.rows ≤ MAX_ROWS }
 {
     let mut numbers = Vec::new(alloc);
     let mut texts: HashSet<&str, BuildHasherDefault<FoldHasher>, A> = HashSet::new(alloc);
     let mut truths = Vec::new(alloc);
     for row in 0..table.rows() {
-        match table.value(row, column) {
+        match marked_value(table, marks, row, column) {
             None => {}
             Some(Lent::Int(number)) => numbers.push(number)?,
             Some(Lent::Text(text)) => {
@@ -172,16 +211,18 @@ fn distinct_truths(truths: &[bool]) -> u64
     u64::from(truths.contains(&false)) + u64::from(truths.contains(&true))
 }
 
-/// The statistics of a column of a table, counted from 0.
-pub(crate) fn column_stats<A: Heap>(
+/// The statistics of a column, counted from 0, in the rows of a table that are marked; without marks in every row.
+pub(crate) fn marked_stats<A: Heap>(
     alloc: A,
     table: &Table<A>,
+    marks: Option<&Mask<A>>,
     column: u64,
 ) -> Result<ColumnStats, AllocError>
-    requires { column < length table.now.columns }
-    ensures { IfOk result (λ s. s ≡ spec.stats_of_values (spec.values_in table.now.rows column)) }
+    requires column { column < length table.now.columns }
+    requires marks { IfSome marks (λ m. length m.now ≡ length table.now.rows) }
+    ensures { IfOk result (λ s. s ≡ spec.stats_of_values (spec.values_in (marked (option_map (λ m. m.now) marks.entry) table.now.rows) column)) }
 {
-    let mut values = values_in(alloc, table, column)?;
+    let mut values = values_in(alloc, table, marks, column)?;
     let bounds = bounds_of(&values.numbers);
     let truths = distinct_truths(&values.truths);
     let numbers = distinct_numbers(alloc, &mut values.numbers, bounds)?;
@@ -189,4 +230,30 @@ pub(crate) fn column_stats<A: Heap>(
         distinct: numbers + values.distinct_texts + truths,
         bounds,
     })
+}
+
+/// The statistics of a column of a table, counted from 0.
+pub(crate) fn column_stats<'t, A: Heap>(
+    alloc: A,
+    table: &'t Table<A>,
+    column: u64,
+) -> Result<ColumnStats, AllocError>
+    requires { column < length table.now.columns }
+    ensures { IfOk result (λ s. s ≡ spec.stats_of_values (spec.values_in table.now.rows column)) }
+{
+    let every_row: Option<&'t Mask<A>> = None;
+    marked_stats(alloc, table, every_row, column)
+}
+
+/// How many marks there are.
+pub(crate) fn count_marks<A: Heap>(marks: &Mask<A>) -> u64
+    ensures { result ≡ count_marks marks.now }
+{
+    let mut count = 0;
+    for row in 0..marks.len() {
+        if marks.get(row) {
+            count += 1;
+        }
+    }
+    count
 }

@@ -1,13 +1,22 @@
-//! The statistics of a table.
+//! The statistics of a table, and of those of its rows that a role sees.
 
-ghost use Rattle.std.specs.Prelude.{◌≡◌, IfOk};
+ghost use Rattle.std.specs.Prelude.{◌≡◌, ◌<◌, Bool, IfOk, Some, if◌then◌else◌, filter, length, map};
+ghost use Rattle.value.specs.Datum.{Row};
+ghost use Rattle.value.specs.Restricted.{is_one_of};
+ghost use Rattle.tables.specs.Loading.{TableRows};
+ghost use Rattle.tuples.specs.Guards.{shows};
+ghost use Rattle.tuples.specs.View.{guard_of};
+ghost use Rattle.stats.specs.Marked.{kept_stats, marked};
 ghost use Rattle.stats.specs.Statistics as spec;
 ghost use Rattle.stats.specs.View.{stats_of};
 
-use crate::counting::column_stats;
+use crate::counting::{column_stats, count_marks, marked_stats};
+use columns::Mask;
+use lane_filters::seen_rows;
 use memory::{Heap, Items};
 use std::alloc::AllocError;
 use tables::Table;
+use tuples::Guard;
 
 /// The least and the greatest of some whole numbers.
 #[derive(Clone, Copy, Debug, PartialEq, Eq)]
@@ -25,6 +34,57 @@ pub struct ColumnStats {
     pub distinct: u64,
     /// The bounds of its whole numbers, if it has any.
     pub bounds: Option<Bounds>,
+}
+
+// Those of a column without values.
+const NO_VALUES: ColumnStats = ColumnStats {
+    distinct: 0,
+    bounds: None,
+};
+
+// The statistics of a column, if it is one of those that are kept.
+fn if_kept(columns: &[usize], column: usize, stats: ColumnStats) -> ColumnStats
+    ensures { result ≡ (if is_one_of columns.now column then stats else spec.no_values) }
+{
+    if columns.contains(&column) {
+        stats
+    } else {
+        NO_VALUES
+    }
+}
+
+// Of all columns those that are kept, the others being without values.
+fn kept_stats<A: Heap>(
+    alloc: A,
+    all: &[ColumnStats],
+    columns: &[usize],
+) -> Result<Items<ColumnStats, A>, AllocError>
+    ensures { IfOk result (λ kept. kept ≡ kept_stats 0 columns.now all.now) }
+{
+    let mut kept = Items::new(alloc);
+    for (column, stats) in all.iter().enumerate() {
+        kept.push(if_kept(columns, column, *stats))?;
+    }
+    Ok(kept)
+}
+
+// The statistics of a column in the rows that are marked, if it is one of those that are counted.
+fn counted_stats<A: Heap>(
+    alloc: A,
+    table: &Table<A>,
+    marks: &Mask<A>,
+    columns: &[usize],
+    column: usize,
+) -> Result<ColumnStats, AllocError>
+    requires column { column < length table.now.columns }
+    requires marks { length marks.now ≡ length table.now.rows }
+    ensures { IfOk result (λ s. s ≡ (if is_one_of columns.now column then spec.stats_of_values (spec.values_in (marked (Some marks.now) table.now.rows) column) else spec.no_values)) }
+{
+    if columns.contains(&column) {
+        marked_stats(alloc, table, Some(marks), column as u64)
+    } else {
+        Ok(NO_VALUES)
+    }
 }
 
 /// The statistics of a table (Selinger et al. 1979, section 4).
@@ -54,21 +114,58 @@ impl<A: Heap> Stats<A> {
         Ok(Stats::Known { rows, columns })
     }
 
-    /// A copy. It fails where memory runs out.
-    pub fn copy(&self, alloc: A) -> Result<Stats<A>, AllocError>
-        ensures { IfOk result (λ copy. stats_of copy ≡ stats_of self.now) }
+    /// The statistics of the rows of a table that are marked, restricted to some columns, counted from 0; the others count as
+    /// columns without values. It fails where memory runs out.
+    pub fn of_marked(
+        alloc: A,
+        table: &Table<A>,
+        marks: &Mask<A>,
+        columns: &[usize],
+    ) -> Result<Stats<A>, AllocError>
+        requires { length marks.now ≡ length table.now.rows }
+        ensures { (test : Row → Bool) → marks.now ≡ map test table.now.rows → IfOk result (λ s. stats_of s ≡ spec.seen_stats columns.now (length table.now.columns) (filter test table.now.rows)) }
+    {
+        let mut counted = Items::new(alloc);
+        for column in 0..table.columns().len() {
+            counted.push(counted_stats(alloc, table, marks, columns, column)?)?;
+        }
+        Ok(Stats::Known {
+            rows: count_marks(marks),
+            columns: counted,
+        })
+    }
+
+    /// The statistics of the rows of a table that a guard shows to a role, restricted to some columns, counted from 0; the others
+    /// count as columns without values. It fails where memory runs out.
+    pub fn of_seen(
+        alloc: A,
+        table: &Table<A>,
+        guard: &Guard<A>,
+        role: &str,
+        columns: &[usize],
+    ) -> Result<Stats<A>, AllocError>
+        ensures { IfOk result (λ s. stats_of s ≡ spec.seen_stats columns.now (length table.now.columns) (filter (shows role.now (guard_of guard.now)) table.now.rows)) }
+    {
+        let seen = seen_rows(alloc, table, guard, role)?;
+        Stats::of_marked(alloc, table, &seen, columns)
+    }
+
+    /// Of the statistics of a table's rows those of the rows restricted to some columns, counted from 0. It fails where memory
+    /// runs out.
+    pub fn restricted(&self, alloc: A, columns: &[usize]) -> Result<Stats<A>, AllocError>
+        ensures { (t : TableRows) → stats_of self.now ≡ spec.table_stats t → IfOk result (λ s. stats_of s ≡ spec.seen_stats columns.now (length t.columns) t.rows) }
     {
         match self {
             Stats::Unknown => Ok(Stats::Unknown),
-            Stats::Known { rows, columns } => {
-                let columns = Items::from(Vec::from_slice(alloc, columns.as_slice())?);
-                let rows = *rows;
-                Ok(Stats::Known { rows, columns })
-            }
+            Stats::Known { rows, columns: all } => Ok(Stats::Known {
+                rows: *rows,
+                columns: kept_stats(alloc, all.as_slice(), columns)?,
+            }),
         }
     }
 
-    /// Those of a table whose rows stay hidden: 1,000 rows, and ten distinct values in each column.
+    /// Those of a table whose rows are not to be counted: 1,000 rows, and ten distinct values in each column. The engine has no use
+    /// for them, since a role may count the rows that it sees.
     pub fn unknown() -> Stats<A>
         ensures { stats_of result ≡ spec.Unknown }
     {
@@ -89,10 +186,6 @@ impl<A: Heap> Stats<A> {
     pub fn column(&self, column: usize) -> ColumnStats
         ensures { result ≡ spec.column_stats (stats_of self.now) column }
     {
-        let none = ColumnStats {
-            distinct: 0,
-            bounds: None,
-        };
         match self {
             Stats::Unknown => ColumnStats {
                 distinct: 10,
@@ -100,7 +193,7 @@ impl<A: Heap> Stats<A> {
             },
             Stats::Known { columns, .. } => match columns.get(column) {
                 Some(stats) => *stats,
-                None => none,
+                None => NO_VALUES,
             },
         }
     }

@@ -1,7 +1,8 @@
 //! The problem of the search: what it reads of a query.
 //!
-//! Each table has 1,000 rows and nine columns, an id and one for each table; each column has the numbers from 1 to 1,000, and the
-//! id has an index. A condition joins an entry's column for another table to the id of that table.
+//! Each table has 1,000 rows and 64 columns, an id, one for each table, and others; each column has the numbers from 1 to 1,000, and
+//! the first ones have an index. A condition joins an entry's column for another table to the id of that table; there are no more
+//! than a query may have.
 
 ghost use Rattle.std.specs.Prelude.{◌≡◌, ◌≤◌, IfOk, length};
 ghost use Rattle.value.specs.Limits.{most_entries};
@@ -14,6 +15,7 @@ use stats::{Bounds, ColumnStats, Stats};
 use std::alloc::{AllocError, Global};
 use trailcheck::Setting;
 use tuples::Guard;
+use value::MOST_CONJUNCTS;
 
 /// The number of rows of each table.
 const ROWS: u64 = 1000;
@@ -65,7 +67,7 @@ fn push_joins(
     requires { other ≤ most_entries }
 {
     for one in 0..other {
-        if shape.joins(one, other) {
+        if known.len() < MOST_CONJUNCTS && shape.joins(one, other) {
             let column = ColumnId {
                 entry: one,
                 column: other + 1,

@@ -29,9 +29,9 @@ impl From<io::Error> for Stop {
 }
 
 const USAGE: &str = "\
-usage: times plan chain|star|clique ENTRIES TIMES INDEXES, with 1 to 8 entries, and 1 to 64 indexes of each table
+usage: times plan chain|star|clique ENTRIES TIMES INDEXES, with 1 to 12 entries, and 1 to 64 indexes of each table
        times run none|hash|merge|merge-indexed|nested ROWS, with 1 to 1000000 rows
-       times ask rows|plan TABLES ROWS TIMES, with 1 to 8 tables of 1 to 1000000 rows, asked up to 1000000 times";
+       times ask rows|plan TABLES ROWS TIMES, with 1 to 12 tables of 1 to 1000000 rows, asked up to 1000000 times";
 
 impl Stop {
     /// The exit status.

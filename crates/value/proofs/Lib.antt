@@ -7,4 +7,5 @@ pub mod NoUtf8
 pub mod NumberTexts
 pub mod OneSpelling
 pub mod ReadBack
+pub mod Restricted
 pub mod Spelling

@@ -10,5 +10,6 @@ pub mod Names
 pub mod Numbers
 pub mod Operators
 pub mod Orders
+pub mod Restricted
 pub mod Texts
 pub mod Truths

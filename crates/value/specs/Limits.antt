@@ -3,7 +3,7 @@ use Rattle.std.specs.Prelude.{ℕ}
 
 -- the most tables of FROM
 abbrev pub most_entries : ℕ
-most_entries = 8
+most_entries = 12
 
 -- the most conjuncts of ON and WHERE together, and of a planning list
 abbrev pub most_conjuncts : ℕ

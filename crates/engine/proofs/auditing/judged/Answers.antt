@@ -1,4 +1,4 @@
-use Rattle.std.proofs.Common.{◌≡◌, ◌∙◌, map, ap, ap₂}
+use Rattle.std.proofs.Common.{◌≡◌, ◌∙◌, map, ap₂}
 use Rattle.std.proofs.lemmas.Result.{IfOk-weaker}
 use Rattle.row_terms.specs.View.{term_of}
 use Rattle.algebra.specs.View.{step_of}

@@ -4,8 +4,8 @@ use Rattle.memory.specs.Results.{and_then}
 use Rattle.row_ast.specs.View.{query_of}
 use Rattle.analysis.specs.Analysis.{admitted_query}
 use Rattle.analysis.specs.View.{read_of}
-use Rattle.engine.specs.Explained.{IsExplanation, explained_query, known}
-use Rattle.engine.specs.Known.{statistics_in}
+use Rattle.store.specs.Database.{rows_of}
+use Rattle.engine.specs.Explained.{IsExplanation, explained_query}
 use Rattle.engine.proofs.Tables.{read_parsed}
 use Rattle.engine.proofs.explaining.explained.Goals as goal
 
@@ -24,5 +24,5 @@ returns-in-Ok g c =
     let cat = c.args.store.now.catalog in
     let role = c.args.role.now in
     let read = (rw c.catalog.ensures.catalog at c.in_ok-query.ensures.read) in
-    subst (λ r. IfOk c.explained_query-explained.result (λ x. IsExplanation x.0.items x.1 (explained_query cat (known cat role (statistics_in c.args.store.now)) role (and_then r (admitted_query cat role)))))
+    subst (λ r. IfOk c.explained_query-explained.result (λ x. IsExplanation x.0.items x.1 (explained_query cat (rows_of c.args.store.now) role (and_then r (admitted_query cat role)))))
     (sym (sym read ∙ ap read_of c.in-Ok.is)) c.explained_query-explained.ensures

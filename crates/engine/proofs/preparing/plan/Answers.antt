@@ -3,7 +3,7 @@ use Rattle.std.proofs.lemmas.List.{length-map}
 use Rattle.std.proofs.lemmas.Simd.{map-map}
 use Rattle.expr.specs.View.{bound_query_of, code_of}
 use Rattle.stats.specs.View.{stats_of}
-use Rattle.access.specs.Access.{sees}
+use Rattle.access.specs.Access.{sees, visible}
 use Rattle.scope.specs.View.{entry_of}
 use Rattle.tuples.specs.Guards.{shows}
 use Rattle.tuples.specs.View.{guard_of}
@@ -12,24 +12,30 @@ use Rattle.trailcheck.specs.View.{setting_of}
 use Rattle.planning.specs.LeastCode.{Problem}
 use Rattle.planning.specs.Wanted.{wanted_column}
 use Rattle.resolve.specs.View.{bound_of}
+use Rattle.store.specs.Database.{rows_of}
 use Rattle.engine.specs.Plans.{IsPlanFor, Plan}
 use Rattle.engine.proofs.Made.{is_made}
 use Rattle.engine.proofs.OfText.{setting_of_query, text_conjuncts, text_few, text_lefts, text_tables}
-use Rattle.engine.proofs.Statistics.{as_many}
+use Rattle.engine.proofs.SeenStatistics.{as_many}
 use Rattle.engine.proofs.Steps.{as_long}
 use Rattle.engine.proofs.preparing.plan.Goals as goal
 
-pub known_statistics-requires-clause-tables : goal.known_statistics-requires-clause-tables
-known_statistics-requires-clause-tables g c = rw c.as_slice-entries.ensures (text_tables c.args.store.now.catalog c.args.role.now (bound_of c.args.bound.now) c.requires)
+pub seen_statistics-requires-clause-tables : goal.seen_statistics-requires-clause-tables
+seen_statistics-requires-clause-tables g c = text_tables c.args.store.now.catalog c.args.role.now (bound_of c.args.bound.now) c.requires
+
+pub seen_statistics-requires-clause-shows : goal.seen_statistics-requires-clause-shows
+seen_statistics-requires-clause-shows g c = λ row. rw c.as_slice-frame.ensures (rw c.catalog.ensures.catalog at (c.in_ok-setting.ensures.shows row))
 
 -- as many statistics as guards
 pub new-requires-clause-each : goal.new-requires-clause-each
 new-requires-clause-each g c =
-    let gathered = (rw (c.as_slice-entries.ensures, c.as_slice-frame.ensures) at c.in_ok-statistics.ensures) in
+    let b = bound_of c.args.bound.now in
     ap length c.deref-2.ensures.value
-    ∙ sym (length-map c.in_ok-statistics.statistics.items (λ s. stats_of s.now))
-    ∙ ap length gathered
-    ∙ as_many (λ e. entry_of e) guard_of c.args.store.now c.args.bound.now.entries c.in_ok-setting.setting.frame (as_long _ _ _ _ (c.in_ok-setting.ensures.shows []))
+    ∙ sym (length-map c.in_ok-each.each.items (λ s. stats_of s.now))
+    ∙ ap length (c.in_ok-each.ensures ∙ ap (map (λ s. stats_of s)) c.as_slice.ensures ∙ c.in_ok-statistics.ensures)
+    ∙ as_many b.query 0 (λ e. visible c.args.store.now.catalog c.args.role.now e.table (rows_of c.args.store.now e.table.name)) b.entries
+    ∙ length-map c.args.bound.now.entries (λ e. entry_of e)
+    ∙ sym (as_long _ _ _ _ (c.in_ok-setting.ensures.shows []))
 
 pub new-requires-clause-entries : goal.new-requires-clause-entries
 new-requires-clause-entries g c =
@@ -53,9 +59,8 @@ new-requires-clause-setting g c =
 pub new-requires-2 : goal.new-requires-2
 new-requires-2 g c =
     let b = bound_of c.args.bound.now in
-    let p : Plan = record { setting = setting_of c.in_ok-setting.setting; statistics = map (λ s. stats_of s) c.in_ok-copies.copies; cost = c.cost-cost.result; code = code_of c.into_code-code.result } in
-    let copied = c.in_ok-copies.ensures ∙ ap (map (λ s. stats_of s.now)) c.deref-3.ensures.value in
-    let statistics = ap (map (λ s. stats_of s.now)) c.deref-2.ensures.value ∙ sym copied in
+    let p : Plan = record { setting = setting_of c.in_ok-setting.setting; statistics = map (λ s. stats_of s) c.in_ok-statistics.statistics; cost = c.cost-cost.result; code = code_of c.into_code-code.result } in
+    let statistics = ap (map (λ s. stats_of s.now)) c.deref-2.ensures.value ∙ c.in_ok-each.ensures ∙ ap (map (λ s. stats_of s)) c.as_slice.ensures in
     let query = ap bound_query_of c.deref.ensures in
     let problem = c.in_ok-found.ensures.problem ∙ ap₂ (λ ss q. let x : Problem = record { setting = p.setting; statistics = ss; wanted = wanted_column q } in x) statistics query in
     (b.query, is_made c.in_ok-found.found b.query p c.into_code-code.ensures.plan (c.in_ok-found.ensures.query ∙ query) problem (sym c.cost-cost.ensures.cost) (sym c.into_code-code.ensures.code))
@@ -67,16 +72,14 @@ returns g c =
     let role = c.args.role.now in
     let b = bound_of c.args.bound.now in
     let frame = c.in_ok-setting.setting.frame in
-    let p : Plan = record { setting = setting_of c.in_ok-setting.setting; statistics = map (λ s. stats_of s) c.in_ok-copies.copies; cost = c.cost-cost.result; code = code_of c.into_code-code.result } in
-    let copied = c.in_ok-copies.ensures ∙ ap (map (λ s. stats_of s.now)) c.deref-3.ensures.value in
-    let statistics = ap (map (λ s. stats_of s.now)) c.deref-2.ensures.value ∙ sym copied in
+    let p : Plan = record { setting = setting_of c.in_ok-setting.setting; statistics = map (λ s. stats_of s) c.in_ok-statistics.statistics; cost = c.cost-cost.result; code = code_of c.into_code-code.result } in
+    let statistics = ap (map (λ s. stats_of s.now)) c.deref-2.ensures.value ∙ c.in_ok-each.ensures ∙ ap (map (λ s. stats_of s)) c.as_slice.ensures in
     let query = ap bound_query_of c.deref.ensures in
     let problem = c.in_ok-found.ensures.problem ∙ ap₂ (λ ss q. let x : Problem = record { setting = p.setting; statistics = ss; wanted = wanted_column q } in x) statistics query in
-    let gathered = (rw (c.as_slice-entries.ensures, c.as_slice-frame.ensures) at c.in_ok-statistics.ensures) in
     let under = (rw c.catalog.ensures.catalog at c.in_ok-setting.ensures.value) in
     subst (IsPlanFor database role b) (sym c.new-2.ensures) record {
       is_best = is_made c.in_ok-found.found b.query p c.into_code-code.ensures.plan (c.in_ok-found.ensures.query ∙ query) problem (sym c.cost-cost.ensures.cost) (sym c.into_code-code.ensures.code);
       of_setting = under;
-      of_statistics = copied ∙ gathered;
+      of_statistics = c.in_ok-statistics.ensures;
       of_guards = λ row. map-map (λ g. shows role g row) guard_of frame ∙ (rw c.catalog.ensures.catalog at (c.in_ok-setting.ensures.shows row)) ∙ sym (map-map (λ e. sees cat role e.table row) (λ e. entry_of e) c.args.bound.now.entries);
     }

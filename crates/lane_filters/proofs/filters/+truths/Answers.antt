@@ -1,4 +1,4 @@
-use Rattle.std.proofs.Common.{◌≡◌, ℕ, ◌-◌, List, [], length, drop, map, replicate, Ok, IfOk, IfSome, sym, ap, subst, ◌∙◌, arith}
+use Rattle.std.proofs.Common.{◌≡◌, ℕ, ◌-◌, List, length, drop, map, replicate, Ok, IfOk, IfSome, sym, ap, subst, ◌∙◌, arith}
 use Rattle.std.specs.Option.{is_some}
 use Rattle.value.specs.declared.order.Truth.{Truth}
 use Rattle.value.specs.declared.order.Truth.TheVariants.{False, True}
@@ -27,11 +27,11 @@ conjunction-loop-left-init g t c =
     record {
       within = omega arith;
       exact = ap (all_by_lanes (types_of c.args.table.now.columns)) over;
-      known = λ role. no_conjunct role rows (bound_exprs (drop (length es) es)) over ∙ ap (map Ok) (sym (c.in_ok-known.ensures ∙ ap (λ (n : ℕ). replicate n True) c.row_count.ensures));
+      known = no_conjunct c.args.role.now.name.now rows (bound_exprs (drop (length es) es)) over ∙ ap (map Ok) (sym (c.in_ok-known.ensures ∙ ap (λ (n : ℕ). replicate n True) c.row_count.ensures));
     }
 
-pub conjunction-truths_of-requires : goal.conjunction-truths_of-requires
-conjunction-truths_of-requires g t c κs within =
+pub conjunction-evaluated-requires : goal.conjunction-evaluated-requires
+conjunction-evaluated-requires g t c κs within =
     let w = member_lighter c.args.members.now c.loop-left.left c.index-members-left.result c.loop-left-test.true c.loop-left.invariant.within c.index-members-left.is in
     (omega (arith, c.decreases, w), within)
 
@@ -44,9 +44,10 @@ pub conjunction-and-requires : goal.conjunction-and-requires
 conjunction-and-requires g t c =
     let es = c.args.members.now in
     let rows = c.args.table.now.rows in
-    let truths = rw c.in-Some.is at (c.in_ok-truths.ensures.truths []) in
-    as_many (λ row. conjunction (cells_of row) [] (bound_exprs (drop c.loop-left.left es))) rows c.loop-left.known (c.loop-left.invariant.known [])
-    ∙ sym (as_many_truths [] rows (bound_expr_of c.index-members-left.result) c.in-Some.truths truths)
+    let role = c.args.role.now.name.now in
+    let truths = rw c.in-Some.is at c.in_ok-truths.ensures.truths in
+    as_many (λ row. conjunction (cells_of row) role (bound_exprs (drop c.loop-left.left es))) rows c.loop-left.known c.loop-left.invariant.known
+    ∙ sym (as_many_truths role rows (bound_expr_of c.index-members-left.result) c.in-Some.truths truths)
 
 pub conjunction-loop-left-preserved : goal.conjunction-loop-left-preserved
 conjunction-loop-left-preserved g t c =
@@ -57,10 +58,11 @@ conjunction-loop-left-preserved g t c =
     record {
       within = omega (arith, c.loop-left.invariant.within);
       exact = one_more es left e c.loop-left-test.true c.loop-left.invariant.within c.index-members-left.is (types_of c.args.table.now.columns) c.loop-left.invariant.exact (sym (ap is_some c.in-Some.is) ∙ c.in_ok-truths.ensures.exact);
-      known = λ role.
-          let truths = rw c.in-Some.is at (c.in_ok-truths.ensures.truths role) in
+      known =
+          let role = c.args.role.now.name.now in
+          let truths = rw c.in-Some.is at c.in_ok-truths.ensures.truths in
           one_conjunct role rows (bound_expr_of e) (bound_exprs (drop left es)) (bound_exprs (drop (left - 1) es)) c.in-Some.truths c.loop-left.known
-          (member_step es left e c.loop-left-test.true c.loop-left.invariant.within c.index-members-left.is) truths (c.loop-left.invariant.known role) ∙ ap (map Ok) (sym c.and.ensures);
+          (member_step es left e c.loop-left-test.true c.loop-left.invariant.within c.index-members-left.is) truths c.loop-left.invariant.known ∙ ap (map Ok) (sym c.and.ensures);
     }
 
 pub conjunction-returns-clause-exact : goal.conjunction-returns-clause-exact
@@ -69,9 +71,10 @@ conjunction-returns-clause-exact g t c =
     sym (sym (ap (λ (k : ℕ). all_by_lanes (types_of c.args.table.now.columns) (bound_exprs (drop k c.args.members.now))) over) ∙ c.loop-left.invariant.exact)
 
 pub conjunction-returns-clause-truths : goal.conjunction-returns-clause-truths
-conjunction-returns-clause-truths g t c = λ role.
+conjunction-returns-clause-truths g t c =
+    let role = c.args.role.now.name.now in
     let over : c.loop-left.left ≡ 0 = omega (arith, c.loop-left-test.false) in
-    sym (ap (λ (k : ℕ). map (λ row. conjunction (cells_of row) role (bound_exprs (drop k c.args.members.now))) c.args.table.now.rows) over) ∙ c.loop-left.invariant.known role
+    sym (ap (λ (k : ℕ). map (λ row. conjunction (cells_of row) role (bound_exprs (drop k c.args.members.now))) c.args.table.now.rows) over) ∙ c.loop-left.invariant.known
 
 -- ---- OR
 
@@ -83,11 +86,11 @@ disjunction-loop-left-init g t c =
     record {
       within = omega arith;
       exact = ap (all_by_lanes (types_of c.args.table.now.columns)) over;
-      known = λ role. no_disjunct role rows (bound_exprs (drop (length es) es)) over ∙ ap (map Ok) (sym (c.in_ok-known.ensures ∙ ap (λ (n : ℕ). replicate n False) c.row_count.ensures));
+      known = no_disjunct c.args.role.now.name.now rows (bound_exprs (drop (length es) es)) over ∙ ap (map Ok) (sym (c.in_ok-known.ensures ∙ ap (λ (n : ℕ). replicate n False) c.row_count.ensures));
     }
 
-pub disjunction-truths_of-requires : goal.disjunction-truths_of-requires
-disjunction-truths_of-requires g t c κs within =
+pub disjunction-evaluated-requires : goal.disjunction-evaluated-requires
+disjunction-evaluated-requires g t c κs within =
     let w = member_lighter c.args.members.now c.loop-left.left c.index-members-left.result c.loop-left-test.true c.loop-left.invariant.within c.index-members-left.is in
     (omega (arith, c.decreases, w), within)
 
@@ -100,9 +103,10 @@ pub disjunction-or-requires : goal.disjunction-or-requires
 disjunction-or-requires g t c =
     let es = c.args.members.now in
     let rows = c.args.table.now.rows in
-    let truths = rw c.in-Some.is at (c.in_ok-truths.ensures.truths []) in
-    as_many (λ row. disjunction (cells_of row) [] (bound_exprs (drop c.loop-left.left es))) rows c.loop-left.known (c.loop-left.invariant.known [])
-    ∙ sym (as_many_truths [] rows (bound_expr_of c.index-members-left.result) c.in-Some.truths truths)
+    let role = c.args.role.now.name.now in
+    let truths = rw c.in-Some.is at c.in_ok-truths.ensures.truths in
+    as_many (λ row. disjunction (cells_of row) role (bound_exprs (drop c.loop-left.left es))) rows c.loop-left.known c.loop-left.invariant.known
+    ∙ sym (as_many_truths role rows (bound_expr_of c.index-members-left.result) c.in-Some.truths truths)
 
 pub disjunction-loop-left-preserved : goal.disjunction-loop-left-preserved
 disjunction-loop-left-preserved g t c =
@@ -113,10 +117,11 @@ disjunction-loop-left-preserved g t c =
     record {
       within = omega (arith, c.loop-left.invariant.within);
       exact = one_more es left e c.loop-left-test.true c.loop-left.invariant.within c.index-members-left.is (types_of c.args.table.now.columns) c.loop-left.invariant.exact (sym (ap is_some c.in-Some.is) ∙ c.in_ok-truths.ensures.exact);
-      known = λ role.
-          let truths = rw c.in-Some.is at (c.in_ok-truths.ensures.truths role) in
+      known =
+          let role = c.args.role.now.name.now in
+          let truths = rw c.in-Some.is at c.in_ok-truths.ensures.truths in
           one_disjunct role rows (bound_expr_of e) (bound_exprs (drop left es)) (bound_exprs (drop (left - 1) es)) c.in-Some.truths c.loop-left.known
-          (member_step es left e c.loop-left-test.true c.loop-left.invariant.within c.index-members-left.is) truths (c.loop-left.invariant.known role) ∙ ap (map Ok) (sym c.or.ensures);
+          (member_step es left e c.loop-left-test.true c.loop-left.invariant.within c.index-members-left.is) truths c.loop-left.invariant.known ∙ ap (map Ok) (sym c.or.ensures);
     }
 
 pub disjunction-returns-clause-exact : goal.disjunction-returns-clause-exact
@@ -125,53 +130,57 @@ disjunction-returns-clause-exact g t c =
     sym (sym (ap (λ (k : ℕ). all_by_lanes (types_of c.args.table.now.columns) (bound_exprs (drop k c.args.members.now))) over) ∙ c.loop-left.invariant.exact)
 
 pub disjunction-returns-clause-truths : goal.disjunction-returns-clause-truths
-disjunction-returns-clause-truths g t c = λ role.
+disjunction-returns-clause-truths g t c =
+    let role = c.args.role.now.name.now in
     let over : c.loop-left.left ≡ 0 = omega (arith, c.loop-left-test.false) in
-    sym (ap (λ (k : ℕ). map (λ row. disjunction (cells_of row) role (bound_exprs (drop k c.args.members.now))) c.args.table.now.rows) over) ∙ c.loop-left.invariant.known role
+    sym (ap (λ (k : ℕ). map (λ row. disjunction (cells_of row) role (bound_exprs (drop k c.args.members.now))) c.args.table.now.rows) over) ∙ c.loop-left.invariant.known
 
 -- ---- nodes
 
-pub truths_of-returns-in-Some-clause-truths : goal.truths_of-returns-in-Some-clause-truths
-truths_of-returns-in-Some-clause-truths g t c = λ role.
+pub evaluated-returns-in-Some-clause-truths : goal.evaluated-returns-in-Some-clause-truths
+evaluated-returns-in-Some-clause-truths g t c =
+    let role = c.args.role.now.name.now in
     let rows = c.args.table.now.rows in
     let e = c.deref-in-Not.result.now in
-    let truths = rw c.in-Some.is at (c.in_ok-truths-in-Not.ensures.truths role) in
+    let truths = rw c.in-Some.is at c.in_ok-truths-in-Not.ensures.truths in
     subst (λ (x : bound.BoundExpr). AreTruths role rows x c.negate.new.self) (sym (not_is c.args.expression.now c.in-Not.offset c.in-Not.operand e c.deref-in-Not.ensures c.in-Not.is))
     (subst (λ (ts : List Truth). AreTruths role rows (bound.Not c.in-Not.offset (bound_expr_of e)) ts) (sym c.negate.ensures)
     (not_truths role rows c.in-Not.offset (bound_expr_of e) c.in-Some.truths truths))
 
-pub truths_of-conjunction-requires : goal.truths_of-conjunction-requires
-truths_of-conjunction-requires g t c κs within =
+pub evaluated-conjunction-requires : goal.evaluated-conjunction-requires
+evaluated-conjunction-requires g t c κs within =
     let w = ap weight (and_is c.args.expression.now c.in-And.offset c.in-And.members c.deref-in-And.result.now c.deref-in-And.ensures.value c.in-And.is) in
     (omega (arith, c.decreases, w), within)
 
-pub truths_of-returns-in-And-clause-exact : goal.truths_of-returns-in-And-clause-exact
-truths_of-returns-in-And-clause-exact g t c =
+pub evaluated-returns-in-And-clause-exact : goal.evaluated-returns-in-And-clause-exact
+evaluated-returns-in-And-clause-exact g t c =
     rw (and_is c.args.expression.now c.in-And.offset c.in-And.members c.deref-in-And.result.now c.deref-in-And.ensures.value c.in-And.is) c.conjunction.ensures.exact
 
-pub truths_of-returns-in-And-clause-truths : goal.truths_of-returns-in-And-clause-truths
-truths_of-returns-in-And-clause-truths g t c = λ role.
+pub evaluated-returns-in-And-clause-truths : goal.evaluated-returns-in-And-clause-truths
+evaluated-returns-in-And-clause-truths g t c =
+    let role = c.args.role.now.name.now in
     let rows = c.args.table.now.rows in
     let es = bound_exprs c.deref-in-And.result.now in
     subst (λ (x : bound.BoundExpr). IfOk c.conjunction.result (λ o. IfSome o (λ ts. AreTruths role rows x ts)))
     (sym (and_is c.args.expression.now c.in-And.offset c.in-And.members c.deref-in-And.result.now c.deref-in-And.ensures.value c.in-And.is))
     (weaker c.conjunction.result (λ ts. map (λ row. conjunction (cells_of row) role es) rows ≡ map Ok ts) (λ ts. AreTruths role rows (bound.And c.in-And.offset es) ts)
-    (λ ts h. and_truths role rows c.in-And.offset es ts h) (c.conjunction.ensures.truths role))
+    (λ ts h. and_truths role rows c.in-And.offset es ts h) c.conjunction.ensures.truths)
 
-pub truths_of-disjunction-requires : goal.truths_of-disjunction-requires
-truths_of-disjunction-requires g t c κs within =
+pub evaluated-disjunction-requires : goal.evaluated-disjunction-requires
+evaluated-disjunction-requires g t c κs within =
     let w = ap weight (or_is c.args.expression.now c.in-Or.offset c.in-Or.members c.deref-in-Or.result.now c.deref-in-Or.ensures.value c.in-Or.is) in
     (omega (arith, c.decreases, w), within)
 
-pub truths_of-returns-in-Or-clause-exact : goal.truths_of-returns-in-Or-clause-exact
-truths_of-returns-in-Or-clause-exact g t c =
+pub evaluated-returns-in-Or-clause-exact : goal.evaluated-returns-in-Or-clause-exact
+evaluated-returns-in-Or-clause-exact g t c =
     rw (or_is c.args.expression.now c.in-Or.offset c.in-Or.members c.deref-in-Or.result.now c.deref-in-Or.ensures.value c.in-Or.is) c.disjunction.ensures.exact
 
-pub truths_of-returns-in-Or-clause-truths : goal.truths_of-returns-in-Or-clause-truths
-truths_of-returns-in-Or-clause-truths g t c = λ role.
+pub evaluated-returns-in-Or-clause-truths : goal.evaluated-returns-in-Or-clause-truths
+evaluated-returns-in-Or-clause-truths g t c =
+    let role = c.args.role.now.name.now in
     let rows = c.args.table.now.rows in
     let es = bound_exprs c.deref-in-Or.result.now in
     subst (λ (x : bound.BoundExpr). IfOk c.disjunction.result (λ o. IfSome o (λ ts. AreTruths role rows x ts)))
     (sym (or_is c.args.expression.now c.in-Or.offset c.in-Or.members c.deref-in-Or.result.now c.deref-in-Or.ensures.value c.in-Or.is))
     (weaker c.disjunction.result (λ ts. map (λ row. disjunction (cells_of row) role es) rows ≡ map Ok ts) (λ ts. AreTruths role rows (bound.Or c.in-Or.offset es) ts)
-    (λ ts h. or_truths role rows c.in-Or.offset es ts h) (c.disjunction.ensures.truths role))
+    (λ ts h. or_truths role rows c.in-Or.offset es ts h) c.disjunction.ensures.truths)

@@ -8,8 +8,10 @@ use Rattle.stats.proofs.statistics.Stats.of.Goals as goal
 
 pub loop-column-preserved : goal.loop-column-preserved
 loop-column-preserved g c =
+    let rows = c.args.table.now.rows in
+    let column = c.loop-column.column in
     c.in_ok-push.ensures.ok ∙ ap₂ (λ done stats. done ++ stats ∷ []) c.loop-column.invariant c.in_ok-column_stats.ensures
-    ∙ sym (map-range_with_len_more (λ column. stats_of_values (values_in c.args.table.now.rows column)) 0 c.loop-column.column c.loop-column.column (omega arith))
+    ∙ sym (map-range_with_len_more (λ column. stats_of_values (values_in rows column)) 0 column column (omega arith))
 
 pub returns : goal.returns
 returns g c =

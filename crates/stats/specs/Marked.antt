@@ -1,0 +1,28 @@
+-- The rows of a table that are marked, and the columns that are counted.
+use Rattle.std.specs.Prelude.{ℕ, ◌+◌, Bool, true, false, if◌then◌else◌, List, [], ◌∷◌, filter, length, get_or, Option, Some, None}
+use Rattle.value.specs.Datum.{Row}
+use Rattle.value.specs.Restricted.{is_one_of}
+use Rattle.stats.specs.declared.statistics.ColumnStats.{ColumnStats}
+use Rattle.stats.specs.Statistics.{no_values}
+
+-- the row of the number is marked; without marks every row is
+abbrev pub is_marked : Option (List Bool) → ℕ → Bool
+is_marked None number = true
+is_marked (Some marks) number = get_or marks number false
+
+-- those of the rows that are marked; the first row has the number
+abbrev pub marked_from : Option (List Bool) → ℕ → List Row → List Row
+marked_from marks number [] = []
+marked_from marks number (row ∷ rows) = if is_marked marks number then row ∷ marked_from marks (number + 1) rows else marked_from marks (number + 1) rows
+
+abbrev pub marked : Option (List Bool) → List Row → List Row
+marked marks rows = marked_from marks 0 rows
+
+-- how many marks there are
+abbrev pub count_marks : List Bool → ℕ
+count_marks marks = length (filter (λ m. m) marks)
+
+-- the statistics of columns, those outside the list being without values; the first column has the index
+abbrev pub kept_stats : ℕ → List ℕ → List ColumnStats → List ColumnStats
+kept_stats i columns [] = []
+kept_stats i columns (s ∷ all) = (if is_one_of columns i then s else no_values) ∷ kept_stats (i + 1) columns all
