@@ -81,13 +81,22 @@ fn condition(alloc: Global, tested: Tested) -> Copied<Global> {
     }
 }
 
+// A field with an LF; one with no bytes is in quotes.
+fn push_field(text: &mut String, field: &str) -> Result<(), AllocError> {
+    if field.is_empty() {
+        text.push_str("\"\"\n")
+    } else {
+        write!(text, "{field}\n")
+    }
+}
+
 fn csv(alloc: Global, rows: usize) -> Result<String, AllocError> {
     let mut text = String::new(alloc);
     text.push_str("t\n")?;
     for row in 0..rows {
-        match CELLS[row % 7] {
-            Some("") => text.push_str("\"\"\n")?,
-            Some(cell) => write!(text, "{cell}\n")?,
+        let cell = CELLS[row % 7];
+        match cell {
+            Some(field) => push_field(&mut text, field)?,
             None => text.push_str("\\N\n")?,
         }
     }

@@ -281,13 +281,6 @@ fn refusals_and_denials_come_first(rt: HostRuntime) -> Result<(), Fail> {
 }
 
 #[test]
-fn policy_that_shows_every_row_lets_them_be_counted(rt: HostRuntime) -> Result<(), Fail> {
-    let mut store = store_of(rt.alloc(), OPEN_SCHEMA)?;
-    load(&mut store, "t", "id\n1\n2\n")?;
-    Ok(explain_all(&rt, &store, OPEN_POLICY)?)
-}
-
-#[test]
 fn orders_of_indexes_and_merges_are_worth_their_cost(rt: HostRuntime) -> Result<(), Fail> {
     let store = thousands(rt.alloc())?;
     Ok(explain_all(&rt, &store, THOUSANDS)?)
@@ -300,7 +293,10 @@ fn guards_of_each_kind_let_their_rows_be_counted(rt: HostRuntime) -> Result<(), 
     load(&mut store, "texts", GUARDED_ROWS)?;
     load(&mut store, "cases", GUARDED_ROWS)?;
     load(&mut store, "own", GUARDED_ROWS)?;
-    Ok(explain_all(&rt, &store, GUARDS)?)
+    explain_all(&rt, &store, GUARDS)?;
+    let mut open = store_of(rt.alloc(), OPEN_SCHEMA)?;
+    load(&mut open, "t", "id\n1\n2\n")?;
+    Ok(explain_all(&rt, &open, OPEN_POLICY)?)
 }
 
 // A text of alice is explained by the same bytes over these deals as over those of sales.
@@ -322,15 +318,11 @@ fn explained_alike(rt: &(impl Abort + AllocGlobal), deals: &str) -> Result<(), F
 }
 
 #[test]
-fn hidden_rows_change_no_byte(rt: HostRuntime) -> Result<(), Fail> {
+fn hidden_rows_and_columns_that_are_not_named_change_no_byte(rt: HostRuntime) -> Result<(), Fail> {
     explained_alike(
         &rt,
         "id,owner,region,amount,parts\n900,bob,7,1,1\n5,alice,\\N,100,5\n2,alice,2,50,0\n1,alice,1,100,4\n",
-    )
-}
-
-#[test]
-fn columns_that_are_not_named_change_no_byte(rt: HostRuntime) -> Result<(), Fail> {
+    )?;
     explained_alike(
         &rt,
         "id,owner,region,amount,parts\n1,alice,1,7,7\n2,alice,2,8,7\n5,alice,\\N,9,\\N\n",
