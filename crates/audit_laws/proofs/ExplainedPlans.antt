@@ -63,7 +63,7 @@ use Rattle.engine.proofs.OfText as of_text
 use Rattle.engine.proofs.FewConjuncts.{member_count}
 use Rattle.engine.proofs.OfText.{setting_of_query, text_conjuncts, text_entries, text_few, text_lefts, text_members, text_tables}
 use Rattle.plan_laws.specs.Names.{AreNames}
-use Rattle.audit_laws.specs.ExplainedPlans.{AreFew, ExplainedAreAccepted, ExplainedArePlans}
+use Rattle.audit_laws.specs.ExplainedPlans.{ExplainedAreAccepted, ExplainedArePlans, HaveFewRows}
 use Rattle.audit_laws.proofs.EntryNames.{admitted_aliases_differ, column_named, columns_few, entry_named, index_named, small_number, unmistakable}
 use Rattle.plan_laws.proofs.SoundPlans.{Facts, filters_each, is_right, ons_each, plan_is, trail_accepted}
 
@@ -90,7 +90,7 @@ explained_are_plans there have cat rows role text b is =
 -- ---- the counts of rows
 
 -- no more rows are seen than there are
-rows_few : (cat : Catalog) (role : Name) (rows : Rows) → AreFew rows → (q : BoundQuery) (n : ℕ) (es : List Entry) (i : ℕ) → row_count (slice_index_or (entry_statistics q n es (seen cat rows role es)) i Unknown) < 2 ^ 64
+rows_few : (cat : Catalog) (role : Name) (rows : Rows) → HaveFewRows rows → (q : BoundQuery) (n : ℕ) (es : List Entry) (i : ℕ) → row_count (slice_index_or (entry_statistics q n es (seen cat rows role es)) i Unknown) < 2 ^ 64
 rows_few cat role rows few q n [] i = omega arith
 rows_few cat role rows few q n (e ∷ es) zero =
     let all = rows e.table.name in
@@ -197,7 +197,7 @@ module _ (laws : Laws) where
       query = granted_columns cat role b.entries (named_columns b.query) (recursion_from_All (IsGranted cat role b.entries) (named_columns b.query) (laws.granted cat role text b is));
     }
 
-    module _ (IsSaid : List Entry → BoundExpr → Type 0) (said_filter : SaidAreFilters IsSaid) (said : All (IsSaid b.entries) (planning_list b.query)) (said_lefts : All (IsSaid b.entries) (left_conditions b.query)) (rows : Rows) (few : AreFew rows) where
+    module _ (IsSaid : List Entry → BoundExpr → Type 0) (said_filter : SaidAreFilters IsSaid) (said : All (IsSaid b.entries) (planning_list b.query)) (said_lefts : All (IsSaid b.entries) (left_conditions b.query)) (rows : Rows) (few : HaveFewRows rows) where
       abbrev counts : List Stats
       counts = seen_statistics cat rows role b
 

@@ -17,12 +17,12 @@ use Rattle.engine.specs.Explained.{best_plan, explained}
 use Rattle.engine.specs.SeenStatistics.{seen_statistics}
 
 -- no table has more rows than a number of 64 bits
-abbrev pub AreFew : Rows → Type 0
-AreFew rows = (name : Name) → length (rows name) < 2 ^ 64
+abbrev pub HaveFewRows : Rows → Type 0
+HaveFewRows rows = (name : Name) → length (rows name) < 2 ^ 64
 
 -- the plan that explains an admitted text is accepted
 abbrev pub ExplainedAreAccepted : Type 0
-ExplainedAreAccepted = (cat : Catalog) (rows : Rows) (role : Name) (text plan : List ℕ) → IsWellFormed cat → AreNames cat → AreFew rows → IsUtf8 text
+ExplainedAreAccepted = (cat : Catalog) (rows : Rows) (role : Name) (text plan : List ℕ) → IsWellFormed cat → AreNames cat → HaveFewRows rows → IsUtf8 text
     → explained cat rows role text ≡ Ok plan → audit cat role text plan ≡ Judged Accepted
 
 -- what explains an admitted text is the text of a plan: the one with the best code, which is always there
