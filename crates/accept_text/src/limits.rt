@@ -243,34 +243,34 @@ static RUNS: [Group; 6] = [
         "entries_items_groups_and_keys",
         Parser::Query,
         &[
-            (("SELECT a FROM ", ""), ("", "a", ", a"), 7, None),
-            (("SELECT a FROM ", ""), ("", "a", ", a"), 8, PAST),
-            (("SELECT a FROM ", ""), ("", "a", " CROSS JOIN a"), 7, None),
-            (("SELECT a FROM ", ""), ("", "a", " CROSS JOIN a"), 8, PAST),
-            (("SELECT a FROM ", ""), ("", "a", " JOIN a ON b"), 7, None),
-            (("SELECT a FROM ", ""), ("", "a", " JOIN a ON b"), 8, PAST),
+            (("SELECT a FROM ", ""), ("", "a", ", a"), 11, None),
+            (("SELECT a FROM ", ""), ("", "a", ", a"), 12, PAST),
+            (("SELECT a FROM ", ""), ("", "a", " CROSS JOIN a"), 11, None),
+            (("SELECT a FROM ", ""), ("", "a", " CROSS JOIN a"), 12, PAST),
+            (("SELECT a FROM ", ""), ("", "a", " JOIN a ON b"), 11, None),
+            (("SELECT a FROM ", ""), ("", "a", " JOIN a ON b"), 12, PAST),
             (
                 ("SELECT a FROM ", ""),
                 ("", "a", " LEFT JOIN a ON b"),
-                7,
+                11,
                 None,
             ),
             (
                 ("SELECT a FROM ", ""),
                 ("", "a", " LEFT JOIN a ON b"),
-                8,
+                12,
                 PAST,
             ),
             (
                 ("SELECT a FROM t, u JOIN v ON b", ""),
                 ("", "", " LEFT JOIN a ON b"),
-                5,
+                9,
                 None,
             ),
             (
                 ("SELECT a FROM t, u JOIN v ON b", ""),
                 ("", "", " LEFT JOIN a ON b"),
-                6,
+                10,
                 PAST,
             ),
             (("SELECT ", " FROM t"), ("", "a", ", a"), 63, None),
@@ -302,7 +302,7 @@ static RUNS: [Group; 6] = [
             (
                 (
                     "SELECT a FROM t, u JOIN v ON a CROSS JOIN w, x, y INNER JOIN z ON b",
-                    ", s",
+                    ", s, r CROSS JOIN q, p JOIN o ON c",
                 ),
                 ONCE,
                 0,
@@ -311,7 +311,7 @@ static RUNS: [Group; 6] = [
             (
                 (
                     "SELECT a FROM t, u JOIN v ON a CROSS JOIN w, x, y INNER JOIN z ON b",
-                    ", s CROSS JOIN r",
+                    ", s, r CROSS JOIN q, p JOIN o ON c CROSS JOIN n",
                 ),
                 ONCE,
                 0,
