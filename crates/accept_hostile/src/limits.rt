@@ -28,9 +28,9 @@ const LISTS: &str = "\
 64 | SELECT count(*) FROM region GROUP BY id{, id} | refused 54000~
 63 | SELECT id FROM region ORDER BY id{, id} | id~1~2~\\N~
 64 | SELECT id FROM region ORDER BY id{, id} | refused 54000~
-11 | SELECT count(*) FROM region a{, region r#} | count~531441~
+11 | SELECT count(*) FROM region a{, region r#} WHERE a.id = 1 AND r0.id = 1 AND r1.id = 2 AND r2.id = 2 | count~6561~
 12 | SELECT count(*) FROM region a{, region r#} | refused 54000~
-11 | SELECT count(*) FROM region a{ CROSS JOIN region r#} | count~531441~
+11 | SELECT count(*) FROM region a{ CROSS JOIN region r#} WHERE a.id = 1 AND r0.id = 1 AND r1.id = 2 AND r2.id = 2 | count~6561~
 12 | SELECT count(*) FROM region a{ CROSS JOIN region r#} | refused 54000~
 11 | SELECT count(*) FROM region a{ JOIN region r# ON a.id = r#.id} | count~2~
 12 | SELECT count(*) FROM region a{ JOIN region r# ON a.id = r#.id} | refused 54000~
