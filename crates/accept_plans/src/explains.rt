@@ -105,7 +105,7 @@ const OPEN_SCHEMA: &str = "CREATE ROLE reader; CREATE TABLE t (id bigint);
 ALTER TABLE t ENABLE ROW LEVEL SECURITY; CREATE POLICY p ON t USING (TRUE); GRANT SELECT ON t TO reader;";
 
 // Tables with the same six rows, each with a policy of its own: one sees two rows of lanes and of cases, and four of the others, three
-// with a number; two sees two rows of each but of cases, and of texts four; three sees those of lanes and texts.
+// of them with a number; of own two sees two rows, and three none.
 const GUARDS: &str = "\
 one | SELECT id FROM lanes | 0 cost 2 / first lanes full / trail
 one | SELECT id FROM texts | 0 cost 4 / first texts full / trail

@@ -1,5 +1,5 @@
 -- The truth value of a condition on a row says whether it holds there.
-use Rattle.std.proofs.Common.{◌≡◌, ℕ, ◌<◌, Bool, true, false, List, [], ◌∷◌, length, map, replicate, get_or, Result, Ok, Err, Option, Some, None, refl, sym, ap, ap₂, ◌∙◌, arith}
+use Rattle.std.proofs.Common.{◌≡◌, ℕ, ◌<◌, Bool, List, [], ◌∷◌, length, map, replicate, get_or, Result, Ok, Err, Option, Some, None, refl, sym, ap, ap₂, ◌∙◌, arith}
 use Rattle.std.specs.Option.{IfSome}
 use Rattle.std.specs.Result.{IfOk}
 use Rattle.std.proofs.lemmas.List.{get_or-map}
@@ -14,6 +14,7 @@ use Rattle.eval.specs.Meaning.{Outcome, condition, holds, is_true_outcome, meani
 use Rattle.tuples.specs.Guards.{Guard, Expr, shows}
 use Rattle.tuples.specs.Rows.{cells_of}
 use Rattle.lane_filters.specs.Outcomes.{AreSeen, AreTruths}
+use Rattle.lane_filters.proofs.Equality.{read_bool}
 use Rattle.lane_filters.proofs.Nodes.{as_many_truths}
 
 outcome_true : (m : Outcome) (t : Truth) → condition m ≡ Ok t → is_true t ≡ is_true_outcome m
@@ -42,8 +43,4 @@ seen_of_truths (Ok (Some ts)) role rows e guard is h = truths_shown role rows e 
 -- a guard that shows every row, or none
 pub all_alike : (role : Name) (guard : Guard) (b : Bool) → ((row : Row) → shows role guard row ≡ b) → (rows : List Row) → map is_true (replicate (length rows) (of_bool b)) ≡ map (shows role guard) rows
 all_alike role guard b same [] = refl
-all_alike role guard b same (row ∷ rows) = ap₂ ◌∷◌ (read b ∙ sym (same row)) (all_alike role guard b same rows)
-  where
-    read : (b : Bool) → is_true (of_bool b) ≡ b
-    read true = refl
-    read false = refl
+all_alike role guard b same (row ∷ rows) = ap₂ ◌∷◌ (read_bool b ∙ sym (same row)) (all_alike role guard b same rows)
