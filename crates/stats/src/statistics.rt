@@ -153,7 +153,8 @@ impl<A: Heap> Stats<A> {
     /// Of the statistics of a table's rows those of the rows restricted to some columns, counted from 0. It fails where memory
     /// runs out.
     pub fn restricted(&self, alloc: A, columns: &[usize]) -> Result<Stats<A>, AllocError>
-        ensures { (t : TableRows) → stats_of self.now ≡ spec.table_stats t → IfOk result (λ s. stats_of s ≡ spec.seen_stats columns.now (length t.columns) t.rows) }
+        ensures counted { (t : TableRows) → stats_of self.now ≡ spec.table_stats t → IfOk result (λ s. stats_of s ≡ spec.seen_stats columns.now (length t.columns) t.rows) }
+        ensures unknown { stats_of self.now ≡ spec.Unknown → IfOk result (λ s. stats_of s ≡ spec.Unknown) }
     {
         match self {
             Stats::Unknown => Ok(Stats::Unknown),

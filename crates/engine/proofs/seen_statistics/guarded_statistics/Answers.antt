@@ -19,7 +19,7 @@ returns-in-All g c =
     let (many, rows) = of_contents store t.name t c.catalog-catalog.ensures.agree c.requires contents (subst (λ n. contents_named store.tables n ≡ Some contents) named held) in
     IfOk-weaker c.restricted.result _ (λ s. stats_of s ≡ seen_stats c.args.columns.now (length t.columns) (filter (shows c.args.role.now (guard_of c.args.guard.now)) (rows_of store t.name)))
     (λ s h. h ∙ ap₂ (seen_stats c.args.columns.now) many (rows ∙ sym (every_row c.args.role.now (guard_of c.args.guard.now) (ap guard_of c.in-All.is) (rows_of store t.name))))
-    (c.restricted.ensures contents is)
+    (c.restricted.ensures.counted contents is)
 
 pub returns-in-None : goal.returns-in-None
 returns-in-None g c =
