@@ -40,7 +40,7 @@ use Rattle.planning.specs.Best.{BestIsThere, best}
 use Rattle.expr_texts.specs.Filters.{IsName}
 use Rattle.plan_texts.specs.Plans.{Plan}
 use Rattle.plan_texts.specs.PlanTexts.{plan_text}
-use Rattle.plan_texts.specs.Reading.{IsFilter, IsPlan, PlansReadBack, plan_at, plan_without_offsets}
+use Rattle.plan_texts.specs.Reading.{IsFilter, IsPlan, PlansReadBack, plan_at, text_planout_offsets}
 use Rattle.bound_plans.specs.Entries.{plan_entries}
 use Rattle.bound_plans.specs.Found.{ColumnsAreFound, IsColumn, NamesBindBack, Unmistakable}
 use Rattle.bound_plans.specs.LeftJoins.{MarksAreRight, inner_count, plain_code}
@@ -56,7 +56,7 @@ use Rattle.analysis.specs.Analysis.{admitted}
 use Rattle.query_laws.specs.Admitted.{IsGranted, NamedAreGranted}
 use Rattle.engine.specs.Audits.{Judged, admitted_audit, audit_of, judged}
 use Rattle.engine.specs.Answer.{seen}
-use Rattle.engine.specs.Explained.{best_text, explained_query, plan_with, problem, text_if_found, trail}
+use Rattle.engine.specs.Explained.{best_text, explained_query, text_plan, problem, text_if_found, trail}
 use Rattle.engine.specs.SeenStatistics.{entry_statistics, planned_columns, seen_statistics}
 use Rattle.engine.specs.Settings.{setting}
 use Rattle.engine.proofs.OfText as of_text
@@ -82,9 +82,9 @@ pub explained_are_plans : BestIsThere → HaveTables → ExplainedArePlans
 explained_are_plans there have cat rows role text b is =
     let counts : List Stats = seen_statistics cat rows role b in
     let it = best_there there have cat role text b counts is in (
-      plan_with cat role b counts it.0,
-      ap (option_map (plan_with cat role b counts)) it.1,
-      ap (explained_query cat rows role) is ∙ ap (λ o. let r : Result (List ℕ) Reply = Ok (text_if_found b.entries (option_map (plan_with cat role b counts) o)) in r) it.1,
+      text_plan cat role b counts it.0,
+      ap (option_map (text_plan cat role b counts)) it.1,
+      ap (explained_query cat rows role) is ∙ ap (λ o. let r : Result (List ℕ) Reply = Ok (text_if_found b.entries (option_map (text_plan cat role b counts) o)) in r) it.1,
     )
 
 -- ---- the counts of rows
@@ -203,7 +203,7 @@ module _ (laws : Laws) where
 
       module _ (code : Code) (admissible : is_admissible at code ≡ true) where
         abbrev plan : Plan
-        plan = plan_with cat role b counts code
+        plan = text_plan cat role b counts code
 
         whole : IsPlan (plan_entries b.entries) plan
         whole =
@@ -211,7 +211,7 @@ module _ (laws : Laws) where
             (filters_each b.entries b.query at facts (IsSaid b.entries) (said_filter b.entries facts.differ) (recursion_from_All (IsSaid b.entries) (planning_list b.query) said))
             (ons_each b.entries b.query at facts (IsSaid b.entries) (said_filter b.entries facts.differ) (remaining_each (IsSaid b.entries) b.query (recursion_from_All (IsSaid b.entries) (left_conditions b.query) said_lefts)))
 
-        judged_is : judged at (written (length b.entries) b.query) b.entries (plan_without_offsets plan) ≡ Accepted
+        judged_is : judged at (written (length b.entries) b.query) b.entries (text_planout_offsets plan) ≡ Accepted
         judged_is =
             ap (λ t. if t then verdict at (written (length b.entries) b.query) (trail cat role b code) (plain_code plan.code) else Refused record { line = 0; reason = reason.Code }) (is_right b.entries b.query at facts laws.bind laws.found laws.marks plan code refl refl refl)
             ∙ ap (verdict at (written (length b.entries) b.query) (trail cat role b code)) (laws.marks (inner_count b.entries (remaining_lefts b.query)) code).1
@@ -224,7 +224,7 @@ module _ (laws : Laws) where
       best_audited : audit_of cat role b (plan_at (plan_entries b.entries) (best_text cat role b counts)) ≡ Judged Accepted
       best_audited =
           let it = best_there laws.there laws.tables cat role text b counts is in
-          ap (λ o. audit_of cat role b (plan_at (plan_entries b.entries) (text_if_found b.entries (option_map (plan_with cat role b counts) o)))) it.1 ∙ audited it.0 it.2
+          ap (λ o. audit_of cat role b (plan_at (plan_entries b.entries) (text_if_found b.entries (option_map (text_plan cat role b counts) o)))) it.1 ∙ audited it.0 it.2
 
   -- ---- the law
 

@@ -33,7 +33,7 @@ use Rattle.analysis.specs.Analysis.{admitted}
 use Rattle.report.specs.Restricted as tables
 use Rattle.store.specs.Database.{Rows}
 use Rattle.engine.specs.Answer.{seen}
-use Rattle.engine.specs.Explained.{best_text, explained, explained_query, explained_status, explained_text, plan_with, problem, sort_column, text_if_found}
+use Rattle.engine.specs.Explained.{best_text, explained, explained_query, explained_status, explained_text, text_plan, problem, sort_column, text_if_found}
 use Rattle.engine.specs.Hidden.{SeesSame}
 use Rattle.engine.specs.Settings.{setting}
 use Rattle.engine.proofs.SeenStatistics.{same_statistics}
@@ -65,8 +65,8 @@ module _ (cat : Catalog) (role : Name) (b : Bound) (stats : List Stats) (p : pla
   abbrev named_plan : (cost : ℕ) → Option SortColumn → List Step → Plan
   named_plan cost sort steps = named_with b.entries (planning_list b.query) (remaining_lefts b.query) p.code cost sort steps
 
-  is_plan_with : named_plan p.cost (option_map sort_column (last_sort p.problem p.code)) p.trail ≡ plan_with cat role b stats p.code
-  is_plan_with =
+  is_text_plan : named_plan p.cost (option_map sort_column (last_sort p.problem p.code)) p.trail ≡ text_plan cat role b stats p.code
+  is_text_plan =
       let c = is.cost ∙ ap (λ x. cost (estimates x) p.code) from in
       let s = ap (λ x. option_map sort_column (last_sort x p.code)) from in
       let t = is.steps ∙ ap₂ (λ q x. simplifying q ++ placing x.setting p.code) query from in
@@ -76,7 +76,7 @@ module _ (cat : Catalog) (role : Name) (b : Bound) (stats : List Stats) (p : pla
   pub is_best_text : plan_text (plan_entries b.entries) (named_plan p.cost (option_map sort_column (last_sort p.problem p.code)) p.trail) ≡ best_text cat role b stats
   is_best_text =
       let found = subst (λ x. best x ≡ Some p.code) from is.best in
-      ap (plan_text (plan_entries b.entries)) is_plan_with ∙ sym (ap (λ o. text_if_found b.entries (option_map (plan_with cat role b stats) o)) found)
+      ap (plan_text (plan_entries b.entries)) is_text_plan ∙ sym (ap (λ o. text_if_found b.entries (option_map (text_plan cat role b stats) o)) found)
 
   -- the same of entries, conditions and names that are those of the query
   pub written_best : (entries : List Entry) (conditions lefts : List BoundExpr) (names : List PlanEntry) (q : Plan) → entries ≡ b.entries → conditions ≡ planning_list b.query → lefts ≡ remaining_lefts b.query → names ≡ plan_entries b.entries

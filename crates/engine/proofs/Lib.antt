@@ -12,6 +12,7 @@ pub mod OfText
 pub mod Planned
 pub mod Readable
 pub mod SeenStatistics
+pub mod SeenTables
 pub mod Steps
 pub mod Tables
 pub mod Texts

@@ -151,11 +151,15 @@ same_test f p gs es n g e same less lt is_g is_e =
     ap f is_g ∙ sym (get_or-map f gs n g false less) ∙ ap (λ bs. get_or bs n false) same ∙ get_or-map p es n e false lt ∙ ap p (sym is_e)
 
 module _ {E G : Type 0} (entry : E → Entry) (guard : G → Guard) (cat : Catalog) (role : Name) (es : List E) (gs : List G) (shown : (row : Row) → map (λ g. shows role (guard g) row) gs ≡ map (λ e. sees cat role (entry e).table row) es) where
-  -- so what a guard shows is what the role sees
-  pub shown_at : (n : ℕ) (g : G) (e : E) → n < length es → g ≡ get_or gs n g → e ≡ get_or es n e → (rows : List Row) → filter (shows role (guard g)) rows ≡ visible cat role (entry e).table rows
-  shown_at n g e lt is_g is_e rows =
+  -- so a guard shows a row where the role sees it
+  pub shows_at : (n : ℕ) (g : G) (e : E) → n < length es → g ≡ get_or gs n g → e ≡ get_or es n e → (row : Row) → shows role (guard g) row ≡ sees cat role (entry e).table row
+  shows_at n g e lt is_g is_e row =
       let long = as_long (λ g. shows role (guard g) []) (λ e. sees cat role (entry e).table []) gs es (shown []) in
-      filter_same (shows role (guard g)) (sees cat role (entry e).table) (λ row. same_test (λ g. shows role (guard g) row) (λ e. sees cat role (entry e).table row) gs es n g e (shown row) (omega (arith, long, lt)) lt is_g is_e) rows
+      same_test (λ g. shows role (guard g) row) (λ e. sees cat role (entry e).table row) gs es n g e (shown row) (omega (arith, long, lt)) lt is_g is_e
+
+  -- and what it shows is what the role sees
+  pub shown_at : (n : ℕ) (g : G) (e : E) → n < length es → g ≡ get_or gs n g → e ≡ get_or es n e → (rows : List Row) → filter (shows role (guard g)) rows ≡ visible cat role (entry e).table rows
+  shown_at n g e lt is_g is_e rows = filter_same (shows role (guard g)) (sees cat role (entry e).table) (shows_at n g e lt is_g is_e) rows
 
 module _ {E S : Type 0} (entry : E → Entry) (view : S → Stats) (cat : Catalog) (rows : Rows) (role : Name) (q : BoundQuery) where
   abbrev to_come : ℕ → List E → List Stats

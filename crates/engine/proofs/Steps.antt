@@ -19,10 +19,10 @@ pub filter_same : {X : Type 0} (p q : X → Bool) → ((x : X) → p x ≡ q x) 
 filter_same p q same [] = refl
 filter_same p q same (x ∷ xs) = ap (λ b. cond b (x ∷ filter p xs) (filter p xs)) (same x) ∙ ap (λ l. cond (q x) (x ∷ l) l) (filter_same p q same xs)
 
-first_is : (b c : Bool) (bs cs : List Bool) → b ∷ bs ≡ c ∷ cs → b ≡ c
+pub first_is : (b c : Bool) (bs cs : List Bool) → b ∷ bs ≡ c ∷ cs → b ≡ c
 first_is b c bs cs e = cc
 
-others_are : (b c : Bool) (bs cs : List Bool) → b ∷ bs ≡ c ∷ cs → bs ≡ cs
+pub others_are : (b c : Bool) (bs cs : List Bool) → b ∷ bs ≡ c ∷ cs → bs ≡ cs
 others_are b c bs cs e = cc
 
 -- guards that show the rows that the role sees of each entry leave those rows

@@ -45,8 +45,8 @@ abbrev pub sort_column : ColumnId → SortColumn
 sort_column id = record { entry = column_number id.entry; column = column_number id.column }
 
 -- the plan with that code
-abbrev pub plan_with : Catalog → Name → Bound → List Stats → Code → Plan
-plan_with cat role b statistics code = record {
+abbrev pub text_plan : Catalog → Name → Bound → List Stats → Code → Plan
+text_plan cat role b statistics code = record {
   cost = cost (estimates (problem cat role b statistics)) code;
   filters = map (named b.entries) (planning_list b.query);
   ons = named_ons b.entries (remaining_lefts b.query);
@@ -57,7 +57,7 @@ plan_with cat role b statistics code = record {
 
 -- the plan with the best code
 abbrev pub best_plan : Catalog → Name → Bound → List Stats → Option Plan
-best_plan cat role b statistics = option_map (plan_with cat role b statistics) (best (problem cat role b statistics))
+best_plan cat role b statistics = option_map (text_plan cat role b statistics) (best (problem cat role b statistics))
 
 -- its text; there is always a best code
 abbrev pub text_if_found : List Entry → Option Plan → List ℕ

@@ -14,17 +14,19 @@ ghost use Rattle.engine.specs.Answer as spec;
 ghost use Rattle.engine.specs.Answer.{IsAnswer, answer_reply, reply_to};
 ghost use Rattle.engine.specs.Held.{HoldsEachTable};
 ghost use Rattle.engine.specs.Plans.{IsAdmitted, IsPlanFor};
+ghost use Rattle.engine.specs.SeenTables.{AreSeenIn};
 ghost use Rattle.engine.specs.Serving.{IsReply};
 
 use crate::answer::answer_rows;
 use crate::plans::Plan;
-use crate::preparing::plan;
+use crate::preparing::{law_nothing_known, plan_with};
 use analysis::{admit, read_query};
 use expr::BoundItem;
 use memory::{Failure, Heap, Items, Text};
 use replies::Reply;
 use resolve::Bound;
 use row_ast::Query;
+use seen_tables::Seen;
 use std::alloc::AllocError;
 use store::Store;
 use syntax::law_queries_have_tables;
@@ -41,20 +43,23 @@ fn headings<A: Heap>(alloc: A, items: &[BoundItem<A>]) -> Result<Items<Text<A>, 
 }
 
 /// The reply to a role's bound query under its plan: the rows, with their headings, or the first fault of their evaluation. The
-/// guards are those of the plan; rows and indexes are the present ones. It fails where memory runs out.
+/// guards are those of the plan; rows and indexes are the present ones. Where it is known which rows the role sees of a table, no
+/// guard is tested. It fails where memory runs out.
 pub fn run_plan<A: Heap>(
     alloc: A,
     store: &Store<A>,
     role: &str,
     bound: &Bound<'_, A>,
     plan: &Plan<A>,
+    seen: &Seen<A>,
 ) -> Result<Reply<A>, AllocError>
     requires admitted { IsAdmitted store.now.catalog role.now (bound_of bound.now) }
     requires plan { IsPlanFor store.now role.now (bound_of bound.now) plan.now }
+    requires seen { AreSeenIn store.now seen.now }
     ensures { IfOk result (λ reply. reply_of reply ≡ answer_reply store.now.catalog (rows_of store.now) role.now (bound_of bound.now)) }
 {
     law_queries_have_tables();
-    match answer_rows(alloc, store, role, bound, plan) {
+    match answer_rows(alloc, store, role, bound, plan, seen) {
         Ok(rows) => {
             let headings = headings(alloc, bound.query.items.as_slice())?;
             Ok(Reply::Rows { headings, rows })
@@ -74,8 +79,10 @@ fn answer_bound<A: Heap>(
     requires { IsAdmitted store.now.catalog role.now (bound_of bound.now) }
     ensures { IfOk result (λ reply. reply_of reply ≡ answer_reply store.now.catalog (rows_of store.now) role.now (bound_of bound.now)) }
 {
-    let plan = plan(alloc, store, role, bound)?;
-    run_plan(alloc, store, role, bound, &plan)
+    law_nothing_known();
+    let mut seen = Seen::new(alloc);
+    let plan = plan_with(alloc, store, role, bound, &mut seen)?;
+    run_plan(alloc, store, role, bound, &plan, &seen)
 }
 
 // The refusal or denial of a query, or its rows or first fault.

@@ -30,9 +30,10 @@ ghost use Rattle.engine.specs.Explained.{explained, explained_query, explained_s
 ghost use Rattle.engine.specs.Hidden.{SeesSame};
 ghost use Rattle.engine.specs.Readable.{ReadsSame};
 ghost use Rattle.engine.specs.SeenStatistics.{seen_statistics};
+ghost use Rattle.engine.specs.SeenTables.{AreSeenIn};
 ghost use Rattle.engine.specs.Serving.{IsExplained};
 
-use crate::preparing::each_of;
+use crate::preparing::{each_of, law_nothing_known};
 use crate::seen_statistics::seen_statistics;
 use crate::setting::setting_with;
 use algebra::Step;
@@ -47,6 +48,7 @@ use replies::{Reply, reply_status, reply_text};
 use resolve::Bound;
 use row_ast::{Expr, Query};
 use scope::Entry;
+use seen_tables::Seen;
 use std::alloc::AllocError;
 use store::{Store, column_number};
 use syntax::{law_parsing_is_determined, law_queries_have_tables};
@@ -89,7 +91,7 @@ fn last_sort<A: Heap>(plan: &Plan<'_, A>) -> Option<SortColumn>
 
 // A plan as its text has it, its filters the conditions, and these the ONs of its left joined entries; the trail begins with those
 // steps, which simplify the query.
-fn plan_with<A: Heap>(
+fn text_plan<A: Heap>(
     alloc: A,
     entries: &[Entry<'_, A>],
     conditions: &[MovableExpr<A>],
@@ -123,12 +125,15 @@ fn best_text<A: Heap>(
     store: &Store<A>,
     role: &str,
     bound: &Bound<'_, A>,
+    seen: &mut Seen<A>,
 ) -> Result<Vec<u8, A>, AllocError>
     requires tables { AreTables store.now.catalog (bound_of bound.now).entries }
     requires few { length (bound_of bound.now).entries ≤ most_entries }
     requires conjuncts { length (movable_conjuncts (bound_of bound.now).query) ≤ most_conjuncts }
     requires lefts { HasLeftJoins (bound_of bound.now) }
-    ensures { IfOk result (λ text. text.items ≡ spec.best_text store.now.catalog role.now (bound_of bound.now) (seen_statistics store.now.catalog (rows_of store.now) role.now (bound_of bound.now))) }
+    requires seen { AreSeenIn store.now seen.old }
+    ensures text { IfOk result (λ text. text.items ≡ spec.best_text store.now.catalog role.now (bound_of bound.now) (seen_statistics store.now.catalog (rows_of store.now) role.now (bound_of bound.now))) }
+    ensures seen { AreSeenIn store.now seen.new }
 {
     let entries = bound.entries.as_slice();
     let Simplified {
@@ -138,12 +143,12 @@ fn best_text<A: Heap>(
     } = simplify(alloc, &bound.query)?;
     let setting = setting_with(alloc, store.catalog(), role, bound, conditions, lefts)?;
     let frame = setting.frame.as_slice();
-    let statistics = seen_statistics(alloc, store, role, bound, frame)?;
+    let statistics = seen_statistics(alloc, store, role, bound, frame, seen)?;
     let each = each_of(alloc, statistics.as_slice())?;
     let found = Plan::new(alloc, &bound.query, &setting, &each)?;
     let conditions = setting.conditions.as_slice();
     let lefts = setting.lefts.as_slice();
-    let plan = plan_with(alloc, entries, conditions, lefts, found, trail)?;
+    let plan = text_plan(alloc, entries, conditions, lefts, found, trail)?;
     write_trail(alloc, entries, &plan)
 }
 
@@ -160,13 +165,16 @@ fn explained_query<A: Heap>(
     store: &Store<A>,
     role: &str,
     query: &Query<A>,
+    seen: &mut Seen<A>,
 ) -> Result<(Vec<u8, A>, u8), AllocError>
     requires limits { within_limits (query_of query.now) ≡ true }
     requires from { 0 < length (query_of query.now).from }
-    ensures { IfOk result (λ r. spec.IsExplanation r.0.items r.1 (explained_query store.now.catalog (rows_of store.now) role.now (admitted_query store.now.catalog role.now (query_of query.now)))) }
+    requires seen { AreSeenIn store.now seen.old }
+    ensures text { IfOk result (λ r. spec.IsExplanation r.0.items r.1 (explained_query store.now.catalog (rows_of store.now) role.now (admitted_query store.now.catalog role.now (query_of query.now)))) }
+    ensures seen { AreSeenIn store.now seen.new }
 {
     match admit(alloc, store.catalog(), role, query)? {
-        Ok(bound) => Ok((best_text(alloc, store, role, &bound)?, 0)),
+        Ok(bound) => Ok((best_text(alloc, store, role, &bound, seen)?, 0)),
         Err(reply) => refused(alloc, &reply),
     }
 }
@@ -177,14 +185,17 @@ fn explained<A: Heap>(
     store: &Store<A>,
     role: &str,
     text: &str,
+    seen: &mut Seen<A>,
 ) -> Result<(Vec<u8, A>, u8), AllocError>
-    ensures { IfOk result (λ r. spec.IsExplanation r.0.items r.1 (explained store.now.catalog (rows_of store.now) role.now text.now)) }
+    requires { AreSeenIn store.now seen.old }
+    ensures text { IfOk result (λ r. spec.IsExplanation r.0.items r.1 (explained store.now.catalog (rows_of store.now) role.now text.now)) }
+    ensures seen { AreSeenIn store.now seen.new }
 {
     law_parsing_is_determined();
     law_queries_have_tables();
     match read_query(alloc, store.catalog(), role, text)? {
         Ok(query) => {
-            let explained = explained_query(alloc, store, role, &query);
+            let explained = explained_query(alloc, store, role, &query, seen);
             drop(query);
             explained
         }
@@ -214,7 +225,30 @@ pub fn explain<A: Heap, W: Out>(
     ensures ungranted { (other : Rows) → ReadsSame store.now.catalog role.now (rows_of store.now) other → result ≢ 7 → result ≢ 8 →
         IsExplained (W.taken out.old) (W.taken out.new) result (explained store.now.catalog other role.now text.now) }
 {
-    match explained(alloc, store, role, text) {
+    law_nothing_known();
+    let mut seen = Seen::new(alloc);
+    explain_with(alloc, store, role, text, &mut seen, out)
+}
+
+/// The same for one text after another: what is not known yet of the rows that the role sees is found out, and kept.
+pub fn explain_with<A: Heap, W: Out>(
+    alloc: A,
+    store: &Store<A>,
+    role: &str,
+    text: &str,
+    seen: &mut Seen<A>,
+    out: &mut W,
+) -> u8
+    requires seen { AreSeenIn store.now seen.old }
+    ensures sent { let due = explained store.now.catalog (rows_of store.now) role.now text.now in
+        IsSent (W.taken out.old) (W.taken out.new) (W.failures out.old) (W.failures out.new) result (explained_status due) (explained_text due) (reply_text no_memory) }
+    ensures hidden { (other : Rows) → SeesSame store.now.catalog role.now text.now (rows_of store.now) other → result ≢ 7 → result ≢ 8 →
+        IsExplained (W.taken out.old) (W.taken out.new) result (explained store.now.catalog other role.now text.now) }
+    ensures ungranted { (other : Rows) → ReadsSame store.now.catalog role.now (rows_of store.now) other → result ≢ 7 → result ≢ 8 →
+        IsExplained (W.taken out.old) (W.taken out.new) result (explained store.now.catalog other role.now text.now) }
+    ensures seen { AreSeenIn store.now seen.new }
+{
+    match explained(alloc, store, role, text, seen) {
         Ok((bytes, status)) => send(out, &bytes, status),
         Err(_) => send(out, b"refused 53200\n".as_slice(), 7),
     }

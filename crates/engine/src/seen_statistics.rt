@@ -1,14 +1,13 @@
 //! The statistics that plans of a role's query are made with.
 
-ghost use Rattle.std.specs.Prelude.{◌≡◌, ◌++◌, Some, IfOk, OnOk, filter, length, map, option_map};
+ghost use Rattle.std.specs.Prelude.{◌≡◌, ◌++◌, Some, IfOk, OnOk, filter, length, map, option_map, true};
 ghost use Rattle.std.specs.List.{flat_map};
 ghost use Rattle.value.specs.Datum as value;
 ghost use Rattle.expr.specs.Columns.{columns};
 ghost use Rattle.expr.specs.NamedColumns.{condition_columns};
 ghost use Rattle.expr.specs.View.{bound_expr_of, bound_query_of};
 ghost use Rattle.row_objects.specs.View.{table_of};
-ghost use Rattle.scope.specs.View.{entry_of};
-ghost use Rattle.catalog.specs.Catalog.{table_named};
+ghost use Rattle.catalog.specs.Catalog.{is_table};
 ghost use Rattle.access.specs.Access.{sees};
 ghost use Rattle.tuples.specs.Guards.{shows};
 ghost use Rattle.tuples.specs.View.{guard_of};
@@ -17,13 +16,15 @@ ghost use Rattle.stats.specs.View.{stats_of};
 ghost use Rattle.report.specs.Restricted.{columns_at};
 ghost use Rattle.resolve.specs.EntryTables.{AreTables};
 ghost use Rattle.resolve.specs.View.{bound_of};
-ghost use Rattle.store.specs.Database.{rows_of};
+ghost use Rattle.seen_tables.specs.Known.{AreKnown, Keeps};
+ghost use Rattle.store.specs.Database.{contents_named, rows_of};
 ghost use Rattle.engine.specs.SeenStatistics as spec;
+ghost use Rattle.engine.specs.SeenTables.{AreSeenIn};
 
 use expr::{BoundCondition, BoundExpr, BoundQuery, ColumnId, movable_conjuncts, push_columns};
 use memory::{Heap, Items};
 use resolve::Bound;
-use scope::Entry;
+use seen_tables::{RoleTable, Seen};
 use stats::Stats;
 use std::alloc::AllocError;
 use store::Store;
@@ -101,51 +102,62 @@ fn columns_at<A: Heap>(
     Ok(columns)
 }
 
-// The statistics of the rows of an entry that a guard shows, restricted to some columns. Those of a guard that shows every row are
-// made from the ones of the table.
+// The statistics of the rows of a table that a guard shows to a role, restricted to some columns. Those of a guard that shows every row
+// are made from the ones of the table; those of a guard with a condition are kept.
 fn guarded_statistics<A: Heap>(
     alloc: A,
     store: &Store<A>,
-    role: &str,
-    entry: &Entry<'_, A>,
-    guard: &Guard<A>,
+    of: &RoleTable<'_, A>,
     columns: &[usize],
+    seen: &mut Seen<A>,
 ) -> Result<Stats<A>, AllocError>
-    requires { table_named (entry_of entry.now).table.name store.now.catalog ≡ Some (entry_of entry.now).table }
-    ensures { IfOk result (λ s. stats_of s ≡ seen_stats columns.now (length (entry_of entry.now).table.columns) (filter (shows role.now (guard_of guard.now)) (rows_of store.now (entry_of entry.now).table.name))) }
+    requires table { is_table store.now.catalog of.now.name.now ≡ true }
+    requires contents { contents_named store.now.tables of.now.name.now ≡ Some of.now.rows.now }
+    requires known { AreKnown of.now.role.now of.now.name.now (guard_of of.now.guard.now) of.now.rows.now.rows seen.old }
+    ensures value { IfOk result (λ s. stats_of s ≡ seen_stats columns.now (length of.now.rows.now.columns) (filter (shows of.now.role.now (guard_of of.now.guard.now)) of.now.rows.now.rows)) }
+    ensures kept { Keeps of.now.role.now of.now.name.now (guard_of of.now.guard.now) of.now.rows.now.rows seen.old seen.new }
 {
-    let name = entry.table.name();
-    let _catalog = store.catalog();
-    match guard {
-        Guard::All => store.statistics(name).restricted(alloc, columns),
-        Guard::None | Guard::Expr(_) => {
-            Stats::of_seen(alloc, store.contents_of(name), guard, role, columns)
-        }
+    match of.guard {
+        Guard::All => store.statistics(of.name).restricted(alloc, columns),
+        Guard::None => Stats::of_seen(alloc, of.rows, of.guard, of.role, columns),
+        Guard::Expr(_) => seen.statistics(of, columns),
     }
 }
 
 /// Of each entry the statistics of the rows that the role sees, restricted to the columns that the conditions name which plans are
-/// made from. It fails where memory runs out.
+/// made from. What is not known of these rows is found out, and kept. It fails where memory runs out.
 pub(crate) fn seen_statistics<A: Heap>(
     alloc: A,
     store: &Store<A>,
     role: &str,
     bound: &Bound<'_, A>,
     frame: &[Guard<A>],
+    seen: &mut Seen<A>,
 ) -> Result<Items<Stats<A>, A>, AllocError>
     requires tables { AreTables store.now.catalog (bound_of bound.now).entries }
     requires shows { (row : value.Row) → map (λ g. shows role.now (guard_of g) row) frame.now ≡ map (λ e. sees store.now.catalog role.now (table_of e.table) row) bound.now.entries }
-    ensures { IfOk result (λ all. map (λ s. stats_of s) all ≡ spec.seen_statistics store.now.catalog (rows_of store.now) role.now (bound_of bound.now)) }
+    requires seen { AreSeenIn store.now seen.old }
+    ensures value { IfOk result (λ all. map (λ s. stats_of s) all ≡ spec.seen_statistics store.now.catalog (rows_of store.now) role.now (bound_of bound.now)) }
+    ensures seen { AreSeenIn store.now seen.new }
 {
     let planned = planned_columns(alloc, &bound.query)?;
     let ids = planned.as_slice();
     let entries = bound.entries.as_slice();
+    let _catalog = store.catalog();
     let mut all = Items::new(alloc);
     for (number, entry) in entries.iter().enumerate() {
         let columns = columns_at(alloc, number, ids)?;
         let kept = columns.as_slice();
+        let name = entry.table.name();
+        let rows = store.contents_of(name);
         let guard = &frame[number];
-        let one = guarded_statistics(alloc, store, role, entry, guard, kept)?;
+        let of = RoleTable {
+            role,
+            name,
+            rows,
+            guard,
+        };
+        let one = guarded_statistics(alloc, store, &of, kept, seen)?;
         all.push(one)?;
     }
     Ok(all)

@@ -29,7 +29,12 @@ pub fn tables_of<'w, A: Heap>(
         let Some(rows) = rows.get(entry) else {
             return Err(AllocError);
         };
-        tables.push(GuardedTable { rows, guard })?;
+        let table = GuardedTable {
+            rows,
+            guard,
+            seen: None,
+        };
+        tables.push(table)?;
     }
     Ok(tables)
 }

@@ -11,9 +11,9 @@ use Rattle.value.specs.declared.order.Truth.{Truth}
 use Rattle.value.specs.declared.order.Truth.TheVariants.{False}
 use Rattle.expr.specs.Bound.{BoundExpr}
 use Rattle.eval.specs.Meaning.{Outcome, condition, holds, is_true_outcome, meaning}
-use Rattle.tuples.specs.Guards.{Guard, Expr, shows}
+use Rattle.tuples.specs.Guards.{AreSeen, Guard, Expr, shows}
 use Rattle.tuples.specs.Rows.{cells_of}
-use Rattle.lane_filters.specs.Outcomes.{AreSeen, AreTruths}
+use Rattle.lane_filters.specs.Outcomes.{AreTruths}
 use Rattle.lane_filters.proofs.Equality.{read_bool}
 use Rattle.lane_filters.proofs.Nodes.{as_many_truths}
 

@@ -1,11 +1,10 @@
--- What an expression gives on each of the rows of a table, where it faults on none, and which of them a role sees.
-use Rattle.std.specs.Prelude.{◌≡◌, Bool, List, map, Ok}
+-- What an expression gives on each of the rows of a table, where it faults on none.
+use Rattle.std.specs.Prelude.{◌≡◌, List, map, Ok}
 use Rattle.value.specs.Datum.{Datum, Row}
 use Rattle.value.specs.Names.{Name}
 use Rattle.value.specs.declared.order.Truth.{Truth}
 use Rattle.expr.specs.Bound.{BoundExpr}
 use Rattle.eval.specs.Meaning.{condition, meaning}
-use Rattle.tuples.specs.Guards.{Guard, shows}
 use Rattle.tuples.specs.Rows.{cells_of}
 
 -- its value on each row
@@ -15,7 +14,3 @@ AreValues role rows e values = map (λ row. meaning (cells_of row) role e) rows 
 -- its truth value as a condition on each row
 abbrev pub AreTruths : Name → List Row → BoundExpr → List Truth → Type 0
 AreTruths role rows e truths = map (λ row. condition (meaning (cells_of row) role e)) rows ≡ map Ok truths
-
--- of each row whether the guard shows it to the role
-abbrev pub AreSeen : Name → Guard → List Row → List Bool → Type 0
-AreSeen role guard rows seen = seen ≡ map (shows role guard) rows

@@ -2,8 +2,8 @@
 
 ghost use Rattle.std.specs.Prelude.{IfOk, IfSome, map};
 ghost use Rattle.value.specs.Orders.{is_true};
+ghost use Rattle.tuples.specs.Guards.{AreSeen};
 ghost use Rattle.tuples.specs.View.{guard_of};
-ghost use Rattle.lane_filters.specs.Outcomes.{AreSeen};
 
 use crate::filters::truths_of;
 use crate::sizes::row_count;

@@ -21,11 +21,20 @@ shows_some All = true
 shows_some NoRow = false
 shows_some (Expr e) = true
 
+-- it shows the row of the number, where the rows that it shows are known; else it shows some row
+abbrev pub may_show : Option (List Bool) → Guard → (number : ℕ) → Bool
+may_show None guard number = shows_some guard
+may_show (Some seen) guard number = get_or seen number false
+
 -- its condition, if it has one, and then those of the query
 abbrev pub all_conditions : Guard → List BoundExpr → List BoundExpr
 all_conditions All conditions = conditions
 all_conditions NoRow conditions = conditions
 all_conditions (Expr e) conditions = e ∷ conditions
+
+-- those that are tested: without that of the guard, where it is known which rows it shows
+abbrev pub tested : (known : Bool) → Guard → List BoundExpr → List BoundExpr
+tested known guard conditions = if known then conditions else all_conditions guard conditions
 
 -- those that are not evaluated for all rows at once, by the types of the columns
 abbrev pub row_by_row : List ColType → List BoundExpr → List BoundExpr

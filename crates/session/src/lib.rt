@@ -12,6 +12,7 @@
 
 mod asking;
 mod event;
+mod forgetting;
 mod machine;
 
 pub use event::Event;

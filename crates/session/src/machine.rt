@@ -10,9 +10,10 @@ ghost use Rattle.session.specs.Machine.{IsMachineStep, IsRun, IsStep, RunsAreThe
 ghost use Rattle.session.specs.Taking.{Answers, TakesEvent};
 ghost use Rattle.session.specs.View.{event_of};
 
-use crate::asking::answer_asked;
+use crate::asking::{Shared, answer_asked};
 use crate::event::Event;
-use engine::{Plan, Store};
+use crate::forgetting::{counts, forget_if_later};
+use engine::{Seen, Store};
 use memory::{Heap, Text};
 use sessions::{Reply, Sessions, refused_by};
 use shared_plans::Plans;
@@ -20,13 +21,13 @@ use std::alloc::{AllocError, AllocFailed};
 use std::marker::Model;
 use value::Refusal;
 
-/// A store with the sessions that are open, and the plans that they share: the 64 most recently used, each for a role's text since
-/// the last change and load.
+/// A store with the sessions that are open, and what they share: the 64 most recently used plans, each for a role's text since the
+/// last change and load, and what is known of the rows that roles see since then.
 #[derive(Drop)]
 pub struct Core<A: Heap> {
     alloc: A,
     sessions: Sessions<A>,
-    plans: Plans<Plan<A>, A>,
+    shared: Shared<A>,
 }
 
 impl<A: Heap> Model for Core<A> {
@@ -41,11 +42,12 @@ impl<A: Heap> Model for Core<A> {
     ghost coded = { Prim.hlevel (codes, movable_expr.the_code ℕ coded_ℕ) };
 
     ghost use Rattle.shared_plans.specs.Recent.{recent_of};
+    ghost use Rattle.engine.specs.SeenTables.{AreSeenIn};
     ghost use Rattle.session.specs.Kept.{AreKept};
 
-    ghost view = { λ c. record { state = c.sessions; recent = recent_of c.plans } };
+    ghost view = { λ c. record { state = c.sessions; recent = recent_of c.shared.plans } };
 
-    ghost invariant = { λ c. AreKept c.sessions.database c.sessions.loads c.plans.entries };
+    ghost invariant = { λ c. AreKept c.sessions.database c.sessions.loads c.shared.plans.entries × AreSeenIn c.sessions.database c.shared.seen };
 }
 
 impl<A: Heap> Core<A> {
@@ -58,7 +60,10 @@ impl<A: Heap> Core<A> {
             Ok(plans) => Ok(Core {
                 alloc,
                 sessions: Sessions::new(alloc, store),
-                plans,
+                shared: Shared {
+                    plans,
+                    seen: Seen::new(alloc),
+                },
             }),
             Err(_) => Err(AllocFailed { value: store }),
         }
@@ -68,7 +73,7 @@ impl<A: Heap> Core<A> {
     pub fn hits(&self) -> u64
         ensures { result ≡ self.now.recent.hits }
     {
-        self.plans.hits()
+        self.shared.plans.hits()
     }
 
     // The reply to a text that a session asks.
@@ -77,7 +82,7 @@ impl<A: Heap> Core<A> {
         ensures at_once { takes_no_memory self.old.state (event.Ask session text.now) ≡ true → IsOk result }
     {
         let asked = self.sessions.ask_text(session, text);
-        match answer_asked(self.alloc, &self.sessions, &mut self.plans, asked) {
+        match answer_asked(self.alloc, &self.sessions, &mut self.shared, asked) {
             Ok(Ok(reply)) => Ok(Reply::Engine { reply }),
             Ok(Err(code)) => Ok(refused_by(code)),
             Err(error) => Err(error),
@@ -90,7 +95,7 @@ impl<A: Heap> Core<A> {
         ensures at_once { takes_no_memory self.old.state (event.Execute session name.now) ≡ true → IsOk result }
     {
         let asked = self.sessions.execute_text(session, name);
-        match answer_asked(self.alloc, &self.sessions, &mut self.plans, asked) {
+        match answer_asked(self.alloc, &self.sessions, &mut self.shared, asked) {
             Ok(Ok(reply)) => Ok(Reply::Engine { reply }),
             Ok(Err(code)) => Ok(refused_by(code)),
             Err(error) => Err(error),
@@ -109,7 +114,7 @@ impl<A: Heap> Core<A> {
         ensures at_once { asked_at_once self.old.state (declare_text self.old.state session name.now text.now) ≡ true → IsOk result }
     {
         let asked = self.sessions.declare_text(session, name, text);
-        answer_asked(self.alloc, &self.sessions, &mut self.plans, asked)
+        answer_asked(self.alloc, &self.sessions, &mut self.shared, asked)
     }
 
     // A session keeps the rows of a text for a cursor.
@@ -122,6 +127,28 @@ impl<A: Heap> Core<A> {
             Ok(Err(code)) => Ok(refused_by(code)),
             Err(error) => Err(error),
         }
+    }
+
+    // A session applies a schema statement. Where it is accepted, what is known of the rows that roles see is forgotten.
+    fn change(&mut self, session: u64, text: &str) -> Result<Reply<A>, AllocError>
+        ensures takes { TakesEvent self.old self.new (event.Change session text.now) result }
+        ensures at_once { takes_no_memory self.old.state (event.Change session text.now) ≡ true → IsOk result }
+    {
+        let before = counts(&self.sessions);
+        let reply = self.sessions.change(session, text);
+        forget_if_later(&self.sessions, before, &mut self.shared.seen);
+        reply
+    }
+
+    // Adds the rows of comma-separated bytes to a table. Where they are accepted, the same is forgotten.
+    fn load(&mut self, table: &str, bytes: &[u8]) -> Result<Reply<A>, AllocError>
+        ensures takes { TakesEvent self.old self.new (event.Load table.now bytes.now) result }
+        ensures at_once { takes_no_memory self.old.state (event.Load table.now bytes.now) ≡ true → IsOk result }
+    {
+        let before = counts(&self.sessions);
+        let reply = self.sessions.load(table, bytes);
+        forget_if_later(&self.sessions, before, &mut self.shared.seen);
+        reply
     }
 
     // Takes an event; where memory runs out the state is as it was.
@@ -152,8 +179,8 @@ impl<A: Heap> Core<A> {
                 count,
             } => self.sessions.fetch(session, name.as_str(), count),
             Event::Close { session, name } => Ok(self.sessions.close(session, name.as_str())),
-            Event::Change { session, text } => self.sessions.change(session, text.as_str()),
-            Event::Load { table, bytes } => self.sessions.load(table.as_str(), bytes.as_slice()),
+            Event::Change { session, text } => self.change(session, text.as_str()),
+            Event::Load { table, bytes } => self.load(table.as_str(), bytes.as_slice()),
         }
     }
 

@@ -24,17 +24,21 @@ use Rattle.sessions.specs.State.{Session, State, current_role, most_counted, ses
 use Rattle.sessions.specs.Taking.{Takes}
 
 module _ (s : State) where
-  -- database and loads are as before; or no number is less, and one is more
+  -- database and loads are as before
+  abbrev pub IsSameData : State → Type 0
+  IsSameData new = (new.database ≡ s.database) × (new.loads ≡ s.loads)
+
+  -- they are; or no number is less, and one is more
   abbrev pub IsLater : State → Type 0
-  IsLater new = ((new.database ≡ s.database) × (new.loads ≡ s.loads))
+  IsLater new = IsSameData new
       ⊎ ((s.database.catalog.change_number ≤ new.database.catalog.change_number) × (s.loads ≤ new.loads) × (s.database.catalog.change_number + s.loads < new.database.catalog.change_number + new.loads))
 
   abbrev Goes : Result Step Reply → Type 0
   Goes stated = IsLater (settled s stated).1
 
-  in_goes : (o : Option Session) (act : Session → Result Step Reply) → ((x : Session) → Goes (act x)) → Goes (act_in act o)
-  in_goes None act h = inl (refl, refl)
-  in_goes (Some x) act h = h x
+  in_step : (P : State → Type 0) → P s → (o : Option Session) (act : Session → Result Step Reply) → ((x : Session) → P (settled s (act x)).1) → P (settled s (act_in act o)).1
+  in_step P same None act h = same
+  in_step P same (Some x) act h = h x
 
   -- ---- an accepted statement counts
 
@@ -58,7 +62,7 @@ module _ (s : State) where
   state_goes (Ok d) h = let e = h d refl in inr (omega (arith, e), omega arith, omega (arith, e))
 
   change_goes : (n : ℕ) (text : List ℕ) → Goes (change s n text)
-  change_goes n text = in_goes (session_numbered n s) (λ x. changed_state s (database_after s.database (current_role x) text))
+  change_goes n text = in_step IsLater (inl (refl, refl)) (session_numbered n s) (λ x. changed_state s (database_after s.database (current_role x) text))
       (λ x. state_goes (database_after s.database (current_role x) text) (λ d is. text_counts (current_role x) (parsed_statement text) d is))
 
   -- ---- an accepted load counts
@@ -81,30 +85,31 @@ module _ (s : State) where
 
   -- ---- a cursor is made of rows
 
-  rows_kept : (n : ℕ) (x : Session) (name : Name) (given : engine.Reply) → IsLater (keep_rows s n x name given).1
-  rows_kept n x name (engine.Rows headings rows) = inl (refl, refl)
-  rows_kept n x name (engine.Refused code offset) = inl (refl, refl)
-  rows_kept n x name (engine.Denied column table) = inl (refl, refl)
-  rows_kept n x name (engine.Faulted fault) = inl (refl, refl)
+  rows_kept : (n : ℕ) (x : Session) (name : Name) (given : engine.Reply) → IsSameData (keep_rows s n x name given).1
+  rows_kept n x name (engine.Rows headings rows) = (refl, refl)
+  rows_kept n x name (engine.Refused code offset) = (refl, refl)
+  rows_kept n x name (engine.Denied column table) = (refl, refl)
+  rows_kept n x name (engine.Faulted fault) = (refl, refl)
 
-  unless_goes : (o : Option Refusal) (step : Step) → IsLater step.1 → Goes (unless o step)
-  unless_goes None step h = h
-  unless_goes (Some code) step h = inl (refl, refl)
+  unless_stays : (o : Option Refusal) (step : Step) → IsSameData step.1 → IsSameData (settled s (unless o step)).1
+  unless_stays None step h = h
+  unless_stays (Some code) step h = (refl, refl)
 
-  keep_goes : (n : ℕ) (name : Name) (given : engine.Reply) → Goes (keep s n name given)
-  keep_goes n name given = in_goes (session_numbered n s) (λ x. unless (cursor_refusal x name) (keep_rows s n x name given)) (λ x. unless_goes (cursor_refusal x name) (keep_rows s n x name given) (rows_kept n x name given))
+  keep_stays : (n : ℕ) (name : Name) (given : engine.Reply) → IsSameData (settled s (keep s n name given)).1
+  keep_stays n name given =
+      in_step IsSameData (refl, refl) (session_numbered n s) (λ x. unless (cursor_refusal x name) (keep_rows s n x name given)) (λ x. unless_stays (cursor_refusal x name) (keep_rows s n x name given) (rows_kept n x name given))
 
   -- ---- the calls
 
-  takes_later : {A E : Type 0} (stated : Result Step Reply) → Goes stated → (new : State) (result : Result (declared.Reply A) E) → Takes stated s new result → IsLater new
-  takes_later stated goes new (Ok given) h = subst IsLater (sym h.1) goes
-  takes_later stated goes new (Err e) h = subst IsLater (sym h) (inl (refl, refl))
+  takes_step : {A E : Type 0} (P : State → Type 0) → P s → (stated : Result Step Reply) → P (settled s stated).1 → (new : State) (result : Result (declared.Reply A) E) → Takes stated s new result → P new
+  takes_step P same stated goes new (Ok given) h = subst P (sym h.1) goes
+  takes_step P same stated goes new (Err e) h = subst P (sym h) same
 
   pub change_later : {A E : Type 0} (n : ℕ) (text : List ℕ) (new : State) (result : Result (declared.Reply A) E) → Takes (change s n text) s new result → IsLater new
-  change_later n text new result h = takes_later (change s n text) (change_goes n text) new result h
+  change_later n text new result h = takes_step IsLater (inl (refl, refl)) (change s n text) (change_goes n text) new result h
 
   pub load_later : {A E : Type 0} (table : Name) (bytes : List ℕ) (new : State) (result : Result (declared.Reply A) E) → Takes (load s table bytes) s new result → IsLater new
-  load_later table bytes new result h = takes_later (load s table bytes) (load_goes table bytes) new result h
+  load_later table bytes new result h = takes_step IsLater (inl (refl, refl)) (load s table bytes) (load_goes table bytes) new result h
 
-  pub keep_later : {A E : Type 0} (n : ℕ) (name : Name) (given : engine.Reply) (new : State) (result : Result (declared.Reply A) E) → Takes (keep s n name given) s new result → IsLater new
-  keep_later n name given new result h = takes_later (keep s n name given) (keep_goes n name given) new result h
+  pub keep_same : {A E : Type 0} (n : ℕ) (name : Name) (given : engine.Reply) (new : State) (result : Result (declared.Reply A) E) → Takes (keep s n name given) s new result → IsSameData new
+  keep_same n name given new result h = takes_step IsSameData (refl, refl) (keep s n name given) (keep_stays n name given) new result h

@@ -1,9 +1,9 @@
 -- The rows of a table that are marked, and the columns that are counted.
-use Rattle.std.specs.Prelude.{ℕ, ◌+◌, Bool, true, false, if◌then◌else◌, List, [], ◌∷◌, filter, length, get_or, Option, Some, None}
+use Rattle.std.specs.Prelude.{◌≡◌, ℕ, ◌+◌, All, Bool, true, false, if◌then◌else◌, List, [], ◌∷◌, filter, length, get_or, Option, Some, None}
 use Rattle.value.specs.Datum.{Row}
 use Rattle.value.specs.Restricted.{is_one_of}
 use Rattle.stats.specs.declared.statistics.ColumnStats.{ColumnStats}
-use Rattle.stats.specs.Statistics.{no_values}
+use Rattle.stats.specs.Statistics.{no_values, stats_of_values, values_in}
 
 -- the row of the number is marked; without marks every row is
 abbrev pub is_marked : Option (List Bool) → ℕ → Bool
@@ -26,3 +26,17 @@ count_marks marks = length (filter (λ m. m) marks)
 abbrev pub kept_stats : ℕ → List ℕ → List ColumnStats → List ColumnStats
 kept_stats i columns [] = []
 kept_stats i columns (s ∷ all) = (if is_one_of columns i then s else no_values) ∷ kept_stats (i + 1) columns all
+
+-- ---- what is counted so far
+
+-- the marks of rows, the number of those that are marked, and statistics of columns
+pub record MarkedStats : Type 0 where
+  pub marks : List Bool
+  pub rows : ℕ
+  pub columns : List (ℕ × ColumnStats)
+
+-- they are those of the marked rows
+pub record AreStatsOf (rows : List Row) (s : MarkedStats) : Type 0 where
+  pub long : length s.marks ≡ length rows
+  pub count : s.rows ≡ length (marked (Some s.marks) rows)
+  pub right : All (λ c. c.1 ≡ stats_of_values (values_in (marked (Some s.marks) rows) c.0)) s.columns

@@ -5,12 +5,14 @@
 mod counting;
 mod entry_set;
 mod factors;
+mod marked_stats;
 mod selection;
 mod sizes;
 mod statistics;
 
 pub use entry_set::EntrySet;
 pub use factors::factor;
+pub use marked_stats::MarkedStats;
 pub use selection::{Selection, selections};
 pub use sizes::{card, reduced};
 pub use statistics::{Bounds, ColumnStats, Stats};

@@ -1,17 +1,16 @@
 //! The statistics of a table, and of those of its rows that a role sees.
 
-ghost use Rattle.std.specs.Prelude.{◌≡◌, ◌<◌, Bool, IfOk, Some, if◌then◌else◌, filter, length, map};
-ghost use Rattle.value.specs.Datum.{Row};
+ghost use Rattle.std.specs.Prelude.{◌≡◌, IfOk, if◌then◌else◌, filter, length};
 ghost use Rattle.value.specs.Restricted.{is_one_of};
 ghost use Rattle.tables.specs.Loading.{TableRows};
 ghost use Rattle.tuples.specs.Guards.{shows};
 ghost use Rattle.tuples.specs.View.{guard_of};
-ghost use Rattle.stats.specs.Marked.{kept_stats, marked};
+ghost use Rattle.stats.specs.Marked.{kept_stats};
 ghost use Rattle.stats.specs.Statistics as spec;
 ghost use Rattle.stats.specs.View.{stats_of};
 
-use crate::counting::{column_stats, count_marks, marked_stats};
-use columns::Mask;
+use crate::counting::column_stats;
+use crate::marked_stats::MarkedStats;
 use lane_filters::seen_rows;
 use memory::{Heap, Items};
 use std::alloc::AllocError;
@@ -36,8 +35,8 @@ pub struct ColumnStats {
     pub bounds: Option<Bounds>,
 }
 
-// Those of a column without values.
-const NO_VALUES: ColumnStats = ColumnStats {
+/// Those of a column without values.
+pub(crate) const NO_VALUES: ColumnStats = ColumnStats {
     distinct: 0,
     bounds: None,
 };
@@ -68,25 +67,6 @@ fn kept_stats<A: Heap>(
     Ok(kept)
 }
 
-// The statistics of a column in the rows that are marked, if it is one of those that are counted.
-fn counted_stats<A: Heap>(
-    alloc: A,
-    table: &Table<A>,
-    marks: &Mask<A>,
-    columns: &[usize],
-    column: usize,
-) -> Result<ColumnStats, AllocError>
-    requires column { column < length table.now.columns }
-    requires marks { length marks.now ≡ length table.now.rows }
-    ensures { IfOk result (λ s. s ≡ (if is_one_of columns.now column then spec.stats_of_values (spec.values_in (marked (Some marks.now) table.now.rows) column) else spec.no_values)) }
-{
-    if columns.contains(&column) {
-        marked_stats(alloc, table, Some(marks), column as u64)
-    } else {
-        Ok(NO_VALUES)
-    }
-}
-
 /// The statistics of a table (Selinger et al. 1979, section 4).
 #[derive(Debug, Drop)]
 pub enum Stats<A: Heap> {
@@ -114,27 +94,6 @@ impl<A: Heap> Stats<A> {
         Ok(Stats::Known { rows, columns })
     }
 
-    /// The statistics of the rows of a table that are marked, restricted to some columns, counted from 0; the others count as
-    /// columns without values. It fails where memory runs out.
-    pub fn of_marked(
-        alloc: A,
-        table: &Table<A>,
-        marks: &Mask<A>,
-        columns: &[usize],
-    ) -> Result<Stats<A>, AllocError>
-        requires { length marks.now ≡ length table.now.rows }
-        ensures { (test : Row → Bool) → marks.now ≡ map test table.now.rows → IfOk result (λ s. stats_of s ≡ spec.seen_stats columns.now (length table.now.columns) (filter test table.now.rows)) }
-    {
-        let mut counted = Items::new(alloc);
-        for column in 0..table.columns().len() {
-            counted.push(counted_stats(alloc, table, marks, columns, column)?)?;
-        }
-        Ok(Stats::Known {
-            rows: count_marks(marks),
-            columns: counted,
-        })
-    }
-
     /// The statistics of the rows of a table that a guard shows to a role, restricted to some columns, counted from 0; the others
     /// count as columns without values. It fails where memory runs out.
     pub fn of_seen(
@@ -147,7 +106,7 @@ impl<A: Heap> Stats<A> {
         ensures { IfOk result (λ s. stats_of s ≡ spec.seen_stats columns.now (length table.now.columns) (filter (shows role.now (guard_of guard.now)) table.now.rows)) }
     {
         let seen = seen_rows(alloc, table, guard, role)?;
-        Stats::of_marked(alloc, table, &seen, columns)
+        MarkedStats::new(alloc, seen).statistics(alloc, table, columns)
     }
 
     /// Of the statistics of a table's rows those of the rows restricted to some columns, counted from 0. It fails where memory

@@ -1,4 +1,5 @@
 pub mod Combinations
+pub mod GuardView
 pub mod Guards
 pub mod LeftCombinations
 pub mod Rows

@@ -20,4 +20,4 @@ pub use rows::TableRow;
 pub use sink::Sink;
 pub use slot::Slot;
 pub use work::Work;
-pub use world::{GuardedTable, World};
+pub use world::{GuardedTable, SeenRows, World};

@@ -27,7 +27,7 @@ new-requires-clause-each g c =
     let b = bound_of c.args.bound.now in
     ap length c.deref-3.ensures.value
     ∙ sym (length-map c.in_ok-each.each.items (λ s. stats_of s.now))
-    ∙ ap length (c.in_ok-each.ensures ∙ ap (map (λ s. stats_of s)) c.as_slice.ensures ∙ c.in_ok-statistics.ensures)
+    ∙ ap length (c.in_ok-each.ensures ∙ ap (map (λ s. stats_of s)) c.as_slice.ensures ∙ c.in_ok-statistics.ensures.value)
     ∙ as_many b.query 0 (λ e. visible c.args.store.now.catalog c.args.role.now e.table (rows_of c.args.store.now e.table.name)) b.entries
     ∙ length-map c.args.bound.now.entries (λ e. entry_of e)
     ∙ sym (as_long _ _ _ _ (c.in_ok-setting.ensures.shows []))
@@ -45,8 +45,8 @@ new-requires-clause-setting g c =
     subst (λ q. IsSettingOf q (setting_of c.in_ok-setting.setting)) (ap bound_query_of (sym c.deref-2.ensures))
     (subst (IsSettingOf b.query) (sym (rw c.catalog.ensures.catalog at c.in_ok-setting.ensures.value)) (setting_of_query c.args.store.now.catalog c.args.role.now b c.requires.lefts))
 
-pub returns : goal.returns
-returns g c =
+pub returns-clause-text : goal.returns-clause-text
+returns-clause-text g c =
     let database = c.args.store.now in
     let cat = database.catalog in
     let role = c.args.role.now in
@@ -54,7 +54,7 @@ returns g c =
     let stats = seen_statistics cat (rows_of database) role b in
     let found = c.in_ok-found.found in
     let set = (rw c.catalog.ensures.catalog at c.in_ok-setting.ensures.value) in
-    let statistics = ap (map (λ s. stats_of s.now)) c.deref-3.ensures.value ∙ c.in_ok-each.ensures ∙ ap (map (λ s. stats_of s)) c.as_slice.ensures ∙ c.in_ok-statistics.ensures in
+    let statistics = ap (map (λ s. stats_of s.now)) c.deref-3.ensures.value ∙ c.in_ok-each.ensures ∙ ap (map (λ s. stats_of s)) c.as_slice.ensures ∙ c.in_ok-statistics.ensures.value in
     let query = ap bound_query_of c.deref-2.ensures in
     let from = problem_is cat role b stats (setting_of c.in_ok-setting.setting) (map (λ s. stats_of s.now) c.deref-3.result.now) (bound_query_of c.deref-2.result.now) found.problem c.in_ok-found.ensures.problem set statistics query in
     let names = ap (λ es. plan_entries (entries_of es)) c.as_slice-entries.ensures in

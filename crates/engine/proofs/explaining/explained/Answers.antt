@@ -19,10 +19,10 @@ explained_query-explained-requires-clause-limits g c =
     let read = (rw c.catalog.ensures.catalog at c.in_ok-query.ensures.read) in
     (c.law_parsing_is_determined.ensures.query.found c.args.text.now (query_of c.in-Ok.query) (read_parsed c.args.store.now.catalog c.args.role.now c.args.text.now (query_of c.in-Ok.query) (sym read ∙ ap read_of c.in-Ok.is))).2
 
-pub returns-in-Ok : goal.returns-in-Ok
-returns-in-Ok g c =
+pub returns-in-Ok-clause-text : goal.returns-in-Ok-clause-text
+returns-in-Ok-clause-text g c =
     let cat = c.args.store.now.catalog in
     let role = c.args.role.now in
     let read = (rw c.catalog.ensures.catalog at c.in_ok-query.ensures.read) in
     subst (λ r. IfOk c.explained_query-explained.result (λ x. IsExplanation x.0.items x.1 (explained_query cat (rows_of c.args.store.now) role (and_then r (admitted_query cat role)))))
-    (sym (sym read ∙ ap read_of c.in-Ok.is)) c.explained_query-explained.ensures
+    (sym (sym read ∙ ap read_of c.in-Ok.is)) c.explained_query-explained.ensures.text

@@ -1,32 +1,21 @@
-use Rattle.std.proofs.Common.{◌≡◌, filter, length, sym, ap, ap₂, subst, ◌∙◌}
-use Rattle.std.specs.Prelude.{Some}
+use Rattle.std.proofs.Common.{◌≡◌, filter, length, sym, ap, ◌∙◌}
 use Rattle.std.proofs.lemmas.Result.{IfOk-weaker}
-use Rattle.scope.specs.View.{entry_of}
+use Rattle.memory.proofs.Cases.{some_is}
 use Rattle.stats.specs.Statistics.{seen_stats}
 use Rattle.stats.specs.View.{stats_of}
-use Rattle.store.specs.Database.{contents_named, rows_of}
+use Rattle.store.specs.Loading.{TableRows}
 use Rattle.tuples.specs.Guards.{shows}
 use Rattle.tuples.specs.View.{guard_of}
-use Rattle.engine.proofs.SeenStatistics.{every_row, of_contents, of_statistics}
+use Rattle.engine.proofs.SeenStatistics.{every_row, of_statistics}
 use Rattle.engine.proofs.seen_statistics.guarded_statistics.Goals as goal
 
-pub returns-in-All : goal.returns-in-All
-returns-in-All g c =
-    let store = c.args.store.now in
-    let t = (entry_of c.args.entry.now).table in
-    let named = c.name-name.ensures in
-    let (contents, held, is) = of_statistics store c.name-name.result.now _ c.statistics.ensures in
-    let (many, rows) = of_contents store t.name t c.catalog-catalog.ensures.agree c.requires contents (subst (λ n. contents_named store.tables n ≡ Some contents) named held) in
-    IfOk-weaker c.restricted.result _ (λ s. stats_of s ≡ seen_stats c.args.columns.now (length t.columns) (filter (shows c.args.role.now (guard_of c.args.guard.now)) (rows_of store t.name)))
-    (λ s h. h ∙ ap₂ (seen_stats c.args.columns.now) many (rows ∙ sym (every_row c.args.role.now (guard_of c.args.guard.now) (ap guard_of c.in-All.is) (rows_of store t.name))))
+pub returns-in-All-clause-value : goal.returns-in-All-clause-value
+returns-in-All-clause-value g c =
+    let of = c.args.of.now in
+    let columns = c.args.columns.now in
+    let shown = shows of.role.now (guard_of of.guard.now) in
+    let (contents, held, is) = of_statistics c.args.store.now of.name.now _ c.statistics.ensures in
+    let same : contents ≡ of.rows.now = some_is contents of.rows.now (sym held ∙ c.requires.contents) in
+    IfOk-weaker c.restricted.result _ (λ s. stats_of s ≡ seen_stats columns (length of.rows.now.columns) (filter shown of.rows.now.rows))
+    (λ s h. h ∙ ap (λ (t : TableRows). seen_stats columns (length t.columns) t.rows) same ∙ ap (seen_stats columns (length of.rows.now.columns)) (sym (every_row of.role.now (guard_of of.guard.now) (ap guard_of c.in-All.is) of.rows.now.rows)))
     (c.restricted.ensures.counted contents is)
-
-pub returns-in-None : goal.returns-in-None
-returns-in-None g c =
-    let store = c.args.store.now in
-    let t = (entry_of c.args.entry.now).table in
-    let contents = c.contents_of.result.now in
-    let (many, rows) = of_contents store t.name t c.catalog-catalog.ensures.agree c.requires contents (subst (λ n. contents_named store.tables n ≡ Some contents) c.name-name.ensures c.contents_of.ensures) in
-    let shown = shows c.args.role.now (guard_of c.args.guard.now) in
-    IfOk-weaker c.of_seen.result _ (λ s. stats_of s ≡ seen_stats c.args.columns.now (length t.columns) (filter shown (rows_of store t.name)))
-    (λ s h. h ∙ ap₂ (λ n rs. seen_stats c.args.columns.now n (filter shown rs)) many rows) c.of_seen.ensures

@@ -1,13 +1,26 @@
-use Rattle.sessions.proofs.Counts.{change_later, load_later}
-use Rattle.session.proofs.Keeping.{keeps}
+use Rattle.std.proofs.Common.{rules}
 use Rattle.session.proofs.machine.Core.take.Goals as goal
 
-pub invariant_of-self-in-Change : goal.invariant_of-self-in-Change
-invariant_of-self-in-Change g c =
-    keeps c.self-in-Change.inside.sessions c.change.new.self c.self-in-Change.inside.plans.entries
-    (change_later c.self-in-Change.inside.sessions c.in-Change.session c.as_str-in-Change.result.now c.change.new.self c.change.result c.change.ensures.takes) c.self-in-Change.invariant
+pub invariant_of-self : goal.invariant_of-self
+invariant_of-self g c =
+    let kept = c.self.invariant.0 in
+    let seen = c.self.invariant.1 in
+    (search rules, search rules)
 
-pub invariant_of-self-in-Load : goal.invariant_of-self-in-Load
-invariant_of-self-in-Load g c =
-    keeps c.self-in-Load.inside.sessions c.load.new.self c.self-in-Load.inside.plans.entries
-    (load_later c.self-in-Load.inside.sessions c.as_str-in-Load.result.now c.as_slice.result.now c.load.new.self c.load.result c.load.ensures.takes) c.self-in-Load.invariant
+pub invariant_of-self-in-Prepare : goal.invariant_of-self-in-Prepare
+invariant_of-self-in-Prepare g c =
+    let kept = c.self-in-Prepare.invariant.0 in
+    let seen = c.self-in-Prepare.invariant.1 in
+    (search rules, search rules)
+
+pub invariant_of-self-in-Fetch : goal.invariant_of-self-in-Fetch
+invariant_of-self-in-Fetch g c =
+    let kept = c.self-in-Fetch.invariant.0 in
+    let seen = c.self-in-Fetch.invariant.1 in
+    (search rules, search rules)
+
+pub invariant_of-self-in-Close : goal.invariant_of-self-in-Close
+invariant_of-self-in-Close g c =
+    let kept = c.self-in-Close.invariant.0 in
+    let seen = c.self-in-Close.invariant.1 in
+    (search rules, search rules)

@@ -1,11 +1,17 @@
-use Rattle.std.proofs.Common.{length, ap, ◌∙◌}
-use Rattle.std.proofs.lemmas.List.{length-map}
+use Rattle.std.proofs.Common.{length, Some, ap, ◌∙◌}
+use Rattle.std.proofs.lemmas.Result.{IfOk-weaker}
 use Rattle.tuples.specs.Guards.{shows}
 use Rattle.tuples.specs.View.{guard_of}
+use Rattle.stats.specs.Marked.{marked}
+use Rattle.stats.specs.Statistics.{seen_stats}
+use Rattle.stats.proofs.Marked.{marked_by}
 use Rattle.stats.proofs.statistics.Stats.of_seen.Goals as goal
 
-pub of_marked-requires : goal.of_marked-requires
-of_marked-requires g c = ap length c.in_ok-seen.ensures ∙ length-map c.args.table.now.rows (shows c.args.role.now (guard_of c.args.guard.now))
+pub statistics-requires : goal.statistics-requires
+statistics-requires g c = record { stats = c.new.ensures.stats (shows c.args.role.now (guard_of c.args.guard.now)) c.args.table.now.rows c.in_ok-seen.ensures }
 
 pub returns : goal.returns
-returns g c = c.of_marked.ensures (shows c.args.role.now (guard_of c.args.guard.now)) c.in_ok-seen.ensures
+returns g c =
+    let table = c.args.table.now in
+    let seen : _ = ap (λ m. marked (Some m) table.rows) c.new.ensures.marks ∙ marked_by (shows c.args.role.now (guard_of c.args.guard.now)) table.rows c.in_ok-seen.seen c.in_ok-seen.ensures in
+    IfOk-weaker c.statistics.result _ _ (λ s is. is ∙ ap (seen_stats c.args.columns.now (length table.columns)) seen) c.statistics.ensures.value

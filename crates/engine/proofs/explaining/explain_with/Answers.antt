@@ -5,13 +5,13 @@ use Rattle.engine.specs.Explained.{explained}
 use Rattle.engine.specs.Serving.{IsExplained}
 use Rattle.engine.proofs.ExplainedTexts.{only_memory, same_explained}
 use Rattle.engine.proofs.Readable.{reads_sees}
-use Rattle.engine.proofs.explaining.explain.Goals as goal
+use Rattle.engine.proofs.explaining.explain_with.Goals as goal
 
 pub returns-in-Ok-clause-sent : goal.returns-in-Ok-clause-sent
 returns-in-Ok-clause-sent g c =
     let s = c.send.ensures in
     let due = explained c.args.store.now.catalog (rows_of c.args.store.now) c.args.role.now c.args.text.now in
-    text_sent s.whole s.failed s.fine s.beginning (c.deref.ensures.value ∙ c.in-Ok.ensures.0) c.in-Ok.ensures.1 (only_memory due)
+    text_sent s.whole s.failed s.fine s.beginning (c.deref.ensures.value ∙ c.in-Ok.ensures.text.0) c.in-Ok.ensures.text.1 (only_memory due)
 
 pub returns-in-Ok-clause-hidden : goal.returns-in-Ok-clause-hidden
 returns-in-Ok-clause-hidden g c = λ other same enough good.
