@@ -1,8 +1,9 @@
 #!/usr/bin/env bash
 # Measures how long a query takes whose tables are loaded, and how long its plan: `times ask` makes tables t1, t2, .. in memory, each
 # with an index on its key, and asks so many times. What it takes without asking is subtracted. One table is asked for the row of a
-# key; of more tables the combinations of a chain, each joined with the next by its key, are counted. Beside it sqlite3 looks up the
-# same row.
+# key; of more tables the combinations of a chain, each joined with the next by its key, are counted. `times known` asks as many texts,
+# each for the row of a key, as a role that sees one row in 500: rows in one session, or plans over what is known of these rows; the
+# first text is told apart from the later ones. Beside it sqlite3 looks up the same row.
 # usage: bench/ask.sh [ROWS [RUNS]], with 1000000 rows of the one table and 5 runs where nothing is said. Times are of the processor,
 # in milliseconds for each time that is asked; of the runs the middle one counts.
 # `rt` must be on the path. The program is proved and built first, if it is not yet.
@@ -36,6 +37,16 @@ ask plan 3 1000 5000
 ask rows 3 1000 200
 ask plan 8 1000 500
 ask rows 8 1000 50
+# The first of the texts of a role under a policy, and each later one.
+known() {
+    local none one all
+    none=$(middle "$times" known "$1" "$2" 0)
+    one=$(middle "$times" known "$1" "$2" 1)
+    all=$(middle "$times" known "$1" "$2" "$3")
+    printf '%-10s under a policy on %8d rows: %10s ms the first text, %10s ms each later one\n' "$1" "$2" "$(each "$one" "$none" 1)" "$(each "$all" "$one" $(($3 - 1)))"
+}
+known plan "$rows" 20001
+known rows "$rows" 20001
 if command -v sqlite3 > /dev/null; then
     awk -v n="$rows" 'BEGIN { print "id,val"; for (i = 1; i <= n; i++) printf "%d,%d\n", (i * 7919) % n + 1, i }' > "$work/t1.csv"
     cat > "$work/none.sql" <<SQL

@@ -1,7 +1,7 @@
 #!/usr/bin/env bash
-# Measures how long the search for the least code of a query takes, beside PostgreSQL's planning of the same query: 1 to 8 tables
-# in a chain (each joined to the next), a star (the first joined to each other) and a clique (each two joined); and of 8 tables with an
-# index on each of 64 columns, the search alone.
+# Measures how long the search for the least code of a query takes, of 1 to 12 tables in a chain (each joined to the next), a star (the
+# first joined to each other) and a clique (each two joined, by 64 equalities at most); beside PostgreSQL's planning of the same query up
+# to 8 tables; and of 8 and 12 tables with an index on each of 64 columns, the search alone.
 # usage: bench/plan.sh [RUNS], with 20 runs where nothing is said; of each time the middle one is given.
 # `rt` must be on the path. The program `times` is proved and built first, if it is not yet. PostgreSQL is left out where its
 # programs are not in POSTGRESQL, or /usr/lib/postgresql/15/bin; it runs in a folder of its own, on a socket alone.
@@ -91,7 +91,7 @@ search() {
 # The time of one search, in milliseconds: of runs with many searches and with one, the difference, divided. There are so many
 # that a run takes a twentieth of a second or more.
 rowplan() {
-    local many=10
+    local many=1
     while [ "$(search "$1" "$2" "$many" "$3")" -lt 50000000 ]; do many=$((many * 2)); done
     search_time=$(for _ in $(seq "$runs"); do
         few=$(search "$1" "$2" 1 "$3")
@@ -106,15 +106,17 @@ if [ -x "$bin/initdb" ]; then
 fi
 printf '%-8s %8s %16s %22s %24s\n' shape entries 'the search, ms' 'PostgreSQL, plan, ms' 'PostgreSQL, client, ms'
 for shape in chain star clique; do
-    for entries in $(seq 8); do
+    for entries in $(seq 12); do
         planning=- client=-
         rowplan "$shape" "$entries" 1
-        if [ -x "$bin/initdb" ]; then postgresql "$shape" "$entries"; fi
+        if [ -x "$bin/initdb" ] && [ "$entries" -le 8 ]; then postgresql "$shape" "$entries"; fi
         printf '%-8s %8d %16.4f %22s %24s\n' "$shape" "$entries" "$search_time" "$planning" "$client"
     done
 done
 printf '\n%-8s %8s %16s, with 64 indexes of each table\n' shape entries 'the search, ms'
 for shape in chain star clique; do
-    rowplan "$shape" 8 64
-    printf '%-8s %8d %16.4f\n' "$shape" 8 "$search_time"
+    for entries in 8 12; do
+        rowplan "$shape" "$entries" 64
+        printf '%-8s %8d %16.4f\n' "$shape" "$entries" "$search_time"
+    done
 done

@@ -171,6 +171,37 @@ const STATEMENTS: &str = "\
 4 | ask 0 SELECT id FROM deal => id / 1 / 2 / 5
 ";
 
+// Which rows a role sees is the same for one text after another, and found out anew after a load, a change of a policy and another
+// role; what is refused changes nothing.
+const SEEN: &str = "\
+0 | login alice => session 0
+0 | login bob => session 1
+0 | login boss => session 2
+0 | login root => session 3
+0 | ask 0 SELECT id FROM deal WHERE id > 0 => id / 1 / 2 / 5
+0 | ask 0 SELECT id FROM deal WHERE region = 1 => id / 1
+0 | ask 0 SELECT d.id FROM deal d, region r WHERE d.region = r.id AND r.id > 1 => id / 2
+0 | ask 1 SELECT id FROM deal WHERE id > 1 => id / 3 / 4
+0 | ask 0 SELECT id FROM deal WHERE owner = 'bob' => id
+0 | setrole 3 bob => ok
+0 | ask 3 SELECT id FROM deal WHERE id > 3 => id / 4
+0 | setrole 3 alice => ok
+0 | ask 3 SELECT id FROM deal WHERE id > 3 AND id < 9 => id / 5
+0 | load deal few_fields => data deal row 1
+0 | ask 0 SELECT id FROM deal WHERE id > 2 => id / 5
+0 | load deal more => ok
+0 | ask 0 SELECT id FROM deal WHERE id > 4 => id / 5 / 6
+0 | ask 1 SELECT id FROM deal WHERE id > 4 => id / 7
+0 | change 0 DROP POLICY own ON deal => refused 42501
+0 | ask 0 SELECT id FROM deal WHERE id > 5 => id / 6
+0 | change 2 CREATE POLICY near ON deal AS RESTRICTIVE USING (region = 1) => ok
+0 | ask 0 SELECT id FROM deal WHERE id > 0 => id / 1 / 6
+0 | change 2 CREATE INDEX di ON deal (id) => ok
+0 | ask 0 SELECT id FROM deal WHERE id = 6 => id / 6
+0 | ask 0 SELECT id FROM deal WHERE id = 7 => id
+0 | ask 1 SELECT id FROM deal WHERE id = 7 => id / 7
+";
+
 // The number of hits is this one, as decimal digits.
 fn compare_hits(
     rt: &(impl Abort + AllocGlobal),
@@ -211,6 +242,7 @@ fn accepted_statements_and_loads_take_the_plans(rt: HostRuntime) -> Result<(), F
     run(&rt, MEMBERS)?;
     run(&rt, INDEXED)?;
     run(&rt, LOADED)?;
+    run(&rt, SEEN)?;
     Ok(run(&rt, STATEMENTS)?)
 }
 

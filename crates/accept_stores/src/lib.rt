@@ -1,12 +1,14 @@
 //! Tests of stores that go through the whole program: opened from a schema text and files, loaded, asked with memory that is
-//! refused, and what is said of refused texts; calls that take no memory, and queries over products that take little; and rows in
-//! aligned columns. docs/ACCEPTANCE.md lists them.
+//! refused, and what is said of refused texts; plans over what is known of the rows that roles see; calls that take no memory, and
+//! queries over products that take little; and rows in aligned columns. docs/ACCEPTANCE.md lists them.
 #![tactic(auto)]
 
 #[cfg(test)]
 mod aligned_columns;
 #[cfg(test)]
 mod explanations;
+#[cfg(test)]
+mod known_rows;
 #[cfg(test)]
 mod loads;
 #[cfg(test)]

@@ -40,7 +40,7 @@ use Rattle.planning.specs.Best.{BestIsThere, best}
 use Rattle.expr_texts.specs.Filters.{IsName}
 use Rattle.plan_texts.specs.Plans.{Plan}
 use Rattle.plan_texts.specs.PlanTexts.{plan_text}
-use Rattle.plan_texts.specs.Reading.{IsFilter, IsPlan, PlansReadBack, plan_at, text_planout_offsets}
+use Rattle.plan_texts.specs.Reading.{IsFilter, IsPlan, PlansReadBack, plan_at, plan_without_offsets}
 use Rattle.bound_plans.specs.Entries.{plan_entries}
 use Rattle.bound_plans.specs.Found.{ColumnsAreFound, IsColumn, NamesBindBack, Unmistakable}
 use Rattle.bound_plans.specs.LeftJoins.{MarksAreRight, inner_count, plain_code}
@@ -211,7 +211,7 @@ module _ (laws : Laws) where
             (filters_each b.entries b.query at facts (IsSaid b.entries) (said_filter b.entries facts.differ) (recursion_from_All (IsSaid b.entries) (planning_list b.query) said))
             (ons_each b.entries b.query at facts (IsSaid b.entries) (said_filter b.entries facts.differ) (remaining_each (IsSaid b.entries) b.query (recursion_from_All (IsSaid b.entries) (left_conditions b.query) said_lefts)))
 
-        judged_is : judged at (written (length b.entries) b.query) b.entries (text_planout_offsets plan) ≡ Accepted
+        judged_is : judged at (written (length b.entries) b.query) b.entries (plan_without_offsets plan) ≡ Accepted
         judged_is =
             ap (λ t. if t then verdict at (written (length b.entries) b.query) (trail cat role b code) (plain_code plan.code) else Refused record { line = 0; reason = reason.Code }) (is_right b.entries b.query at facts laws.bind laws.found laws.marks plan code refl refl refl)
             ∙ ap (verdict at (written (length b.entries) b.query) (trail cat role b code)) (laws.marks (inner_count b.entries (remaining_lefts b.query)) code).1

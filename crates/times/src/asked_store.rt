@@ -16,8 +16,8 @@ fn schema(alloc: Global, tables: u64) -> Result<String, AllocError> {
     Ok(text)
 }
 
-// The key of the row of that number, which counts from 1: each of 1 to so many once, unless 7919 divides their number.
-fn key(row: u64, rows: u64) -> u64 {
+/// The key of the row of that number, which counts from 1: each of 1 to so many once, unless 7919 divides their number.
+pub(crate) fn key(row: u64, rows: u64) -> u64 {
     row.wrapping_mul(7919)
         .checked_rem(rows)
         .unwrap_or(0)

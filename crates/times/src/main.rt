@@ -1,6 +1,6 @@
 //! A program that does the work of one part of the engine, for the scripts of bench to measure: `plan` searches the least code of a
-//! query so many times, `run` joins two tables once by a code of its own, and `ask` makes tables and asks one query of them so many
-//! times.
+//! query so many times, `run` joins two tables once by a code of its own, `ask` makes tables and asks one query of them so many times,
+//! and `known` asks so many texts of a table of which a role sees few rows.
 #![tactic(auto)]
 
 mod asked_store;
@@ -9,6 +9,7 @@ mod join;
 mod join_code;
 mod join_run;
 mod join_tables;
+mod known;
 mod numbers;
 mod part;
 mod search;

@@ -2,6 +2,7 @@
 
 use crate::asking::asked_line;
 use crate::join_run::run_line;
+use crate::known::known_line;
 use crate::search::search_line;
 use crate::stop::Stop;
 use std::alloc::Global;
@@ -15,6 +16,8 @@ pub(crate) enum Part {
     Run,
     /// Queries of a store, or their plans.
     Ask,
+    /// Queries of a role under a policy, or their plans, one after the other.
+    Known,
 }
 
 impl Part {
@@ -24,6 +27,7 @@ impl Part {
             "plan" => Some(Part::Plan),
             "run" => Some(Part::Run),
             "ask" => Some(Part::Ask),
+            "known" => Some(Part::Known),
             _ => None,
         }
     }
@@ -34,6 +38,7 @@ impl Part {
             Part::Plan => search_line(alloc, words),
             Part::Run => run_line(alloc, words),
             Part::Ask => asked_line(alloc, words),
+            Part::Known => known_line(alloc, words),
         }
     }
 }

@@ -31,7 +31,8 @@ impl From<io::Error> for Stop {
 const USAGE: &str = "\
 usage: times plan chain|star|clique ENTRIES TIMES INDEXES, with 1 to 12 entries, and 1 to 64 indexes of each table
        times run none|hash|merge|merge-indexed|nested ROWS, with 1 to 1000000 rows
-       times ask rows|plan TABLES ROWS TIMES, with 1 to 12 tables of 1 to 1000000 rows, asked up to 1000000 times";
+       times ask rows|plan TABLES ROWS TIMES, with 1 to 12 tables of 1 to 1000000 rows, asked up to 1000000 times
+       times known rows|plan ROWS TEXTS, with 1 to 1000000 rows, and up to 1000000 texts";
 
 impl Stop {
     /// The exit status.
