@@ -1,6 +1,6 @@
 //! What is known of several tables.
 
-ghost use Rattle.std.specs.Prelude.{◌≡◌, ◌⊎◌, ◌<◌, [], IfOk, IfSome, filter, length};
+ghost use Rattle.std.specs.Prelude.{◌≡◌, ◌⊎◌, ◌<◌, [], IfOk, IfSome, filter, is_some, length};
 ghost use Rattle.std.specs.List.{Contains, position_from, slice_get};
 ghost use Rattle.stats.specs.Statistics.{seen_stats};
 ghost use Rattle.stats.specs.View.{stats_of};
@@ -68,7 +68,8 @@ impl<A: Heap> Seen<A> {
 
     /// Of each row of a table whether a role sees it, where that is known.
     pub fn marks(&self, role: &str, table: &str) -> Option<&Mask<A>>
-        ensures { IfSome result (λ marks. (x : spec) × Contains self.now x × (x.role ≡ role.now) × (x.table ≡ table.now) × (x.statistics.marks ≡ marks.now)) }
+        ensures known { is_some result ≡ is_some (position_from (is_of role.now table.now) 0 self.now) }
+        ensures found { IfSome result (λ marks. (x : spec) × Contains self.now x × (x.role ≡ role.now) × (x.table ≡ table.now) × (x.statistics.marks ≡ marks.now)) }
     {
         let place = self.place(role, table)?;
         Some(self.tables[place].marks())
