@@ -2,7 +2,9 @@ pub mod Cells
 pub mod Commutators
 pub mod Conditions
 pub mod DatumOrder
+pub mod DigitRoom
 pub mod DigitValue
+pub mod DigitWords
 pub mod NoUtf8
 pub mod NumberTexts
 pub mod OneSpelling
