@@ -10,7 +10,8 @@ ghost use Rattle.value.specs.Texts.{is_positive, is_spelled, spelled};
 
 // The first eight bytes as a word, the first of them the lowest, and the bytes after them; none where there are fewer.
 fn first_word(text: &[u8]) -> Option<(u64, &[u8])>
-    ensures { IfSome result (λ split. text.now ≡ to_le_bytes w64 split.0 ++ split.1.now) }
+    ensures some { IfSome result (λ split. text.now ≡ to_le_bytes w64 split.0 ++ split.1.now) }
+    ensures none { IfNone result (length text.now < 8) }
 {
     match text {
         [a, b, c, d, e, f, g, h, rest @ ..] => {
@@ -20,7 +21,8 @@ fn first_word(text: &[u8]) -> Option<(u64, &[u8])>
     }
 }
 
-// True where the eight bytes of a word are digits: bytes from 48 to 63, and those of them that are below 58.
+// True where the eight bytes of a word are digits, from 48 to 57. The first test is of bytes from 48 to 63. For these the
+// second is of those that 6 more leave below 64; no sum of theirs carries into the next byte.
 fn are_eight_digits(word: u64) -> bool
     ensures { result ≡ list_all is_ascii_digit (to_le_bytes w64 word) }
 {
@@ -29,7 +31,7 @@ fn are_eight_digits(word: u64) -> bool
 }
 
 // The number that the bytes of a word spell, of which the lowest is the first digit. Three sums join neighbours, to numbers
-// of two, of four and of eight digits.
+// of two, of four and of eight digits; a mask keeps every other one.
 fn eight_digits(word: u64) -> u64
     requires { list_all is_ascii_digit (to_le_bytes w64 word) ≡ true }
     ensures number { result ≡ digits_value 10 (to_le_bytes w64 word) }
@@ -49,10 +51,12 @@ fn digits_after(start: u64, text: &[u8]) -> Option<u64>
 {
     let mut n = start;
     for byte in text {
-        if !byte.is_ascii_digit() {
+        // A byte below that of `0`, which is 48, becomes a large number.
+        let digit = u64::from(*byte).wrapping_sub(48);
+        if digit > 9 {
             return None;
         }
-        n = n * 10 + u64::from(*byte - b'0');
+        n = n * 10 + digit;
     }
     Some(n)
 }

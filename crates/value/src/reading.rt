@@ -76,25 +76,20 @@ pub fn read_bigint(text: &[u8]) -> Result<i64, FaultKind>
     }
     match few_spelled(text) {
         Some(n) => Ok(n),
-        None => {
-            if text == b"0".as_slice() {
-                Ok(0)
-            } else {
-                Err(FaultKind::BadText)
-            }
-        }
+        None => match text {
+            [b'0'] => Ok(0),
+            _ => Err(FaultKind::BadText),
+        },
     }
 }
 
 fn read_boolean<'t, A: Heap>(text: &[u8]) -> Result<Val<'t, A>, FaultKind>
     ensures { datums_of result ≡ boolean_at text.now }
 {
-    if text == b"t".as_slice() {
-        Ok(Val::Bool(true))
-    } else if text == b"f".as_slice() {
-        Ok(Val::Bool(false))
-    } else {
-        Err(FaultKind::BadText)
+    match text {
+        [b't'] => Ok(Val::Bool(true)),
+        [b'f'] => Ok(Val::Bool(false)),
+        _ => Err(FaultKind::BadText),
     }
 }
 

@@ -39,16 +39,16 @@ loop-word-init c =
 
 pub returns-then-not-are_eight_digits-clause-number : goal.returns-then-not-are_eight_digits-clause-number
 returns-then-not-are_eight_digits-clause-number c =
-    let none = digits_left _ _ c.in-Some.word false c.in-Some.ensures (sym c.are_eight_digits.ensures ∙ c.if-not-are_eight_digits.true) in
+    let none = digits_left _ _ c.in-Some.word false c.in-Some.ensures.some (sym c.are_eight_digits.ensures ∙ c.if-not-are_eight_digits.true) in
     none_is _ _ (sym c.loop-word.invariant.digits ∙ none)
 
 pub overflow_mul-n : goal.overflow_mul-n
 overflow_mul-n c =
-    let most = fits c.loop-word.n 0 c.loop-word.rest.now _ c.in-Some.word c.in-Some.ensures (omega arith) c.loop-word.invariant.room in
+    let most = fits c.loop-word.n 0 c.loop-word.rest.now _ c.in-Some.word c.in-Some.ensures.some (omega arith) c.loop-word.invariant.room in
     record { fits = omega (arith, most) }
 
 pub overflow_add-n : goal.overflow_add-n
-overflow_add-n c = record { fits = fits c.loop-word.n _ c.loop-word.rest.now _ c.in-Some.word c.in-Some.ensures c.eight_digits.ensures.small c.loop-word.invariant.room }
+overflow_add-n c = record { fits = fits c.loop-word.n _ c.loop-word.rest.now _ c.in-Some.word c.in-Some.ensures.some c.eight_digits.ensures.small c.loop-word.invariant.room }
 
 pub loop-word-preserved : goal.loop-word-preserved
 loop-word-preserved c =
@@ -56,7 +56,7 @@ loop-word-preserved c =
     let n = c.loop-word.n in
     let rest = c.loop-word.rest.now in
     let more = c.in-Some.more.now in
-    let is = c.in-Some.ensures in
+    let is = c.in-Some.ensures.some in
     record {
       digits = sym (digits_left rest more word true is (sym c.are_eight_digits.ensures ∙ c.if-not-are_eight_digits.false)) ∙ c.loop-word.invariant.digits;
       number = number n c.eight_digits.result rest more word is c.eight_digits.ensures.number ∙ c.loop-word.invariant.number;
