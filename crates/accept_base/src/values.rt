@@ -1,5 +1,7 @@
 //! Values: arithmetic, logic of three values, comparison, and texts.
 
+ghost use Rattle.std.specs.Prelude.{◌<◌};
+
 use crate::compared::same;
 use Operation::{Add, Div, Mul, Neg, Rem, Sub};
 use Sample::{Bool, Int, Null};
@@ -256,7 +258,7 @@ fn truth_tables_conditions_and_comparisons(rt: HostRuntime) {
 
 // ---- texts
 
-static BIGINTS: [(&str, Result<i64, FaultKind>); 12] = [
+static BIGINTS: [(&str, Result<i64, FaultKind>); 30] = [
     ("-0", Err(FaultKind::BadText)),
     ("007", Err(FaultKind::BadText)),
     ("+1", Err(FaultKind::BadText)),
@@ -269,6 +271,24 @@ static BIGINTS: [(&str, Result<i64, FaultKind>); 12] = [
     ("9223372036854775808", Err(FaultKind::Range)),
     ("-9223372036854775808", Ok(i64::MIN)),
     ("-9223372036854775809", Err(FaultKind::Range)),
+    ("1234567", Ok(1_234_567)),
+    ("-1234567", Ok(-1_234_567)),
+    ("12345678", Ok(12_345_678)),
+    ("-12345678", Ok(-12_345_678)),
+    ("00000001", Err(FaultKind::BadText)),
+    ("10000000", Ok(10_000_000)),
+    ("99999999", Ok(99_999_999)),
+    ("234567890", Ok(234_567_890)),
+    ("-234567890", Ok(-234_567_890)),
+    ("987654321098765", Ok(987_654_321_098_765)),
+    ("9876543210987654", Ok(9_876_543_210_987_654)),
+    ("-1000000020000000", Ok(-1_000_000_020_000_000)),
+    ("98765432109876543", Ok(98_765_432_109_876_543)),
+    ("-98765432109876543", Ok(-98_765_432_109_876_543)),
+    ("999999999999999999", Ok(999_999_999_999_999_999)),
+    ("-999999999999999999", Ok(-999_999_999_999_999_999)),
+    ("1234567890123456789", Ok(1_234_567_890_123_456_789)),
+    ("9876543210987654321", Err(FaultKind::Range)),
 ];
 
 fn bigints() -> &'static [(&'static str, Result<i64, FaultKind>)] {
@@ -315,6 +335,45 @@ fn texts_of_bigints(rt: &impl Abort) {
             "texts_of_bigints",
             text,
         );
+    }
+}
+
+// Bytes that are no digits, among them both neighbours of the digits.
+static NO_DIGITS: [u8; 10] = [0, b' ', b'/', b':', b'?', b'a', b'q', 0x80, 0xB1, 0xFF];
+
+fn no_digits() -> &'static [u8] {
+    &NO_DIGITS
+}
+
+// Digits with such a byte at a place: all 18, and those up to it.
+fn with_no_digit(rt: &impl Abort, place: usize, byte: u8)
+    requires { place < 18 }
+{
+    let mut text = *b"123456789012345678";
+    text[place] = byte;
+    let bad = Err(FaultKind::BadText);
+    same(
+        rt,
+        &read_bigint(&text),
+        &bad,
+        "texts_of_bigints: place",
+        &place,
+    );
+    let front = read_bigint(&text[..=place]);
+    same(rt, &front, &bad, "texts_of_bigints: last place", &place);
+}
+
+fn with_no_digit_at(rt: &impl Abort, place: usize)
+    requires { place < 18 }
+{
+    for byte in no_digits() {
+        with_no_digit(rt, place, *byte);
+    }
+}
+
+fn bigints_with_no_digit(rt: &impl Abort) {
+    for place in 0..18 {
+        with_no_digit_at(rt, place);
     }
 }
 
@@ -416,6 +475,7 @@ fn faults_are_reported_by_code(rt: &impl Abort) {
 #[test]
 fn values_are_read_written_and_cast(rt: HostRuntime) {
     texts_of_bigints(&rt);
+    bigints_with_no_digit(&rt);
     texts_of_booleans(&rt);
     texts_of_values(&rt);
     casts(&rt);

@@ -67,7 +67,7 @@ fn bigint_of_bytes(text: &[u8]) -> Result<i64, FaultKind>
 }
 
 /// The bigint that bytes spell: `0`, or an optional minus and digits that do not start with 0. At most 18 bytes are read in
-/// one pass.
+/// one pass, eight digits at a time.
 pub fn read_bigint(text: &[u8]) -> Result<i64, FaultKind>
     ensures { result ≡ bigint_at text.now }
 {
