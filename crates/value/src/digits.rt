@@ -61,8 +61,10 @@ fn digits_after(start: u64, text: &[u8]) -> Option<u64>
     Some(n)
 }
 
-// The number that digits spell, eight at a time; none where a byte is no digit.
-fn few_digits(text: &[u8]) -> Option<u64>
+// The number that digits spell, eight at a time; none where a byte is no digit. It is kept out of its callers, whose code for
+// fewer digits then saves no registers for it.
+#[inline(never)]
+fn many_digits(text: &[u8]) -> Option<u64>
     requires { length text.now ≤ 18 }
     ensures number { result ≡ (if list_all is_ascii_digit text.now then Some (digits_value 10 text.now) else None) }
     ensures small { IfSome result (λ n. n < 10 ^ 18) }
@@ -77,6 +79,19 @@ fn few_digits(text: &[u8]) -> Option<u64>
         rest = more;
     }
     digits_after(n, rest)
+}
+
+// The number that digits spell; none where a byte is no digit. Fewer than eight are read one by one.
+fn few_digits(text: &[u8]) -> Option<u64>
+    requires { length text.now ≤ 18 }
+    ensures number { result ≡ (if list_all is_ascii_digit text.now then Some (digits_value 10 text.now) else None) }
+    ensures small { IfSome result (λ n. n < 10 ^ 18) }
+{
+    if text.len() < 8 {
+        digits_after(0, text)
+    } else {
+        many_digits(text)
+    }
 }
 
 // The number that digits spell which do not start with 0.

@@ -6,7 +6,7 @@ use Rattle.std.specs.Int.{byte_at, to_le_bytes, w64}
 use Rattle.std.specs.List.{list_all}
 use Rattle.std.specs.Str.Parse.{digits_value, digits_value_after}
 use Rattle.value.proofs.DigitRoom.{behind, within}
-use Rattle.value.proofs.digits.few_digits.Goals as goal
+use Rattle.value.proofs.digits.many_digits.Goals as goal
 
 -- a word of digits, and the text behind it
 digits_left : (rest more : List ℕ) (word : ℕ) (t : Bool) → rest ≡ to_le_bytes w64 word ++ more → list_all is_ascii_digit (to_le_bytes w64 word) ≡ t → list_all is_ascii_digit rest ≡ (t && list_all is_ascii_digit more)
