@@ -23,6 +23,8 @@ mod memory_refused;
 #[cfg(test)]
 mod numbers;
 #[cfg(test)]
+mod records;
+#[cfg(test)]
 mod table_texts;
 #[cfg(test)]
 mod text_conditions;

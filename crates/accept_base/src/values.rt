@@ -10,8 +10,8 @@ use std::alloc::Global;
 use std::borrow::CowStr;
 use std::process::Abort;
 use value::{
-    ColType, FaultKind, Truth, Val, add, and3, as_condition, cast, div, eq3, lt3, mul, neg, not3,
-    of_truth, or3, read_bigint, read_value, rem, sub, text_of,
+    ColType, FaultKind, Lent, Truth, Val, add, and3, as_condition, cast, div, eq3, lt3, mul, neg,
+    not3, of_truth, or3, read_bigint, read_value, rem, sub, text_of,
 };
 
 // A value of a row.
@@ -311,9 +311,9 @@ fn booleans() -> &'static [(&'static str, Result<bool, FaultKind>)] {
 
 // The truth value that a text is read as, if it is one, or the fault.
 fn boolean_of(text: &str) -> Option<Result<bool, FaultKind>> {
-    let read: Result<Val<'_, Global>, FaultKind> = read_value(ColType::Boolean, text.as_bytes());
+    let read = read_value(ColType::Boolean, text.as_bytes());
     match read {
-        Ok(Val::Bool(found)) => Some(Ok(found)),
+        Ok(Lent::Bool(found)) => Some(Ok(found)),
         Ok(_) => None,
         Err(kind) => Some(Err(kind)),
     }
@@ -408,7 +408,7 @@ fn written(rt: &(impl Abort + AllocGlobal), value: &Val<'_, Global>, want: Optio
 
 fn text_value<'t>(rt: &impl Abort, text: &'t str) -> Val<'t, Global> {
     match read_value(ColType::Text, text.as_bytes()) {
-        Ok(value) => value,
+        Ok(value) => Val::of(Some(value)),
         Err(error) => panic!(rt; "{text}: {error:?}"),
     }
 }

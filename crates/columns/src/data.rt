@@ -2,7 +2,7 @@
 
 ghost use Rattle.std.specs.Prelude.{◌≡◌, ◌+◌, ◌<◌, ◌≤◌, ◌^◌, ◌++◌, [], ◌∷◌, true, length, map, take, get_or, OnErr, OnOk};
 ghost use Rattle.value.specs.Columns.{fits_type};
-ghost use Rattle.value.specs.Datum.{datum_of, null, null_or};
+ghost use Rattle.value.specs.Datum.{null, null_or};
 ghost use Rattle.columns.specs.Bits.{IsMaskOf};
 ghost use Rattle.columns.specs.Data.{cells_of, type_of};
 ghost use Rattle.columns.specs.Optional.{is_null};
@@ -12,7 +12,7 @@ use crate::ints::Ints;
 use crate::texts::Texts;
 use memory::Heap;
 use std::alloc::AllocError;
-use value::{ColType, Lent, Val};
+use value::{ColType, Lent};
 
 /// The values of a column, which are of one type or null.
 #[derive(Drop)]
@@ -73,19 +73,19 @@ impl<A: Heap> ColumnData<A> {
     }
 
     /// One more value at the end, of the column's type or null. Where memory is refused, the column stays as it was.
-    pub fn push(&mut self, value: &Val<'_, A>) -> Result<(), AllocError>
+    pub fn push(&mut self, value: Option<Lent<'_>>) -> Result<(), AllocError>
         requires room { length (cells_of self.old) < 2 ^ 63 }
-        requires fits { fits_type (type_of self.old) (datum_of value.now) ≡ true }
+        requires fits { fits_type (type_of self.old) (null_or value) ≡ true }
         ensures data_type { type_of self.new ≡ type_of self.old }
-        ensures ok { OnOk result (cells_of self.new ≡ cells_of self.old ++ datum_of value.now ∷ []) }
+        ensures ok { OnOk result (cells_of self.new ≡ cells_of self.old ++ null_or value.entry ∷ []) }
         ensures err { OnErr result (cells_of self.new ≡ cells_of self.old) }
     {
         match (self, value) {
-            (ColumnData::Ints(ints), Val::Int(number)) => ints.push(Some(*number)),
+            (ColumnData::Ints(ints), Some(Lent::Int(number))) => ints.push(Some(number)),
             (ColumnData::Ints(ints), _) => ints.push(None),
-            (ColumnData::Texts(texts), Val::Text(text)) => texts.push(text.as_str()),
+            (ColumnData::Texts(texts), Some(Lent::Text(text))) => texts.push(text),
             (ColumnData::Texts(texts), _) => texts.push_null(),
-            (ColumnData::Bools(bools), Val::Bool(truth)) => bools.push(Some(*truth)),
+            (ColumnData::Bools(bools), Some(Lent::Bool(truth))) => bools.push(Some(truth)),
             (ColumnData::Bools(bools), _) => bools.push(None),
         }
     }

@@ -2,7 +2,7 @@
 
 ghost use Rattle.std.specs.Prelude.{◌≡◌, ◌+◌, ◌<◌, ◌≤◌, ◌^◌, ◌++◌, [], ◌∷◌, true, length, map, take, get_or, All, IfOk, OnErr, OnOk};
 ghost use Rattle.value.specs.Columns.{columns_of, fits_type};
-ghost use Rattle.value.specs.Datum.{cell, datum_of, null_or, row_at};
+ghost use Rattle.value.specs.Datum.{cell, null_or, row_at};
 ghost use Rattle.value.specs.declared.types.ColType.TheVariants.{Bigint};
 ghost use Rattle.columns.specs.Data.{cells_of, type_of};
 ghost use Rattle.columns.specs.Rows.{types_of};
@@ -11,7 +11,7 @@ use crate::data::ColumnData;
 use memory::Heap;
 use std::alloc::AllocError;
 use std::marker::Model;
-use value::{Column, Lent, Val};
+use value::{Column, Lent};
 
 /// Rows that are held as columns, and a row that is not finished. A contract sees the types of the columns, the rows, and the
 /// values of the unfinished row.
@@ -114,13 +114,13 @@ impl<A: Heap> Rows<A> {
     }
 
     /// The next value of the unfinished row, of its column's type or null. Where memory is refused, all stays as it was.
-    pub fn push_cell(&mut self, value: &Val<'_, A>) -> Result<(), AllocError>
+    pub fn push_cell(&mut self, value: Option<Lent<'_>>) -> Result<(), AllocError>
         requires within { length self.old.unfinished < length self.old.types }
-        requires fits { fits_type (get_or self.old.types (length self.old.unfinished) Bigint) (datum_of value.now) ≡ true }
+        requires fits { fits_type (get_or self.old.types (length self.old.unfinished) Bigint) (null_or value) ≡ true }
         requires room { length self.old.rows < 2 ^ 63 }
         ensures types { self.new.types ≡ self.old.types }
         ensures rows { self.new.rows ≡ self.old.rows }
-        ensures ok { OnOk result (self.new.unfinished ≡ self.old.unfinished ++ datum_of value.now ∷ []) }
+        ensures ok { OnOk result (self.new.unfinished ≡ self.old.unfinished ++ null_or value.entry ∷ []) }
         ensures err { OnErr result (self.new ≡ self.old) }
     {
         let next = self.started;

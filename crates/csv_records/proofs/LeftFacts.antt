@@ -1,15 +1,12 @@
 -- The records of a text, as a list: the next one, and then those of what is left.
-use Rattle.std.proofs.Common.{ℕ, zero, suc, ◌≡◌, ◌≢◌, ◌+◌, ◌<◌, ◌⊎◌, inl, inr, Bool, true, false, List, [], ◌∷◌, ◌++◌, length, Option, Some, None, option_map, if◌then◌else◌, refl, sym, ap, ◌∙◌, arith, add-one}
-use Rattle.std.specs.Prelude.{MatchOption, unwrap_or}
+use Rattle.std.proofs.Common.{ℕ, zero, suc, ◌≡◌, ◌≢◌, ◌+◌, ◌<◌, ◌⊎◌, inl, inr, true, false, List, [], ◌∷◌, ◌++◌, length, Option, Some, None, if◌then◌else◌, refl, sym, ap, ◌∙◌, arith, add-one}
+use Rattle.std.specs.Prelude.{unwrap_or}
 use Rattle.csv.specs.Machine.{Read, next_record, step, is_end, fields_after, field_after, ends_at_end}
-use Rattle.csv.specs.Reading.{ReadRecord, ReadsNext, NextIs, has_failed, pending_of, source_of, records_from, records_next, default_config}
-use Rattle.csv.specs.declared.error.Error.{Error}
-use Rattle.csv.specs.declared.reader.Reader.{Reader}
+use Rattle.csv.specs.Reading.{records_from, records_next, default_config}
 use Rattle.csv.specs.declared.parser.Config.{Config}
 use Rattle.csv.specs.declared.parser.State.{State}
 use Rattle.csv.specs.declared.parser.State.TheVariants as st
-use Rattle.csv_records.specs.declared.Records.TheInside.{Inside}
-use Rattle.csv_records.specs.Left.{FirstHasOther, Fits_length, TakesFirst, IsPlain, KeepsFailure, TailIsLeft, records_after}
+use Rattle.csv_records.specs.Left.{FirstHasOther, Fits_length, TakesFirst, TailIsLeft, records_after}
 
 -- the rest after a record is shorter, or the text was at its end
 abbrev Falls : List ℕ → Option Read → Type 0
@@ -65,24 +62,6 @@ records_after-some s xs p e =
     let f : Falls xs (Some p) = rw e at (falls default_config s [] [] xs) in
     rw (add-one, e) (ap (λ rs. p.0 ∷ rs) (after_some xs p f))
 
--- the part of the list that a read shows
-shows_next : (xs ys : List ℕ) (s t : State) (found : Bool) (fields : List (List ℕ)) (o : Option Read) → next_record default_config s [] [] xs ≡ o → NextIs o found fields t ys
-    → TakesFirst (Some (records_after s xs)) (Some (records_after t ys)) found fields
-shows_next xs ys s t found fields None e h = rw (records_after-none s xs e) h
-shows_next xs ys s t found fields (Some p) e (a, b, c, d) = rw (records_after-some s xs p e, c, d) (a, b, refl)
-
-shows_read : (src after : Option (List ℕ)) (s t : State) (found : Bool) (fields : List (List ℕ)) → ReadsNext default_config s src after found fields t
-    → TakesFirst (option_map (records_after s) src) (option_map (records_after t) after) found fields
-shows_read None after s t found fields h = tt
-shows_read (Some xs) None s t found fields h = absurd h
-shows_read (Some xs) (Some ys) s t found fields h = shows_next xs ys s t found fields _ refl h
-
--- the part of the records that a read of a plain reader shows
-pub gives_record : {R : Type 0} (rem : R → Option (List ℕ)) (a b : Reader R) (found : Bool) (fields : List (List ℕ)) → IsPlain a → ReadRecord rem a b found fields
-    → TakesFirst (option_map (records_after a.state) (source_of rem a)) (option_map (records_after b.state) (source_of rem b)) found fields
-gives_record rem a b found fields (config, trims, flexible, ready) r =
-    rw r.1 (shows_read (source_of rem a) (pending_of (rem b.rdr) b) a.state b.state found fields (rw config at r.0))
-
 -- a record that was read is passed over
 pub tail_left : (old new : Option (List (List (List ℕ)))) (fields : List (List ℕ)) → TakesFirst old new true fields → TailIsLeft old new
 tail_left None new fields gives = tt
@@ -103,18 +82,3 @@ differs (Some m) n other = (m, refl, λ same. other (sym same))
 pub fits : (expected : Option ℕ) (n : ℕ) → unwrap_or expected n ≡ n → Fits_length expected n
 fits None n same = tt
 fits (Some m) n same = sym same
-
--- a reader that has not failed is plain
-pub plain_unfailed : {R : Type 0} (a : Inside R) → KeepsFailure a → ¬ (has_failed a.inner ≡ true) → IsPlain a.inner
-plain_unfailed a keeps other = plain_of a.failure a.inner keeps other where
-  plain_of : {R : Type 0} (failure : Option Error) (r : Reader R) → MatchOption failure ((has_failed r ≡ false) × IsPlain r) (λ why. has_failed r ≡ true) → ¬ (has_failed r ≡ true) → IsPlain r
-  plain_of None r (fresh, plain) other = plain
-  plain_of (Some why) r failed other = absurd (other failed)
-
--- a read that found no record, of a reader that may have failed
-pub gives_none : {R : Type 0} (rem : R → Option (List ℕ)) (a : Inside R) (b : Reader R) (fields : List (List ℕ)) → KeepsFailure a → (IsPlain a.inner → ReadRecord rem a.inner b false fields)
-    → TakesFirst (option_map (records_after a.inner.state) (source_of rem a.inner)) (option_map (records_after b.state) (source_of rem b)) false fields
-gives_none rem a b fields keeps reads = none_of a.failure keeps where
-  none_of : (failure : Option Error) → MatchOption failure ((has_failed a.inner ≡ false) × IsPlain a.inner) (λ why. has_failed a.inner ≡ true) → TakesFirst (option_map (records_after a.inner.state) (source_of rem a.inner)) (option_map (records_after b.state) (source_of rem b)) false fields
-  none_of None (fresh, plain) = gives_record rem a.inner b false fields plain (reads plain)
-  none_of (Some why) failed = rw failed tt

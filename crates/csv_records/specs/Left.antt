@@ -1,25 +1,21 @@
 -- The records that a reader has left.
-use Rattle.std.specs.Prelude.{ℕ, ◌≡◌, ◌≢◌, ◌+◌, ◌-◌, ◌^◌, min, if◌then◌else◌, Bool, true, false, List, [], ◌∷◌, length, Option, None, Some, option_map, IfSome, MatchOption, ⊤}
-use Rattle.csv.specs.declared.error.ErrorKind.{ErrorKind}
-use Rattle.csv.specs.declared.error.ErrorKind.TheVariants as kind
-use Rattle.csv.specs.declared.reader.Reader.{Reader}
-use Rattle.csv.specs.Reading.{Ready, error_kind, has_failed, source_of, records, records_from, strip_bom, default_config}
+use Rattle.std.specs.Prelude.{ℕ, ◌≡◌, ◌≢◌, ◌+◌, ◌-◌, ◌^◌, min, if◌then◌else◌, Bool, true, false, List, [], ◌∷◌, length, Option, None, Some, IfSome, ⊤}
+use Rattle.csv.specs.Reading.{records, records_from, strip_bom, default_config}
 use Rattle.csv.specs.declared.parser.State.{State}
-use Rattle.csv.specs.declared.reader.Trim.TheVariants as trim
 use Rattle.csv_records.specs.declared.RecordError.{RecordError}
 use Rattle.csv_records.specs.declared.RecordError.TheVariants.{Uneven, Failed}
 use Rattle.memory.specs.declared.failure.Failure.{Failure}
 use Rattle.memory.specs.declared.failure.Failure.TheVariants.{Error, OutOfMemory}
-use Rattle.csv_records.specs.declared.Records.TheInside.{Inside}
 
 -- the records of a text; a byte order mark at its start is no part of them
 abbrev pub records_of : List ℕ → List (List (List ℕ))
 records_of bytes = records default_config (strip_bom bytes)
 
--- the records that are left, where they are known, the number of fields that each must have, once there was one, the
--- number of records given, and the failure of a read, if there was one
+-- the records that are left, where they are known, the fields of the record read last, the number of fields that each must
+-- have, once there was one, the number of records given, and the failure of a read, if there was one
 pub record Left : Type 0 where
   pub records : Option (List (List (List ℕ)))
+  pub fields : List (List ℕ)
   pub expected : Option ℕ
   pub given : ℕ
   pub failure : Option (Failure RecordError)
@@ -28,37 +24,15 @@ pub record Left : Type 0 where
 abbrev pub records_after : State → List ℕ → List (List (List ℕ))
 records_after s xs = records_from default_config (length xs + 1) s xs
 
--- the reader takes commas and double quotes, keeps spaces, has no header row, and takes records of any length
-abbrev pub IsPlain : {R : Type 0} → Reader R → Type 0
-IsPlain a = (a.config ≡ default_config) × (a.trim ≡ trim.None) × (a.flexible ≡ true) × Ready a
-
--- an error is kept of a reader that failed, and none of one that did not, which is plain
-abbrev pub KeepsFailure : {R : Type 0} → Inside R → Type 0
-KeepsFailure a = MatchOption a.failure ((has_failed a.inner ≡ false) × IsPlain a.inner) (λ error. has_failed a.inner ≡ true)
-
--- the failure of a read: out of memory, or else the reader underneath
-abbrev pub reason_of : ErrorKind → Failure RecordError
-reason_of kind.OutOfMemory = OutOfMemory
-reason_of (kind.Io e) = Error Failed
-reason_of (kind.UnequalLengths pos expected len) = Error Failed
-reason_of (kind.Utf8 pos err) = Error Failed
-reason_of (kind.Serialize text) = Error Failed
-reason_of (kind.Deserialize pos err) = Error Failed
-
--- the records that a reader has left, and the failure of the error of csv that it keeps
-abbrev pub left_of : {R : Type 0} → (R → Option (List ℕ)) → Inside R → Left
-left_of remaining a = record {
-  records = option_map (records_after a.inner.state) (source_of remaining a.inner);
-  expected = a.expected;
-  given = a.given;
-  failure = option_map (λ e. reason_of (error_kind e)) a.failure;
-}
-
 -- the failure that is kept after an error: a record of another length is none
 abbrev pub failure_after : Failure RecordError → Option (Failure RecordError)
 failure_after (Error Uneven) = None
 failure_after (Error Failed) = Some (Error Failed)
 failure_after OutOfMemory = Some OutOfMemory
+
+-- the error is one that is kept
+abbrev pub IsKept : Failure RecordError → Type 0
+IsKept e = failure_after e ≡ Some e
 
 -- the number of fields is the expected one, if one is
 abbrev pub Fits_length : Option ℕ → ℕ → Type 0

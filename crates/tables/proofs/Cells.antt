@@ -1,9 +1,10 @@
 -- The cells of a row, one after another.
-use Rattle.std.proofs.Common.{ℕ, ℤ, Bool, cond, zero, suc, ◌≡◌, ◌≢◌, ◌+◌, ◌<◌, ◌≤◌, List, [], ◌∷◌, ◌++◌, length, map, drop, get_or, Some, None, Result, Ok, Err, IfErr, refl, sym, ap, ◌∙◌, arith, add-one, true, false, if◌then◌else◌}
+use Rattle.std.proofs.Common.{ℕ, ℤ, Bool, cond, zero, suc, ◌≡◌, ◌≢◌, ◌+◌, ◌<◌, ◌≤◌, ◌⊎◌, inl, inr, List, [], ◌∷◌, ◌++◌, length, map, drop, get_or, Some, None, Result, Ok, Err, IfErr, refl, sym, ap, ◌∙◌, arith, add-one, true, false, if◌then◌else◌}
 use Rattle.std.specs.Str.{bytes_eq, is_utf8}
-use Rattle.std.proofs.lemmas.List.{append_assoc, append-nil, drop_all, get_or-map, length-append, length-map}
+use Rattle.std.proofs.lemmas.List.{append_assoc, append-nil, drop_all, drop_more, get_or-map, length-append, length-map}
 use Rattle.std.specs.Prelude.{IsErrAnd}
-use Rattle.csv.specs.Records.{field_at}
+use Rattle.std.specs.List.{slice_get}
+use Rattle.std.proofs.lemmas.Option.{get_or_from_slice_get, slice_get_cases, slice_get_within}
 use Rattle.value.specs.Datum.{Datum, Row, int, text, bool}
 use Rattle.value.specs.declared.types.ColType.{ColType}
 use Rattle.value.specs.declared.types.ColType.TheVariants as types
@@ -37,25 +38,21 @@ cell_of-refused c row column f k other spelled = rw other (by (is_utf8 f) spelle
   by false e = refl
 
 -- a list from an index on
-pub drop-field_at : (fs : Fields) (i : ℕ) (f : List ℕ) → Some f ≡ field_at fs i → drop i fs ≡ f ∷ drop (i + 1) fs
-unfolding field_at
-drop-field_at [] i f e = cc e
-drop-field_at (x ∷ xs) zero f e = cc e
-drop-field_at (x ∷ xs) (suc i) f e = rw add-one (rw add-one at (drop-field_at xs i f e))
-
-pub drop-no_field_at : (fs : Fields) (i : ℕ) → None ≡ field_at fs i → drop i fs ≡ []
-unfolding field_at
-drop-no_field_at [] zero e = refl
-drop-no_field_at [] (suc i) e = refl
-drop-no_field_at (x ∷ xs) zero e = cc e
-drop-no_field_at (x ∷ xs) (suc i) e = drop-no_field_at xs i e
+pub drop-field : (fs : Fields) (i : ℕ) (f : List ℕ) → Some f ≡ slice_get fs i → drop i fs ≡ f ∷ drop (i + 1) fs
+drop-field fs i f e = drop_more fs i f (slice_get_within fs i f (sym e)) ∙ ap (λ x. x ∷ drop (i + 1) fs) (get_or_from_slice_get fs i f f (sym e))
 
 -- there is a field at each index below the number of fields
-pub field_missing : (fs : Fields) (i : ℕ) → i < length fs → None ≡ field_at fs i → ⊥
-unfolding field_at
-field_missing [] i lt e = omega (arith, lt)
-field_missing (x ∷ xs) zero lt e = cc e
-field_missing (x ∷ xs) (suc i) lt e = field_missing xs i (omega (arith, lt)) e
+pub field_missing : (fs : Fields) (i : ℕ) → i < length fs → None ≡ slice_get fs i → ⊥
+field_missing fs i lt e = by_cases (slice_get_cases fs i).1 where
+  by_cases : ((x : List ℕ) × (i < length fs) × (slice_get fs i ≡ Some x) × (get_or fs i x ≡ x)) ⊎ ((length fs ≤ i) × (slice_get fs i ≡ None)) → ⊥
+  by_cases (inl (x, within, is, same)) = cc (e, is)
+  by_cases (inr (le, is)) = omega (arith, lt, le)
+
+pub drop-no_field : (fs : Fields) (i : ℕ) → None ≡ slice_get fs i → drop i fs ≡ []
+drop-no_field fs i e = by_cases (slice_get_cases fs i).1 where
+  by_cases : ((x : List ℕ) × (i < length fs) × (slice_get fs i ≡ Some x) × (get_or fs i x ≡ x)) ⊎ ((length fs ≤ i) × (slice_get fs i ≡ None)) → drop i fs ≡ []
+  by_cases (inl (x, within, is, same)) = absurd (field_missing fs i within e)
+  by_cases (inr (le, is)) = drop_all i fs le
 
 pub drop-map : {X Y : Type 0} (v : X → Y) (xs : List X) (i : ℕ) (x : X) → i < length xs → x ≡ get_or xs i x → drop i (map v xs) ≡ v x ∷ drop (i + 1) (map v xs)
 drop-map v [] i x lt e = absurd (omega (arith, lt))
@@ -73,10 +70,10 @@ cells_step cs fs row i c f h k = rw (h, k) refl
 
 -- the cells from this column on are this cell and those after it
 one_cell : {A : Type 0} (columns : List (declared.Column A)) (fs : Fields) (row i : ℕ) (x : declared.Column A) (f : List ℕ) (xs : List Datum) (whole : Result (List Datum) LoadError)
-    → i < length columns → x ≡ get_or columns i x → Some f ≡ field_at fs i
+    → i < length columns → x ≡ get_or columns i x → Some f ≡ slice_get fs i
     → whole ≡ after xs (cells_of (drop i (map column_of columns)) row i (drop i fs))
     → whole ≡ after xs (first_then (cell_of (column_of x) row i f) (cells_of (drop (i + 1) (map column_of columns)) row (i + 1) (drop (i + 1) fs)))
-one_cell columns fs row i x f xs whole lt is at e = e ∙ ap (after xs) (cells_step _ _ row i _ _ (drop-map column_of columns i x lt is) (drop-field_at fs i f at))
+one_cell columns fs row i x f xs whole lt is at e = e ∙ ap (after xs) (cells_step _ _ row i _ _ (drop-map column_of columns i x lt is) (drop-field fs i f at))
 
 -- a cell of the row gives no value
 cell_refused : (e : Failure LoadError) (xs : List Datum) (cell : Result Datum LoadError) (rest whole : Result (List Datum) LoadError) → whole ≡ after xs (first_then cell rest) → IsFailure e cell → IsFailure e whole
@@ -85,7 +82,7 @@ cell_refused (Error e) xs cell rest whole is fails = rw fails at is
 
 -- the cell of this column is refused
 pub one_refused : {A : Type 0} (columns : List (declared.Column A)) (fs : Fields) (row i : ℕ) (x : declared.Column A) (f : List ℕ) (xs : List Datum) (e : Failure LoadError) (whole : Result (List Datum) LoadError)
-    → i < length columns → x ≡ get_or columns i x → Some f ≡ field_at fs i → whole ≡ after xs (cells_of (drop i (map column_of columns)) row i (drop i fs)) → IsFailure e (cell_of (column_of x) row i f) → IsFailure e whole
+    → i < length columns → x ≡ get_or columns i x → Some f ≡ slice_get fs i → whole ≡ after xs (cells_of (drop i (map column_of columns)) row i (drop i fs)) → IsFailure e (cell_of (column_of x) row i f) → IsFailure e whole
 one_refused columns fs row i x f xs e whole lt is at so_far fails =
     cell_refused e xs (cell_of (column_of x) row i f) (cells_of (drop (i + 1) (map column_of columns)) row (i + 1) (drop (i + 1) fs)) whole (one_cell columns fs row i x f xs whole lt is at so_far) fails
 
@@ -96,7 +93,7 @@ no_cells cs fs row i xs h = rw (drop_all i cs h) (ap Ok (append-nil xs))
 
 -- one more cell was read
 pub one_more_cell : {A : Type 0} (columns : List (declared.Column A)) (fs : Fields) (row i : ℕ) (x : declared.Column A) (f : List ℕ) (values : Row) (d : Datum) (new : Row) (whole : Result (List Datum) LoadError)
-    → i < length columns → x ≡ get_or columns i x → Some f ≡ field_at fs i → length values ≡ i → whole ≡ after values (cells_of (drop i (map column_of columns)) row i (drop i fs))
+    → i < length columns → x ≡ get_or columns i x → Some f ≡ slice_get fs i → length values ≡ i → whole ≡ after values (cells_of (drop i (map column_of columns)) row i (drop i fs))
     → cell_of (column_of x) row i f ≡ Ok d → new ≡ values ++ d ∷ []
     → (length new ≡ i + 1) × (whole ≡ after new (cells_of (drop (i + 1) (map column_of columns)) row (i + 1) (drop (i + 1) fs)))
 one_more_cell columns fs row i x f values d new whole lt is at count so_far cell all =

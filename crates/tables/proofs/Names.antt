@@ -3,11 +3,11 @@ use Rattle.std.proofs.Common.{ℕ, suc, ◌≡◌, ◌≢◌, ◌+◌, ◌<◌, 
 use Rattle.std.proofs.lemmas.List.{drop_all}
 use Rattle.std.specs.Cmp.{second_so}
 use Rattle.std.specs.Str.{bytes_eq}
-use Rattle.csv.specs.Records.{field_at}
+use Rattle.std.specs.List.{slice_get}
 use Rattle.value.specs.declared.column.Column as declared
 use Rattle.tables.specs.Loading.{Fields, names}
 use Rattle.value.specs.Columns.{Column, column_of}
-use Rattle.tables.proofs.Cells.{drop-field_at, drop-map, drop-no_field_at}
+use Rattle.tables.proofs.Cells.{drop-field, drop-map, drop-no_field}
 
 pub names_length : (cs : List Column) (fs : Fields) → names cs fs ≡ true → length fs ≡ length cs
 unfolding names
@@ -24,15 +24,15 @@ pub names-other_length : (cs : List Column) (fs : Fields) → length fs ≢ leng
 names-other_length cs fs h = not_names cs fs _ refl h
 
 pub names_step : {A : Type 0} (columns : List (declared.Column A)) (fs : Fields) (i : ℕ) (x : declared.Column A) (f : List ℕ) (whole : Bool)
-    → i < length columns → x ≡ get_or columns i x → Some f ≡ field_at fs i → whole ≡ names (drop i (map column_of columns)) (drop i fs)
+    → i < length columns → x ≡ get_or columns i x → Some f ≡ slice_get fs i → whole ≡ names (drop i (map column_of columns)) (drop i fs)
     → whole ≡ (bytes_eq f x.name && names (drop (i + 1) (map column_of columns)) (drop (i + 1) fs))
 unfolding names
-names_step columns fs i x f whole lt is at e = e ∙ rw (drop-map column_of columns i x lt is, drop-field_at fs i f at) refl
+names_step columns fs i x f whole lt is at e = e ∙ rw (drop-map column_of columns i x lt is, drop-field fs i f at) refl
 
 pub names_missing : {A : Type 0} (columns : List (declared.Column A)) (fs : Fields) (i : ℕ) (x : declared.Column A) (whole : Bool)
-    → i < length columns → x ≡ get_or columns i x → None ≡ field_at fs i → whole ≡ names (drop i (map column_of columns)) (drop i fs) → whole ≡ false
+    → i < length columns → x ≡ get_or columns i x → None ≡ slice_get fs i → whole ≡ names (drop i (map column_of columns)) (drop i fs) → whole ≡ false
 unfolding names
-names_missing columns fs i x whole lt is at e = e ∙ rw (drop-map column_of columns i x lt is, drop-no_field_at fs i at) refl
+names_missing columns fs i x whole lt is at e = e ∙ rw (drop-map column_of columns i x lt is, drop-no_field fs i at) refl
 
 pub names_end : (cs : List Column) (fs : Fields) (i : ℕ) (whole : Bool) → length cs ≤ i → length fs ≡ length cs → whole ≡ names (drop i cs) (drop i fs) → whole ≡ true
 unfolding names

@@ -1,12 +1,11 @@
 //! Rows from records.
 
 ghost use Rattle.std.specs.Prelude.{◌≡◌, ◌≢◌, ◌+◌, ◌<◌, ◌^◌, ℕ, [], length, true, None, Some, IfOk, IfErr, IfSome, IsErrOf, OnErr, OnOk};
-ghost use Rattle.csv.specs.Records.{fields_of};
 ghost use Rattle.memory.specs.Gives.{Gives, IsFailure};
 ghost use Rattle.memory.specs.declared.failure.Failure.TheVariants.{Error};
 ghost use Rattle.csv_records.specs.Left.{TakesNext, counted};
 ghost use Rattle.value.specs.Columns.{column_of, columns_of, fits_type};
-ghost use Rattle.value.specs.Datum.{datum_of};
+ghost use Rattle.value.specs.Datum.{null_or};
 ghost use Rattle.columns.specs.Rows.{types_of};
 ghost use Rattle.tables.specs.Loading.{cell_of, cells_of, names, reported};
 ghost use Rattle.tables.specs.Reading.{Added, AddsRow, HeaderIs, LoadFollows, Refuses, RowsFollow};
@@ -14,31 +13,30 @@ ghost use Rattle.tables.specs.declared.LoadError.TheVariants.{Reader};
 
 use crate::LoadError;
 use columns::Rows;
-use csv::ByteRecord;
-use csv_records::{RecordError, Records};
+use csv_records::{Record, RecordError, Records};
 use memory::{Failure, Heap};
 use std::io::Read;
-use value::{Column, Val, read_value};
+use value::{Column, Lent, read_value};
 
-// The value of a cell. A field of a bigint or boolean column is not tested for UTF-8, since only ASCII spells one.
+// The value of a cell, or none for null. A field of a bigint or boolean column is not tested for UTF-8, since only ASCII spells one.
 fn read_cell<'f, A: Heap>(
     column: &Column<A>,
     field: &'f [u8],
     row: u64,
     at: u64,
-) -> Result<Val<'f, A>, Failure<LoadError>>
-    ensures cell { Gives datum_of result (cell_of (column_of column.now) row at field.now) }
-    ensures fits { IfOk result (λ v. fits_type column.now.data_type (datum_of v) ≡ true) }
+) -> Result<Option<Lent<'f>>, Failure<LoadError>>
+    ensures cell { Gives null_or result (cell_of (column_of column.now) row at field.now) }
+    ensures fits { IfOk result (λ v. fits_type column.now.data_type (null_or v) ≡ true) }
     ensures no_reader { IfErr result (λ e. (r : ℕ) → e ≢ Error (Reader r)) }
 {
     if field == b"\\N".as_slice() {
         if column.not_null {
             return Err(Failure::Error(LoadError::NotNull { row, column: at }));
         }
-        return Ok(Val::Null);
+        return Ok(None);
     }
     match read_value(column.data_type, field) {
-        Ok(value) => Ok(value),
+        Ok(value) => Ok(Some(value)),
         Err(_) => Err(Failure::Error(LoadError::Cell { row, column: at })),
     }
 }
@@ -46,18 +44,18 @@ fn read_cell<'f, A: Heap>(
 // Adds the values of a row to the unfinished row, which has none.
 fn add_cells<A: Heap>(
     columns: &[Column<A>],
-    cells: &ByteRecord,
+    cells: &Record<'_>,
     row: u64,
     rows: &mut Rows<A>,
 ) -> Result<(), Failure<LoadError>>
     requires none { rows.old.unfinished ≡ [] }
     requires types { rows.old.types ≡ types_of (columns_of columns.now) }
-    requires wide { length (fields_of cells.now) ≡ length columns.now }
+    requires wide { length cells.now ≡ length columns.now }
     requires room { length rows.old.rows < 2 ^ 63 }
     ensures types { rows.new.types ≡ rows.old.types }
     ensures rows { rows.new.rows ≡ rows.old.rows }
     ensures wide { OnOk result (length rows.new.unfinished ≡ length columns.now) }
-    ensures cells { Gives (λ _. rows.new.unfinished) result (cells_of (columns_of columns.now) row 0 (fields_of cells.now)) }
+    ensures cells { Gives (λ _. rows.new.unfinished) result (cells_of (columns_of columns.now) row 0 cells.now) }
     ensures no_reader { IfErr result (λ e. (r : ℕ) → e ≢ Error (Reader r)) }
 {
     for (i, column) in columns.iter().enumerate() {
@@ -65,7 +63,7 @@ fn add_cells<A: Heap>(
             return Err(Failure::Error(LoadError::Reader { row }));
         };
         let value = read_cell(column, field, row, i as u64)?;
-        rows.push_cell(&value)?;
+        rows.push_cell(value)?;
     }
     Ok(())
 }
@@ -73,19 +71,19 @@ fn add_cells<A: Heap>(
 // Adds a row. After an error its first values may be there, in the unfinished row.
 fn add_row<A: Heap>(
     columns: &[Column<A>],
-    cells: &ByteRecord,
+    cells: &Record<'_>,
     row: u64,
     rows: &mut Rows<A>,
 ) -> Result<(), Failure<LoadError>>
     requires none { rows.old.unfinished ≡ [] }
     requires types { rows.old.types ≡ types_of (columns_of columns.now) }
-    requires wide { length (fields_of cells.now) ≡ length columns.now }
+    requires wide { length cells.now ≡ length columns.now }
     requires room { length rows.old.rows < 2 ^ 63 }
     ensures types { rows.new.types ≡ rows.old.types }
     ensures finished { OnOk result (rows.new.unfinished ≡ []) }
-    ensures row { OnOk result (AddsRow (columns_of columns.now) row (fields_of cells.now) rows.old.rows rows.new.rows) }
+    ensures row { OnOk result (AddsRow (columns_of columns.now) row cells.now rows.old.rows rows.new.rows) }
     ensures kept { OnErr result (rows.new.rows ≡ rows.old.rows) }
-    ensures refused { IfErr result (λ e. IsFailure e (cells_of (columns_of columns.now) row 0 (fields_of cells.now))) }
+    ensures refused { IfErr result (λ e. IsFailure e (cells_of (columns_of columns.now) row 0 cells.now)) }
     ensures no_reader { IfErr result (λ e. (r : ℕ) → e ≢ Error (Reader r)) }
 {
     add_cells(columns, cells, row, rows)?;
@@ -104,30 +102,24 @@ fn reported(error: Failure<RecordError>, row: u64) -> Failure<LoadError>
 }
 
 // Reads the next record: true where there was one.
-fn next_record<R: Read>(
-    records: &mut Records<R>,
-    cells: &mut ByteRecord,
-    row: u64,
-) -> Result<bool, Failure<LoadError>>
-    ensures gives { IfOk result (λ found. TakesNext records.old records.new found (fields_of cells.new)) }
+fn next_record<R: Read>(records: &mut Records<R>, row: u64) -> Result<bool, Failure<LoadError>>
+    ensures gives { IfOk result (λ found. TakesNext records.old records.new found records.new.fields) }
     ensures given { IfOk result (λ found. records.new.given ≡ counted found records.old.given) }
     ensures no_more { OnErr result (records.new.given ≡ records.old.given) }
     ensures goes_on { OnOk result (records.new.failure ≡ records.old.failure) }
     ensures refuses { IfErr result (λ e. Refuses row records.old records.new e) }
 {
-    match records.read(cells) {
+    match records.read() {
         Ok(found) => Ok(found),
         Err(error) => Err(reported(error, row)),
     }
 }
 
-// Adds the rows of the records that are left, where there is room for so many; `cells` holds the fields of one at a time.
-// After an error some of them may be there.
+// Adds the rows of the records that are left, where there is room for so many. After an error some of them may be there.
 fn add_rows<A: Heap, R: Read>(
     columns: &[Column<A>],
     records: &mut Records<R>,
     room: u64,
-    cells: &mut ByteRecord,
     rows: &mut Rows<A>,
 ) -> Result<(), Failure<LoadError>>
     requires none { rows.old.unfinished ≡ [] }
@@ -143,21 +135,21 @@ fn add_rows<A: Heap, R: Read>(
 {
     for done in 0..room {
         let row = done + 1;
-        if !next_record(records, cells, row)? {
+        if !next_record(records, row)? {
             return Ok(());
         }
-        add_row(columns, cells, row, rows)?;
+        add_row(columns, &records.record(), row, rows)?;
     }
-    if next_record(records, cells, room + 1)? {
+    if next_record(records, room + 1)? {
         return Err(Failure::Error(LoadError::TooMany));
     }
     Ok(())
 }
 
 // True where the fields are the names of the columns.
-fn has_names<A: Heap>(columns: &[Column<A>], cells: &ByteRecord) -> bool
-    ensures names { result ≡ names (columns_of columns.now) (fields_of cells.now) }
-    ensures len { result ≡ true → length (fields_of cells.now) ≡ length columns.now }
+fn has_names<A: Heap>(columns: &[Column<A>], cells: &Record<'_>) -> bool
+    ensures names { result ≡ names (columns_of columns.now) cells.now }
+    ensures len { result ≡ true → length cells.now ≡ length columns.now }
 {
     if cells.len() != columns.len() {
         return false;
@@ -173,11 +165,10 @@ fn has_names<A: Heap>(columns: &[Column<A>], cells: &ByteRecord) -> bool
     true
 }
 
-// Reads the header; `cells` holds its fields.
+// Reads the header.
 fn read_header<A: Heap, R: Read>(
     columns: &[Column<A>],
     records: &mut Records<R>,
-    cells: &mut ByteRecord,
 ) -> Result<(), Failure<LoadError>>
     requires expected { records.old.expected ≡ None }
     requires given { records.old.given ≡ 0 }
@@ -188,7 +179,7 @@ fn read_header<A: Heap, R: Read>(
     ensures failed { IfSome records.new.failure (λ why. IsErrOf result (reported why records.new.given)) }
     ensures header { HeaderIs (columns_of columns.now) records.old records.new result }
 {
-    if next_record(records, cells, 0)? && has_names(columns, cells) {
+    if next_record(records, 0)? && has_names(columns, &records.record()) {
         Ok(())
     } else {
         Err(Failure::Error(LoadError::Header))
@@ -198,7 +189,6 @@ fn read_header<A: Heap, R: Read>(
 /// Adds the rows of all the records, the header among them, where there is room for so many rows. After an error some of
 /// them may be there.
 pub(crate) fn add_records<A: Heap, R: Read>(
-    alloc: A,
     columns: &[Column<A>],
     records: &mut Records<R>,
     room: u64,
@@ -215,7 +205,6 @@ pub(crate) fn add_records<A: Heap, R: Read>(
     ensures failed { IfSome records.new.failure (λ why. IsErrOf result (reported why records.new.given)) }
     ensures rows { Added (columns_of columns.now) room (LoadFollows (columns_of columns.now) room records.old.records records.new) rows.old.rows rows.new.rows result }
 {
-    let mut cells = ByteRecord::new(alloc.global());
-    read_header(columns, records, &mut cells)?;
-    add_rows(columns, records, room, &mut cells, rows)
+    read_header(columns, records)?;
+    add_rows(columns, records, room, rows)
 }

@@ -128,7 +128,7 @@ impl<A: Heap> Table<A> {
         let before = self.rows.len();
         let room = MAX_ROWS - before as u64;
         let columns = self.columns.as_slice();
-        match add_records(self.alloc, columns, records, room, &mut self.rows) {
+        match add_records(columns, records, room, &mut self.rows) {
             Ok(()) => Ok(()),
             Err(error) => {
                 self.rows.truncate(before);

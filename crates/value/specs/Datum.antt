@@ -51,6 +51,11 @@ abbrev pub null_or : Option Lent → Datum
 null_or None = null
 null_or (Some v) = lent_datum v
 
+-- the view of the result of reading a value
+abbrev pub lents_of : {E : Type 0} → Result Lent E → Result Datum E
+lents_of (Ok v) = Ok (lent_datum v)
+lents_of (Err e) = Err e
+
 abbrev pub row_of : {A : Type 0} → List (Value A) → Row
 row_of values = map datum values
 

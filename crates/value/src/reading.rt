@@ -3,13 +3,11 @@
 ghost use Rattle.std.specs.Prelude.{◌≡◌};
 ghost use Rattle.std.specs.List.{list_all};
 ghost use Rattle.std.specs.Char.{is_ascii_digit};
-ghost use Rattle.value.specs.Datum.{datums_of};
+ghost use Rattle.value.specs.Datum.{lents_of};
 ghost use Rattle.value.specs.Texts.{is_positive, is_spelled, bigint_at, boolean_at, value_in, ReadAgain, OneSpelling};
 
 use crate::digits::few_spelled;
-use crate::types::{ColType, FaultKind, Val};
-use memory::Heap;
-use std::borrow::CowStr;
+use crate::types::{ColType, FaultKind, Lent};
 use std::str;
 
 fn are_digits(text: &[u8]) -> bool
@@ -83,33 +81,33 @@ pub fn read_bigint(text: &[u8]) -> Result<i64, FaultKind>
     }
 }
 
-fn read_boolean<'t, A: Heap>(text: &[u8]) -> Result<Val<'t, A>, FaultKind>
-    ensures { datums_of result ≡ boolean_at text.now }
+fn read_boolean<'t>(text: &[u8]) -> Result<Lent<'t>, FaultKind>
+    ensures { lents_of result ≡ boolean_at text.now }
 {
     match text {
-        [b't'] => Ok(Val::Bool(true)),
-        [b'f'] => Ok(Val::Bool(false)),
+        [b't'] => Ok(Lent::Bool(true)),
+        [b'f'] => Ok(Lent::Bool(false)),
         _ => Err(FaultKind::BadText),
     }
 }
 
-fn read_text<'t, A: Heap>(text: &'t [u8]) -> Result<Val<'t, A>, FaultKind>
-    ensures { datums_of result ≡ value_in ColType.Text text.now }
+fn read_text<'t>(text: &'t [u8]) -> Result<Lent<'t>, FaultKind>
+    ensures { lents_of result ≡ value_in ColType.Text text.now }
 {
     match str::from_utf8(text) {
-        Ok(text) => Ok(Val::Text(CowStr::Borrowed(text))),
+        Ok(text) => Ok(Lent::Text(text)),
         Err(_) => Err(FaultKind::BadText),
     }
 }
 
 /// The value of a type that bytes spell: a bigint, `t` or `f`, or the text itself, which is lent. Bytes that are no UTF-8
 /// spell none.
-pub fn read_value<'t, A: Heap>(kind: ColType, text: &'t [u8]) -> Result<Val<'t, A>, FaultKind>
-    ensures { datums_of result ≡ value_in kind text.now }
+pub fn read_value<'t>(kind: ColType, text: &'t [u8]) -> Result<Lent<'t>, FaultKind>
+    ensures { lents_of result ≡ value_in kind text.now }
 {
     match kind {
         ColType::Bigint => match read_bigint(text) {
-            Ok(n) => Ok(Val::Int(n)),
+            Ok(n) => Ok(Lent::Int(n)),
             Err(kind) => Err(kind),
         },
         ColType::Text => read_text(text),

@@ -1,5 +1,4 @@
 use Rattle.std.proofs.Common.{◌≡◌, drop, length, map}
-use Rattle.csv.specs.Records.{fields_of}
 use Rattle.tables.specs.Loading.{cells_of}
 use Rattle.value.specs.Columns.{column_of}
 use Rattle.tables.proofs.Records.{after}
@@ -9,5 +8,5 @@ abbrev pub invariant-loop-i : goal.invariant-loop-i
 invariant-loop-i g l = record {
   types : l.rows.types ≡ l.fn.rows.types;
   rows : l.rows.rows ≡ l.fn.rows.rows;
-  read : (length l.rows.unfinished ≡ l.i) × (cells_of (map column_of l.columns) l.row 0 (fields_of l.cells) ≡ after l.rows.unfinished (cells_of (drop l.i (map column_of l.columns)) l.row l.i (drop l.i (fields_of l.cells))));
+  read : (length l.rows.unfinished ≡ l.i) × (cells_of (map column_of l.columns) l.row 0 l.cells ≡ after l.rows.unfinished (cells_of (drop l.i (map column_of l.columns)) l.row l.i (drop l.i l.cells)));
 }

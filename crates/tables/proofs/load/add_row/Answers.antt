@@ -1,7 +1,6 @@
 use Rattle.std.proofs.Common.{◌++◌, ◌∷◌, [], List, arith, length, map, sym, ap, ◌∙◌}
 use Rattle.std.proofs.lemmas.List.{length-map}
 use Rattle.std.proofs.lemmas.Result.{IfOk-from_err}
-use Rattle.csv.specs.Records.{fields_of}
 use Rattle.value.specs.Columns.{column_of}
 use Rattle.value.specs.Datum.{Row}
 use Rattle.tables.specs.Loading.{cells_of}
@@ -12,7 +11,7 @@ pub returns-in_err-add_cells-clause-row : goal.returns-in_err-add_cells-clause-r
 returns-in_err-add_cells-clause-row g c = IfOk-from_err c.from_residual.result _ c.from_residual.ensures.0
 
 pub returns-in_err-add_cells-clause-refused : goal.returns-in_err-add_cells-clause-refused
-returns-in_err-add_cells-clause-refused g c = exit_fails c.from_residual.result c.in_err-add_cells.field-0.0 (cells_of (map column_of c.args.columns.now) c.args.row 0 (fields_of c.args.cells.now)) c.from_residual.ensures.1 c.in_err-add_cells.ensures.cells
+returns-in_err-add_cells-clause-refused g c = exit_fails c.from_residual.result c.in_err-add_cells.field-0.0 (cells_of (map column_of c.args.columns.now) c.args.row 0 c.args.cells.now) c.from_residual.ensures.1 c.in_err-add_cells.ensures.cells
 
 pub returns-in_err-add_cells-clause-no_reader : goal.returns-in_err-add_cells-clause-no_reader
 returns-in_err-add_cells-clause-no_reader g c = exit_no_reader c.from_residual.result c.in_err-add_cells.field-0.0 c.from_residual.ensures.1 c.in_err-add_cells.ensures.no_reader

@@ -2,7 +2,6 @@ use Rattle.std.proofs.Common.{ℕ, ◌≡◌, true, false, List, [], ◌∷◌, 
 use Rattle.std.proofs.lemmas.Result.{err_from_is_err_and}
 use Rattle.std.specs.Option.{unwrap_or}
 use Rattle.std.specs.Prelude.{MatchOption}
-use Rattle.csv.specs.Records.{fields_of}
 use Rattle.csv_records.specs.Left.{Left, NextIsUneven, TakesFirst}
 use Rattle.csv_records.specs.declared.RecordError.{RecordError}
 use Rattle.memory.specs.declared.failure.Failure.{Failure}
@@ -63,7 +62,7 @@ returns-in_err-next_record-clause-header g c =
 
 pub returns-then-has_names-clause-expected : goal.returns-then-has_names-clause-expected
 returns-then-has_names-clause-expected g c =
-    let gives = rw c.if-branch.true at c.in_ok-next_record.ensures.gives in
+    let gives = rw (c.if-branch.true, ← c.record.ensures) at c.in_ok-next_record.ensures.gives in
     (gives.1 refl).1 ∙ ap Some (c.has_names.ensures.len c.if-has_names.true)
 
 pub returns-then-has_names-clause-given : goal.returns-then-has_names-clause-given
@@ -77,5 +76,5 @@ returns-then-has_names-clause-failed g c = rw (c.in_ok-next_record.ensures.goes_
 
 pub returns-then-has_names-clause-header : goal.returns-then-has_names-clause-header
 returns-then-has_names-clause-header g c =
-    let gives = rw c.if-branch.true at c.in_ok-next_record.ensures.gives in
-    (fields_of c.next_record.new.cells, sym c.has_names.ensures.names ∙ c.if-has_names.true, gives.0)
+    let gives = rw (c.if-branch.true, ← c.record.ensures) at c.in_ok-next_record.ensures.gives in
+    (c.record.result, sym c.has_names.ensures.names ∙ c.if-has_names.true, gives.0)

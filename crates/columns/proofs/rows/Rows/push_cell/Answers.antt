@@ -3,7 +3,7 @@ use Rattle.std.proofs.lemmas.List.{length-map, map-set}
 use Rattle.std.proofs.Math.Seq.{map-set_same}
 use Rattle.memory.proofs.Cases.{at_err}
 use Rattle.value.specs.Columns.{fits_type}
-use Rattle.value.specs.Datum.{Datum, datum_of}
+use Rattle.value.specs.Datum.{Datum, null_or}
 use Rattle.value.specs.declared.types.ColType.{ColType}
 use Rattle.value.specs.declared.types.ColType.TheVariants.{Bigint}
 use Rattle.columns.specs.Data.{cells_of, type_of}
@@ -50,7 +50,7 @@ push-requires-clause-fits g c =
     let count : length c.args.self.now.unfinished ≡ s = sym (ap (λ (t : TypedRows). length t.unfinished) c.self.view_is) ∙ length-unfinished n s cols c.self.invariant.within in
     let its_type : type_of c.index_mut.result.now ≡ get_or c.args.self.now.types (length c.args.self.now.unfinished) Bigint =
     item_is type_of xs s c.index_mut.result.now Bigint within c.index_mut.ensures.value ∙ (λ i. get_or (ap (λ (t : TypedRows). t.types) c.self.view_is i) (sym count i) Bigint) in
-    ap (λ (t : ColType). fits_type t (datum_of c.args.value.now)) its_type ∙ c.requires.fits
+    ap (λ (t : ColType). fits_type t (null_or c.args.value)) its_type ∙ c.requires.fits
 
 pub invariant_of-self : goal.invariant_of-self
 invariant_of-self g c =
@@ -83,8 +83,8 @@ invariant_of-self-2 g c =
     let s = c.self.inside.started in
     let within : s < length xs = omega (arith, c.requires.within, ap (λ (t : TypedRows). length t.types) c.self.view_is, ap (λ (t : TypedRows). length t.unfinished) c.self.view_is, length-map xs type_of, length-unfinished n s cols c.self.invariant.within) in
     let was = item_is cells_of xs s c.index_mut.result.now [] within c.index_mut.ensures.value in
-    one_held n s cols (map cells_of (set xs s c.push.new.self)) (datum_of c.args.value.now) c.self.invariant (omega (arith, length-map xs cells_of))
-    (map-set cells_of xs s c.push.new.self ∙ ap (λ l. set cols s l) (c.in_ok-push.ensures.ok ∙ ap (λ (l : List Datum). l ++ datum_of c.args.value.now ∷ []) was))
+    one_held n s cols (map cells_of (set xs s c.push.new.self)) (null_or c.args.value) c.self.invariant (omega (arith, length-map xs cells_of))
+    (map-set cells_of xs s c.push.new.self ∙ ap (λ l. set cols s l) (c.in_ok-push.ensures.ok ∙ ap (λ (l : List Datum). l ++ null_or c.args.value ∷ []) was))
 
 pub returns-clause-types : goal.returns-clause-types
 returns-clause-types g c =
@@ -98,8 +98,8 @@ returns-clause-rows g c =
     let s = c.self.inside.started in
     let within : s < length xs = omega (arith, c.requires.within, ap (λ (t : TypedRows). length t.types) c.self.view_is, ap (λ (t : TypedRows). length t.unfinished) c.self.view_is, length-map xs type_of, length-unfinished n s cols c.self.invariant.within) in
     let was = item_is cells_of xs s c.index_mut.result.now [] within c.index_mut.ensures.value in
-    rows_kept n s cols (map cells_of (set xs s c.push.new.self)) (datum_of c.args.value.now) c.self.invariant (omega (arith, length-map xs cells_of))
-    (map-set cells_of xs s c.push.new.self ∙ ap (λ l. set cols s l) (c.in_ok-push.ensures.ok ∙ ap (λ (l : List Datum). l ++ datum_of c.args.value.now ∷ []) was))
+    rows_kept n s cols (map cells_of (set xs s c.push.new.self)) (null_or c.args.value) c.self.invariant (omega (arith, length-map xs cells_of))
+    (map-set cells_of xs s c.push.new.self ∙ ap (λ l. set cols s l) (c.in_ok-push.ensures.ok ∙ ap (λ (l : List Datum). l ++ null_or c.args.value ∷ []) was))
     ∙ ap (λ (t : TypedRows). t.rows) c.self.view_is
 
 pub returns-clause-ok : goal.returns-clause-ok
@@ -110,6 +110,6 @@ returns-clause-ok g c =
     let s = c.self.inside.started in
     let within : s < length xs = omega (arith, c.requires.within, ap (λ (t : TypedRows). length t.types) c.self.view_is, ap (λ (t : TypedRows). length t.unfinished) c.self.view_is, length-map xs type_of, length-unfinished n s cols c.self.invariant.within) in
     let was = item_is cells_of xs s c.index_mut.result.now [] within c.index_mut.ensures.value in
-    one_more n s cols (map cells_of (set xs s c.push.new.self)) (datum_of c.args.value.now) c.self.invariant (omega (arith, length-map xs cells_of))
-    (map-set cells_of xs s c.push.new.self ∙ ap (λ l. set cols s l) (c.in_ok-push.ensures.ok ∙ ap (λ (l : List Datum). l ++ datum_of c.args.value.now ∷ []) was))
-    ∙ ap (λ (t : TypedRows). t.unfinished ++ datum_of c.args.value.now ∷ []) c.self.view_is
+    one_more n s cols (map cells_of (set xs s c.push.new.self)) (null_or c.args.value) c.self.invariant (omega (arith, length-map xs cells_of))
+    (map-set cells_of xs s c.push.new.self ∙ ap (λ l. set cols s l) (c.in_ok-push.ensures.ok ∙ ap (λ (l : List Datum). l ++ null_or c.args.value ∷ []) was))
+    ∙ ap (λ (t : TypedRows). t.unfinished ++ null_or c.args.value ∷ []) c.self.view_is
