@@ -5,6 +5,8 @@ ghost use Rattle.std.specs.Io.KnownBytes.{Keeps};
 ghost use Rattle.csv_records.specs.Fields.{EndsWithin, fields_from};
 ghost use Rattle.csv_records.specs.Held.{IsFresh, LineIsHeld, bytes_left};
 ghost use Rattle.csv_records.specs.Left.{IsKept, TakesFirst, records_of};
+ghost use Rattle.csv_records.specs.declared.RecordError.TheVariants.{Failed};
+ghost use Rattle.memory.specs.declared.failure.Failure.TheVariants.{Error, OutOfMemory};
 ghost use Rattle.csv_records.specs.Records.{SameNextKnown, StartsWithRecord};
 
 use crate::RecordError;
@@ -52,7 +54,7 @@ fn pass_last<R: Read>(
     requires fresh { IsFresh started line unread.old }
     requires held { LineIsHeld line unread.old.held }
     ensures left { OnOk result (Keeps (option_map (bytes_left started line) unread.old.left) unread.new.left) }
-    ensures fails { IfErr result (λ e. IsKept e) }
+    ensures fails { IfErr result (λ e. e ≡ Error Failed) }
 {
     if !started {
         return unread.pass_mark();
@@ -73,7 +75,7 @@ fn find_plain<R: Read>(
     ensures held { IfOk result (λ found. LineIsHeld found unread.new.held) }
     ensures ends { IfOk result (λ found. IfSome found (λ count. EndsWithin (length unread.new.held) 0 ends.new.items)) }
     ensures record { IfOk result (λ found. IfSome found (λ count. IfSome unread.new.left (λ xs. StartsWithRecord xs (fields_from unread.new.held 0 ends.new.items) (drop count xs)))) }
-    ensures fails { IfErr result (λ e. IsKept e) }
+    ensures fails { IfErr result (λ e. e ≡ OutOfMemory) }
 {
     let ended = line_ends(unread.held());
     unread.pass(ended);

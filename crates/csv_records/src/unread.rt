@@ -3,7 +3,8 @@
 ghost use Rattle.std.specs.Prelude.{◌≡◌, ◌++◌, ◌<◌, ◌≤◌, ◌⊎◌, [], ◌∷◌, ℕ, List, length, drop, option_map, true, false, IfErr, IfOk, IfSome, OnOk, Some, None};
 ghost use Rattle.std.specs.Io.KnownBytes.{Consumes, IsAtEnd, Keeps};
 ghost use Rattle.csv.specs.Reading.{is_bom, strip_bom};
-ghost use Rattle.csv_records.specs.Left.{IsKept};
+ghost use Rattle.csv_records.specs.declared.RecordError.TheVariants.{Failed};
+ghost use Rattle.memory.specs.declared.failure.Failure.TheVariants.{Error};
 ghost use Rattle.csv_records.specs.Unread.{AllAreHeld, StartsLeft, TakesByte, has_mark};
 
 use crate::RecordError;
@@ -94,7 +95,7 @@ impl<R: Read> Unread<R> {
         ensures passed { OnOk result (self.new.passed ≡ 0) }
         ensures grown { IfOk result (λ more. more ≡ true → length self.old.held < length self.new.held) }
         ensures end { IfOk result (λ more. more ≡ false → (self.new.held ≡ self.old.held) × AllAreHeld self.new) }
-        ensures fails { IfErr result (λ e. IsKept e) }
+        ensures fails { IfErr result (λ e. e ≡ Error Failed) }
     {
         match self.rdr.read(&mut self.buffer[self.filled..]) {
             Ok(count) => {
@@ -111,7 +112,7 @@ impl<R: Read> Unread<R> {
         ensures kept { OnOk result (Keeps self.old.left self.new.left) }
         ensures grown { IfOk result (λ more. more ≡ true → 0 < length self.new.held) }
         ensures end { IfOk result (λ more. more ≡ false → (self.new.held ≡ []) × AllAreHeld self.new) }
-        ensures fails { IfErr result (λ e. IsKept e) }
+        ensures fails { IfErr result (λ e. e ≡ Error Failed) }
     {
         self.at = 0;
         self.filled = 0;
@@ -123,7 +124,7 @@ impl<R: Read> Unread<R> {
         ensures kept { OnOk result (Keeps self.old.left self.new.left) }
         ensures some { IfOk result (λ some. some ≡ true → 0 < length self.new.held) }
         ensures end { IfOk result (λ some. some ≡ false → (self.new.held ≡ []) × AllAreHeld self.new) }
-        ensures fails { IfErr result (λ e. IsKept e) }
+        ensures fails { IfErr result (λ e. e ≡ Error Failed) }
     {
         if self.at < self.filled {
             Ok(true)
@@ -145,7 +146,7 @@ impl<R: Read> Unread<R> {
     /// Takes the next byte, if there is one.
     pub(crate) fn next(&mut self) -> Result<Option<u8>, Failure<RecordError>>
         ensures takes { IfOk result (λ byte. TakesByte self.old.left self.new.left byte) }
-        ensures fails { IfErr result (λ e. IsKept e) }
+        ensures fails { IfErr result (λ e. e ≡ Error Failed) }
     {
         if self.hold_one()? {
             Ok(Some(self.take_held()))
@@ -161,7 +162,7 @@ impl<R: Read> Unread<R> {
         ensures passed { OnOk result (self.new.passed ≡ 0) }
         ensures grown { IfOk result (λ more. more ≡ true → length self.old.held < length self.new.held) }
         ensures enough { IfOk result (λ more. more ≡ false → (3 ≤ length self.new.held) ⊎ AllAreHeld self.new) }
-        ensures fails { IfErr result (λ e. IsKept e) }
+        ensures fails { IfErr result (λ e. e ≡ Error Failed) }
     {
         if self.filled < 3 {
             self.more()
@@ -175,7 +176,7 @@ impl<R: Read> Unread<R> {
         requires passed { self.old.passed ≡ 0 }
         ensures kept { OnOk result (Keeps self.old.left self.new.left) }
         ensures enough { OnOk result ((3 ≤ length self.new.held) ⊎ AllAreHeld self.new) }
-        ensures fails { IfErr result (λ e. IsKept e) }
+        ensures fails { IfErr result (λ e. e ≡ Error Failed) }
     {
         if self.wants_more()? && self.wants_more()? {
             self.wants_more()?;
@@ -187,7 +188,7 @@ impl<R: Read> Unread<R> {
     pub(crate) fn pass_mark(&mut self) -> Result<(), Failure<RecordError>>
         requires passed { self.old.passed ≡ 0 }
         ensures left { OnOk result (Keeps (option_map strip_bom self.old.left) self.new.left) }
-        ensures fails { IfErr result (λ e. IsKept e) }
+        ensures fails { IfErr result (λ e. e ≡ Error Failed) }
     {
         self.hold_three()?;
         if has_mark(self.held()) {
