@@ -1,8 +1,6 @@
 -- Bytes that go to a writer through a buffer.
 use Rattle.std.specs.Prelude.{ℕ, ◌≡◌, List, ◌++◌, Option, Result, Ok, Err}
 use Rattle.std.specs.Io.KnownBytes.{Appends}
-use Rattle.memory.specs.declared.failure.Failure.{Failure}
-use Rattle.memory.specs.declared.failure.Failure.TheVariants.{Error, OutOfMemory}
 use Rattle.output.specs.Taken.{Begins, one_more}
 
 -- no write failed: of what the buffer had and the bytes put after it, the first were taken, and the buffer has the others
@@ -21,9 +19,3 @@ pub record Stops {W : Type 0} (taken : W → Option (List ℕ)) (failures : W �
 abbrev pub Puts : {W T E : Type 0} → (W → Option (List ℕ)) → (W → ℕ) → W → W → List ℕ → List ℕ → List ℕ → Result T E → Type 0
 Puts taken failures old new had has bytes (Ok u) = Goes taken failures old new had has bytes
 Puts taken failures old new had has bytes (Err e) = Stops taken failures old new had bytes
-
--- a text is written; or memory ran out, and nothing was written
-abbrev pub IsWritten : {W T E : Type 0} → (W → Option (List ℕ)) → (W → ℕ) → W → W → List ℕ → Result T (Failure E) → Type 0
-IsWritten taken failures old new text (Ok u) = Appends (taken old) (taken new) text × (failures new ≡ failures old)
-IsWritten taken failures old new text (Err (Error e)) = (failures new ≡ one_more (failures old)) × Begins (taken old) (taken new) text
-IsWritten taken failures old new text (Err OutOfMemory) = new ≡ old

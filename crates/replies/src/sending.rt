@@ -1,9 +1,9 @@
 //! The texts of replies: written to a writer, or whole.
 
-ghost use Rattle.std.specs.Prelude.{◌≡◌, [], IfOk};
+ghost use Rattle.std.specs.Prelude.{◌≡◌, [], Err, IfOk, OnOk};
+ghost use Rattle.std.specs.Io.KnownBytes.{Appends};
 ghost use Rattle.output.specs.Sent.{IsSent};
-ghost use Rattle.output.specs.Taken.{GoesOut};
-ghost use Rattle.replies.specs.Buffered.{IsWritten};
+ghost use Rattle.output.specs.Taken.{Begins, GoesOut, one_more};
 ghost use Rattle.replies.specs.Reply.{no_memory, reply_status};
 ghost use Rattle.replies.specs.ReplyText.{reply_text};
 ghost use Rattle.replies.specs.View.{reply_of};
@@ -40,7 +40,9 @@ pub fn write_text<A: Heap, W: Out>(
     reply: &Reply<A>,
     out: &mut W,
 ) -> Result<(), Failure<Failed>>
-    ensures { IsWritten W.taken W.failures out.old out.new (reply_text (reply_of reply.now)) result }
+    ensures whole { OnOk result (Appends (W.taken out.old) (W.taken out.new) (reply_text (reply_of reply.now)) × (W.failures out.new ≡ W.failures out.old)) }
+    ensures memory { result ≡ Err Failure.OutOfMemory → out.new ≡ out.old }
+    ensures failed { (e : _) → result ≡ Err (Failure.Error e) → (W.failures out.new ≡ one_more (W.failures out.old)) × Begins (W.taken out.old) (W.taken out.new) (reply_text (reply_of reply.now)) }
 {
     let mut buffer = Vec::with_capacity(alloc, BUFFER_SIZE)?;
     match write_through(out, &mut buffer, reply) {

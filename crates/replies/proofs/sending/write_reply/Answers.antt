@@ -10,7 +10,7 @@ pub returns-in-Err-OutOfMemory : goal.returns-in-Err-OutOfMemory
 returns-in-Err-OutOfMemory g c =
     let s = c.send.ensures in
     let due = reply_of c.args.reply.now in
-    let same = rw c.in-Err-OutOfMemory.field-0-is at c.in-Err-OutOfMemory.ensures in record {
-      sent = subst (λ w. IsSent (g.W.Out.taken w) (g.W.Out.taken c.send.new.out) (g.W.Out.failures w) (g.W.Out.failures c.send.new.out) c.send.result (reply_status due) (reply_text due) (reply_text no_memory)) same
+    let same = rw c.in-Err-OutOfMemory.field-0-is at c.in-Err-OutOfMemory.ensures.memory in record {
+      sent = subst (λ w. IsSent (g.W.Out.taken w) (g.W.Out.taken c.send.new.out) (g.W.Out.failures w) (g.W.Out.failures c.send.new.out) c.send.result (reply_status due) (reply_text due) (reply_text no_memory)) (same refl)
           (line_sent s.whole s.failed s.fine s.beginning c.as_slice.ensures refl);
     }
