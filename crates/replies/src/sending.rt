@@ -19,6 +19,9 @@ use std::alloc::AllocError;
 // The number of bytes that are written at once.
 const BUFFER_SIZE: usize = 65_536;
 
+// The number of bytes that are added to a whole text at once.
+const PART_SIZE: usize = 4096;
+
 // Writes the text of a reply through an empty buffer.
 fn write_through<A: Heap, W: Out>(
     out: &mut W,
@@ -69,12 +72,11 @@ pub fn write_reply<A: Heap, W: Out>(alloc: A, reply: &Reply<A>, out: &mut W) -> 
 pub fn reply_text<A: Heap>(alloc: A, reply: &Reply<A>) -> Result<Vec<u8, A>, AllocError>
     ensures { IfOk result (λ text. text.items ≡ reply_text (reply_of reply.now)) }
 {
+    let mut buffer = Vec::with_capacity(alloc, PART_SIZE)?;
     let mut text = Output {
         inner: Vec::new(alloc),
         failed: 0,
     };
-    // It has no room, so that no byte is kept twice.
-    let mut buffer = Vec::new(alloc);
     match write_through(&mut text, &mut buffer, reply) {
         Ok(()) => Ok(text.inner),
         Err(_) => Err(AllocError),
