@@ -21,24 +21,24 @@ struct Many {
     quote: &'static str,
 }
 
-// Short texts; texts that are longer than what is written at once; quotes and commas in many short texts, and in a long one.
+// Short texts; one that is longer than what is written at once; quotes and commas in many short texts, and in a long one; an empty text.
 static ROWS: [Many; 5] = [
     Many {
-        rows: 9000,
+        rows: 4000,
         part: "of the deals",
         times: 1,
         written: "of the deals",
         quote: "",
     },
     Many {
-        rows: 2,
+        rows: 1,
         part: "0123456789",
         times: 7000,
         written: "0123456789",
         quote: "",
     },
     Many {
-        rows: 3000,
+        rows: 1500,
         part: "say \"yes\", or \"\"",
         times: 1,
         written: "say \"\"yes\"\", or \"\"\"\"",
@@ -47,7 +47,7 @@ static ROWS: [Many; 5] = [
     Many {
         rows: 1,
         part: "\"",
-        times: 40_000,
+        times: 20_000,
         written: "\"\"",
         quote: "\"",
     },
@@ -201,14 +201,13 @@ fn failed_writers_have_the_beginning_of_long_replies(rt: HostRuntime) -> Result<
     let want = whole(rt.alloc())?;
     let size = want.as_bytes().len();
     let near_end = [size.wrapping_sub(1), size, size.wrapping_add(1)];
-    for room in [0, 1, 65_535, 65_536, 65_537, 131_072, 250_000, 300_000] {
+    for room in [0, 1, 65_535, 65_536, 65_537, 131_072, 150_000] {
         holds_beginning(&rt, rt.alloc(), &reply, want.as_bytes(), room, usize::MAX);
-        holds_beginning(&rt, rt.alloc(), &reply, want.as_bytes(), room, 1000);
     }
     for room in near_end {
-        holds_beginning(&rt, rt.alloc(), &reply, want.as_bytes(), room, usize::MAX);
-        holds_beginning(&rt, rt.alloc(), &reply, want.as_bytes(), room, 1);
+        holds_beginning(&rt, rt.alloc(), &reply, want.as_bytes(), room, 1000);
     }
+    holds_beginning(&rt, rt.alloc(), &reply, want.as_bytes(), 70_000, 1);
     Ok(())
 }
 
