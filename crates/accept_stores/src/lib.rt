@@ -1,6 +1,6 @@
 //! Tests of stores that go through the whole program: opened from a schema text and files, loaded, asked with memory that is
-//! refused, and what is said of refused texts; plans over what is known of the rows that roles see; calls that take no memory, and
-//! queries over products that take little; and rows in aligned columns. docs/ACCEPTANCE.md lists them.
+//! refused, and what is said of refused texts; plans over what is known of the rows that roles see; calls that take no memory,
+//! and queries over products that take little; rows in aligned columns; and long replies. docs/ACCEPTANCE.md lists them.
 #![tactic(auto)]
 
 #[cfg(test)]
@@ -11,6 +11,8 @@ mod explanations;
 mod known_rows;
 #[cfg(test)]
 mod loads;
+#[cfg(test)]
+mod long_replies;
 #[cfg(test)]
 mod memory_refused;
 #[cfg(test)]

@@ -15,22 +15,18 @@ ghost use Rattle.engine.specs.Readable.{ReadsSame};
 
 use crate::asking::ask;
 use memory::Heap;
-use output::{Out, send};
-use replies::{Reply, reply_status, reply_text};
+use output::Out;
+use replies::{Reply, write_reply};
 use store::Store;
 
-/// Writes the text of a reply, and gives its status, as `serve`: 7 where memory runs out for the text, 8 where the writer fails. The
-/// writer is not flushed.
+/// Writes the text of a reply, and gives its status, as `serve`: 7 where memory runs out before the first byte is written, 8 where the
+/// writer fails. The writer is not flushed.
 pub fn write_answer<A: Heap, W: Out>(alloc: A, reply: &Reply<A>, out: &mut W) -> u8
     // The whole text of the reply, and its status; or memory ran out, or the writer failed.
     ensures sent { let due = reply_of reply.now in
         IsSent (W.taken out.old) (W.taken out.new) (W.failures out.old) (W.failures out.new) result (reply_status due) (reply_text due) (reply_text no_memory) }
 {
-    let status = reply_status(reply);
-    match reply_text(alloc, reply) {
-        Ok(bytes) => send(out, &bytes, status),
-        Err(_) => send(out, b"refused 53200\n".as_slice(), 7),
-    }
+    write_reply(alloc, reply, out)
 }
 
 /// Writes the reply to a role's text, and gives its status: 0 rows, 3 a refused text, 4 a denial, 5 a fault, 6 an unknown

@@ -1,3 +1,4 @@
+pub mod Buffered
 pub mod Reply
 pub mod ReplyText
 pub mod View

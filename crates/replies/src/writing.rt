@@ -1,16 +1,18 @@
-//! The texts of replies.
+//! The texts of replies, put into a buffer.
 
-ghost use Rattle.std.specs.Prelude.{◌≡◌, ◌++◌, ◌∷◌, IfOk, OnOk, map, flat_map};
+ghost use Rattle.std.specs.Prelude.{◌≡◌, ◌<◌, ◌≤◌, ◌++◌, ◌∷◌, None, IfSome, map, flat_map, length, take, drop};
 ghost use Rattle.std.specs.List.{list_any};
 ghost use Rattle.value.specs.Datum.{datum, row_of, text as text_datum};
+ghost use Rattle.replies.specs.Buffered.{Puts};
 ghost use Rattle.replies.specs.Reply.{Refused as refused, Denied as denied, Faulted as faulted, Rows as answered};
-ghost use Rattle.replies.specs.ReplyText.{is_special, needs_quotes, quoted_text, field_text, line_text, offset_text, column_text, reply_text};
+ghost use Rattle.replies.specs.ReplyText.{is_special, needs_quotes, doubled, quoted_text, field_text, line_text, reply_text};
 ghost use Rattle.replies.specs.View.{reply_of};
 
+use crate::buffered::{put, put_all};
 use crate::reply::Reply;
 use itoa::Buffer;
-use memory::{Heap, Items, Text, push_number, push_str};
-use std::alloc::AllocError;
+use memory::{Heap, Items, Text};
+use output::{Failed, Out};
 use value::{Fault, Refusal, Value};
 
 fn special(b: u8) -> bool
@@ -31,178 +33,231 @@ fn wants_quotes(bytes: &[u8]) -> bool
     bytes.is_empty() || any_special(bytes)
 }
 
-fn push_quoted<A: Heap>(out: &mut Vec<u8, A>, bytes: &[u8]) -> Result<(), AllocError>
-    ensures { OnOk result (out.new.items ≡ out.old.items ++ quoted_text bytes.now) }
+// The number of bytes up to the first quote, and with it.
+fn through_quote(bytes: &[u8]) -> Option<usize>
+    ensures none { result ≡ None → flat_map doubled bytes.now ≡ bytes.now }
+    ensures some { IfSome result (λ n. (0 < n) × (n ≤ length bytes.now) × (flat_map doubled bytes.now ≡ take n bytes.now ++ 34 ∷ flat_map doubled (drop n bytes.now))) }
+{
+    for (i, b) in bytes.iter().enumerate() {
+        if *b == b'"' {
+            return Some(i + 1);
+        }
+    }
+    None
+}
+
+// Each quote is written twice.
+fn put_doubled<A: Heap, W: Out>(
+    out: &mut W,
+    buffer: &mut Vec<u8, A>,
+    bytes: &[u8],
+) -> Result<(), Failed>
+    ensures { Puts W.taken W.failures out.old out.new buffer.old.items buffer.new.items (flat_map doubled bytes.now) result }
+{
+    let mut rest = bytes;
+    while let Some(n) = through_quote(rest) {
+        put(out, buffer, &rest[..n])?;
+        put(out, buffer, b"\"")?;
+        rest = &rest[n..];
+    }
+    put(out, buffer, rest)?;
+    Ok(())
+}
+
+fn put_quoted<A: Heap, W: Out>(
+    out: &mut W,
+    buffer: &mut Vec<u8, A>,
+    bytes: &[u8],
+) -> Result<(), Failed>
+    ensures { Puts W.taken W.failures out.old out.new buffer.old.items buffer.new.items (quoted_text bytes.now) result }
 {
     if !wants_quotes(bytes) {
-        out.extend_from_slice(bytes)?;
-        return Ok(());
+        return put(out, buffer, bytes);
     }
-    out.push(b'"')?;
-    for b in bytes {
-        if *b == b'"' {
-            out.push(b'"')?;
-        }
-        out.push(*b)?;
-    }
-    out.push(b'"')?;
+    put(out, buffer, b"\"")?;
+    put_doubled(out, buffer, bytes)?;
+    put(out, buffer, b"\"")?;
     Ok(())
 }
 
-fn push_field<A: Heap>(out: &mut Vec<u8, A>, value: &Value<A>) -> Result<(), AllocError>
-    ensures { OnOk result (out.new.items ≡ out.old.items ++ field_text (datum value.now)) }
+fn put_field<A: Heap, W: Out>(
+    out: &mut W,
+    buffer: &mut Vec<u8, A>,
+    value: &Value<A>,
+) -> Result<(), Failed>
+    ensures { Puts W.taken W.failures out.old out.new buffer.old.items buffer.new.items (field_text (datum value.now)) result }
 {
     match value {
-        Value::Null => out.extend_from_slice(b"\\N"),
+        Value::Null => put(out, buffer, b"\\N"),
         Value::Int(n) => {
-            let mut buffer = Buffer::new();
-            out.extend_from_slice(buffer.format(*n).as_bytes())
+            let mut digits = Buffer::new();
+            put(out, buffer, digits.format(*n).as_bytes())
         }
-        Value::Text(text) => push_quoted(out, text.as_str().as_bytes()),
-        Value::Bool(true) => out.extend_from_slice(b"t"),
-        Value::Bool(false) => out.extend_from_slice(b"f"),
+        Value::Text(text) => put_quoted(out, buffer, text.as_str().as_bytes()),
+        Value::Bool(true) => put(out, buffer, b"t"),
+        Value::Bool(false) => put(out, buffer, b"f"),
     }
 }
 
-fn push_further_fields<A: Heap>(out: &mut Vec<u8, A>, row: &[Value<A>]) -> Result<(), AllocError>
-    ensures { OnOk result (out.new.items ≡ out.old.items ++ flat_map (λ e. 44 ∷ field_text e) (row_of row.now)) }
+fn put_further_fields<A: Heap, W: Out>(
+    out: &mut W,
+    buffer: &mut Vec<u8, A>,
+    row: &[Value<A>],
+) -> Result<(), Failed>
+    ensures { Puts W.taken W.failures out.old out.new buffer.old.items buffer.new.items (flat_map (λ e. 44 ∷ field_text e) (row_of row.now)) result }
 {
     for value in row {
-        out.push(b',')?;
-        push_field(out, value)?;
+        put(out, buffer, b",")?;
+        put_field(out, buffer, value)?;
     }
     Ok(())
 }
 
-fn push_line<A: Heap>(out: &mut Vec<u8, A>, row: &[Value<A>]) -> Result<(), AllocError>
-    ensures { OnOk result (out.new.items ≡ out.old.items ++ line_text (row_of row.now)) }
+fn put_line<A: Heap, W: Out>(
+    out: &mut W,
+    buffer: &mut Vec<u8, A>,
+    row: &[Value<A>],
+) -> Result<(), Failed>
+    ensures { Puts W.taken W.failures out.old out.new buffer.old.items buffer.new.items (line_text (row_of row.now)) result }
 {
-    if let Some((first, others)) = row.split_first() {
-        push_field(out, first)?;
-        push_further_fields(out, others)?;
-    }
-    out.push(b'\n')?;
+    let Some((first, others)) = row.split_first() else {
+        return put(out, buffer, b"\n");
+    };
+    put_field(out, buffer, first)?;
+    put_further_fields(out, buffer, others)?;
+    put(out, buffer, b"\n")?;
     Ok(())
 }
 
-fn push_further_names<A: Heap>(out: &mut Vec<u8, A>, names: &[Text<A>]) -> Result<(), AllocError>
-    ensures { OnOk result (out.new.items ≡ out.old.items ++ flat_map (λ e. 44 ∷ field_text e) (map text_datum names.now)) }
+fn put_further_names<A: Heap, W: Out>(
+    out: &mut W,
+    buffer: &mut Vec<u8, A>,
+    names: &[Text<A>],
+) -> Result<(), Failed>
+    ensures { Puts W.taken W.failures out.old out.new buffer.old.items buffer.new.items (flat_map (λ e. 44 ∷ field_text e) (map text_datum names.now)) result }
 {
     for name in names {
-        out.push(b',')?;
-        push_quoted(out, name.as_str().as_bytes())?;
+        put(out, buffer, b",")?;
+        put_quoted(out, buffer, name.as_str().as_bytes())?;
     }
     Ok(())
 }
 
-fn push_header<A: Heap>(out: &mut Vec<u8, A>, names: &[Text<A>]) -> Result<(), AllocError>
-    ensures { OnOk result (out.new.items ≡ out.old.items ++ line_text (map text_datum names.now)) }
+fn put_header<A: Heap, W: Out>(
+    out: &mut W,
+    buffer: &mut Vec<u8, A>,
+    names: &[Text<A>],
+) -> Result<(), Failed>
+    ensures { Puts W.taken W.failures out.old out.new buffer.old.items buffer.new.items (line_text (map text_datum names.now)) result }
 {
-    if let Some((first, others)) = names.split_first() {
-        push_quoted(out, first.as_str().as_bytes())?;
-        push_further_names(out, others)?;
-    }
-    out.push(b'\n')?;
+    let Some((first, others)) = names.split_first() else {
+        return put(out, buffer, b"\n");
+    };
+    put_quoted(out, buffer, first.as_str().as_bytes())?;
+    put_further_names(out, buffer, others)?;
+    put(out, buffer, b"\n")?;
     Ok(())
 }
 
-fn push_rows<A: Heap>(out: &mut Vec<u8, A>, rows: &[Items<Value<A>, A>]) -> Result<(), AllocError>
-    ensures { OnOk result (out.new.items ≡ out.old.items ++ flat_map line_text (map (λ r. row_of r) rows.now)) }
+fn put_rows<A: Heap, W: Out>(
+    out: &mut W,
+    buffer: &mut Vec<u8, A>,
+    rows: &[Items<Value<A>, A>],
+) -> Result<(), Failed>
+    ensures { Puts W.taken W.failures out.old out.new buffer.old.items buffer.new.items (flat_map line_text (map (λ r. row_of r) rows.now)) result }
 {
     for row in rows {
-        push_line(out, row.as_slice())?;
+        put_line(out, buffer, row.as_slice())?;
     }
     Ok(())
 }
 
-fn push_offset<A: Heap>(out: &mut Vec<u8, A>, offset: Option<u32>) -> Result<(), AllocError>
-    ensures { OnOk result (out.new.items ≡ out.old.items ++ offset_text offset) }
-{
-    if let Some(offset) = offset {
-        push_str(out, " at ")?;
-        push_number(out, offset as u64)?;
-    }
-    Ok(())
-}
-
-fn push_refusal<A: Heap>(
-    out: &mut Vec<u8, A>,
+fn put_refusal<A: Heap, W: Out>(
+    out: &mut W,
+    buffer: &mut Vec<u8, A>,
     code: Refusal,
     offset: Option<u32>,
-) -> Result<(), AllocError>
-    ensures { OnOk result (out.new.items ≡ out.old.items ++ reply_text (refused code offset)) }
+) -> Result<(), Failed>
+    ensures { Puts W.taken W.failures out.old out.new buffer.old.items buffer.new.items (reply_text (refused code offset)) result }
 {
-    push_str(out, "refused ")?;
-    push_str(out, code.code())?;
-    push_offset(out, offset)?;
-    push_str(out, "\n")?;
-    Ok(())
-}
-
-fn push_column<A: Heap>(out: &mut Vec<u8, A>, column: &Option<Text<A>>) -> Result<(), AllocError>
-    ensures { OnOk result (out.new.items ≡ out.old.items ++ column_text column.now) }
-{
-    if let Some(column) = column {
-        push_str(out, "column ")?;
-        push_str(out, column.as_str())?;
-        push_str(out, " of ")?;
+    match offset {
+        None => put_all(out, buffer, &["refused ", code.code(), "\n"]),
+        Some(offset) => {
+            let mut digits = Buffer::new();
+            let offset = digits.format(offset);
+            put_all(
+                out,
+                buffer,
+                &["refused ", code.code(), " at ", offset, "\n"],
+            )
+        }
     }
-    Ok(())
 }
 
-fn push_denial<A: Heap>(
-    out: &mut Vec<u8, A>,
+fn put_denial<A: Heap, W: Out>(
+    out: &mut W,
+    buffer: &mut Vec<u8, A>,
     column: &Option<Text<A>>,
     table: &str,
-) -> Result<(), AllocError>
-    ensures { OnOk result (out.new.items ≡ out.old.items ++ reply_text (denied column.now table.now)) }
+) -> Result<(), Failed>
+    ensures { Puts W.taken W.failures out.old out.new buffer.old.items buffer.new.items (reply_text (denied column.now table.now)) result }
 {
-    push_str(out, "denied 42501 ")?;
-    push_column(out, column)?;
-    push_str(out, "table ")?;
-    push_str(out, table)?;
-    push_str(out, "\n")?;
-    Ok(())
-}
-
-fn push_fault<A: Heap>(out: &mut Vec<u8, A>, fault: Fault) -> Result<(), AllocError>
-    ensures { OnOk result (out.new.items ≡ out.old.items ++ reply_text (faulted fault)) }
-{
-    push_str(out, "fault ")?;
-    push_str(out, fault.kind.code())?;
-    push_offset(out, Some(fault.offset))?;
-    push_str(out, "\n")?;
-    Ok(())
-}
-
-fn push_answer<A: Heap>(
-    out: &mut Vec<u8, A>,
-    headings: &[Text<A>],
-    rows: &[Items<Value<A>, A>],
-) -> Result<(), AllocError>
-    ensures { OnOk result (out.new.items ≡ out.old.items ++ reply_text (answered headings.now (map (λ r. row_of r) rows.now))) }
-{
-    push_header(out, headings)?;
-    push_rows(out, rows)?;
-    Ok(())
-}
-
-fn push_reply<A: Heap>(out: &mut Vec<u8, A>, reply: &Reply<A>) -> Result<(), AllocError>
-    ensures { OnOk result (out.new.items ≡ out.old.items ++ reply_text (reply_of reply.now)) }
-{
-    match reply {
-        Reply::Refused { code, offset } => push_refusal(out, *code, *offset),
-        Reply::Denied { column, table } => push_denial(out, column, table.as_str()),
-        Reply::Faulted { fault } => push_fault(out, *fault),
-        Reply::Rows { headings, rows } => push_answer(out, headings.as_slice(), rows.as_slice()),
+    match column {
+        None => put_all(out, buffer, &["denied 42501 table ", table, "\n"]),
+        Some(column) => {
+            let column = column.as_str();
+            put_all(
+                out,
+                buffer,
+                &["denied 42501 column ", column, " of table ", table, "\n"],
+            )
+        }
     }
 }
 
-/// The text of a reply: header and rows as comma-separated fields, or one line, with LF after each line.
-pub fn reply_text<A: Heap>(alloc: A, reply: &Reply<A>) -> Result<Vec<u8, A>, AllocError>
-    ensures { IfOk result (λ text. text.items ≡ reply_text (reply_of reply.now)) }
+fn put_fault<A: Heap, W: Out>(
+    out: &mut W,
+    buffer: &mut Vec<u8, A>,
+    fault: Fault,
+) -> Result<(), Failed>
+    ensures { Puts W.taken W.failures out.old out.new buffer.old.items buffer.new.items (reply_text (faulted fault)) result }
 {
-    let mut out = Vec::new(alloc);
-    push_reply(&mut out, reply)?;
-    Ok(out)
+    let mut digits = Buffer::new();
+    let offset = digits.format(fault.offset);
+    put_all(
+        out,
+        buffer,
+        &["fault ", fault.kind.code(), " at ", offset, "\n"],
+    )
+}
+
+fn put_answer<A: Heap, W: Out>(
+    out: &mut W,
+    buffer: &mut Vec<u8, A>,
+    headings: &[Text<A>],
+    rows: &[Items<Value<A>, A>],
+) -> Result<(), Failed>
+    ensures { Puts W.taken W.failures out.old out.new buffer.old.items buffer.new.items (reply_text (answered headings.now (map (λ r. row_of r) rows.now))) result }
+{
+    put_header(out, buffer, headings)?;
+    put_rows(out, buffer, rows)?;
+    Ok(())
+}
+
+/// Puts the text of a reply.
+pub fn put_reply<A: Heap, W: Out>(
+    out: &mut W,
+    buffer: &mut Vec<u8, A>,
+    reply: &Reply<A>,
+) -> Result<(), Failed>
+    ensures { Puts W.taken W.failures out.old out.new buffer.old.items buffer.new.items (reply_text (reply_of reply.now)) result }
+{
+    match reply {
+        Reply::Refused { code, offset } => put_refusal(out, buffer, *code, *offset),
+        Reply::Denied { column, table } => put_denial(out, buffer, column, table.as_str()),
+        Reply::Faulted { fault } => put_fault(out, buffer, *fault),
+        Reply::Rows { headings, rows } => {
+            put_answer(out, buffer, headings.as_slice(), rows.as_slice())
+        }
+    }
 }

@@ -4,9 +4,9 @@ use crate::failure::ProgramError;
 use crate::files::unreadable;
 use memory::Failure;
 use output::{Output, write_whole};
-use session_scripts::{Core, Event, ScriptLine, read_line, reply_text, without_end};
+use session_scripts::{Core, Event, ScriptLine, read_line, without_end, write_reply};
 use setup::SetupError;
-use std::alloc::Global;
+use std::alloc::{AllocError, Global};
 use std::io::{BufRead, BufReader, Write};
 use std::{fs, io};
 
@@ -49,8 +49,15 @@ fn answer_line(
         return Err(ProgramError::Line(number));
     };
     let event = event_of(rt, alloc, line)?;
-    let text = reply_text(alloc, core.step(event))?;
-    write_text(rt, &text)
+    let mut out = Output {
+        inner: io::writer(rt),
+        failed: 0,
+    };
+    match write_reply(alloc, core.step(event), &mut out) {
+        Ok(()) => out.inner.flush().map_err(|_| ProgramError::Output),
+        Err(Failure::OutOfMemory) => Err(ProgramError::from(AllocError)),
+        Err(Failure::Error(_)) => Err(ProgramError::Output),
+    }
 }
 
 /// Takes the events of a script, in order, and writes the reply to each. A line that is no event, a file that cannot be read and a

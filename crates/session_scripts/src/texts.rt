@@ -60,8 +60,8 @@ pub fn reply_text<A: Heap>(alloc: A, reply: Reply<A>) -> Result<Vec<u8, A>, Allo
     }
 }
 
-/// Writes the text of the reply to an event, once it is whole. A writer that fails has taken a beginning of it, and none is flushed.
-pub fn write_reply<A: Heap, W: Out>(
+// Writes the text of the reply to an event, which is made before.
+fn write_made<A: Heap, W: Out>(
     alloc: A,
     reply: Reply<A>,
     out: &mut W,
@@ -73,5 +73,21 @@ pub fn write_reply<A: Heap, W: Out>(
     match write_whole(out, text.as_slice()) {
         Ok(()) => Ok(()),
         Err(failed) => Err(Failure::Error(failed)),
+    }
+}
+
+/// Writes the text of the reply to an event; nothing of it where memory runs out. A writer that fails has taken a beginning of it, and
+/// none is flushed.
+pub fn write_reply<A: Heap, W: Out>(
+    alloc: A,
+    reply: Reply<A>,
+    out: &mut W,
+) -> Result<(), Failure<Failed>>
+    ensures whole { OnOk result (Appends (W.taken out.old) (W.taken out.new) (event_text (reply_of reply))) }
+    ensures memory { result ≡ Err Failure.OutOfMemory → W.taken out.new ≡ W.taken out.old }
+{
+    match reply {
+        Reply::Engine { reply } => replies::write_text(alloc, &reply, out),
+        reply => write_made(alloc, reply, out),
     }
 }

@@ -1,7 +1,0 @@
-use Rattle.std.proofs.Common.{◌≡◌, ◌++◌, ◌∷◌, flat_map, map, drop}
-use Rattle.value.specs.Datum.{text}
-use Rattle.replies.specs.ReplyText.{field_text}
-use Rattle.replies.proofs.writing.push_further_names.Given as goal
-
-abbrev pub invariant-loop-name : goal.invariant-loop-name
-invariant-loop-name g l = l.out.items ++ flat_map (λ e. 44 ∷ field_text e) (map text (drop l.name-index l.names)) ≡ l.fn.out.items ++ flat_map (λ e. 44 ∷ field_text e) (map text l.names)

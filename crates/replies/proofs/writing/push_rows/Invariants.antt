@@ -1,7 +1,0 @@
-use Rattle.std.proofs.Common.{◌≡◌, ◌++◌, flat_map, map, drop}
-use Rattle.value.specs.Datum.{row_of}
-use Rattle.replies.specs.ReplyText.{line_text}
-use Rattle.replies.proofs.writing.push_rows.Given as goal
-
-abbrev pub invariant-loop-row : goal.invariant-loop-row
-invariant-loop-row g l = l.out.items ++ flat_map line_text (map (λ r. row_of r) (drop l.row-index l.rows)) ≡ l.fn.out.items ++ flat_map line_text (map (λ r. row_of r) l.rows)
