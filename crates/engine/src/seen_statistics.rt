@@ -109,7 +109,7 @@ fn guarded_statistics<A: Heap>(
     columns: &[usize],
     seen: &mut Seen<A>,
 ) -> Result<Stats<A>, AllocError>
-    requires known { AreKnown of.now.role.now of.now.name.now (guard_of of.now.guard.now) of.now.rows.now.rows seen.old }
+    requires { AreKnown of.now.role.now of.now.name.now (guard_of of.now.guard.now) of.now.rows.now.rows seen.old }
     ensures value { IfOk result (λ s. stats_of s ≡ seen_stats columns.now (length of.now.rows.now.columns) (filter (shows of.now.role.now (guard_of of.now.guard.now)) of.now.rows.now.rows)) }
     ensures kept { Keeps of.now.role.now of.now.name.now (guard_of of.now.guard.now) of.now.rows.now.rows seen.old seen.new }
 {
