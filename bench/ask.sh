@@ -1,9 +1,10 @@
 #!/usr/bin/env bash
 # Measures how long a query takes whose tables are loaded, and how long its plan: `times ask` makes tables t1, t2, .. in memory, each
-# with an index on its key, and asks so many times. What it takes without asking is subtracted. One table is asked for the row of a
-# key; of more tables the combinations of a chain, each joined with the next by its key, are counted. `times known` asks as many texts,
-# each for the row of a key, as a role that sees one row in 500: rows in one session, or plans over what is known of these rows; the
-# first text is told apart from the later ones. Beside it sqlite3 looks up the same row.
+# with an index on its key, and asks so many texts of one query, no two the same: for their rows in one session, or for their plans,
+# while what was counted of the tables is kept. What it takes without asking is subtracted. One table is asked for the row of a key; of
+# more tables the combinations of a chain, each joined with the next by its key, are counted. `times known` asks as many texts in the
+# same way, each for the row of a key, as a role that sees one row in 500; the first text is told apart from the later ones. Beside it
+# sqlite3 looks up the same row.
 # usage: bench/ask.sh [ROWS [RUNS]], with 1000000 rows of the one table and 5 runs where nothing is said. Times are of the processor,
 # in milliseconds for each time that is asked; of the runs the middle one counts.
 # `rt` must be on the path. The program is proved and built first, if it is not yet.

@@ -1,5 +1,6 @@
 //! Statistics of tables.
 
+use crate::planned::whole_stats;
 use fixtures::{load, store_of};
 use stats::{ColumnStats, Stats};
 use std::alloc::{AllocError, AllocGlobal, Global};
@@ -63,7 +64,7 @@ fn counted(
     table: &Table<Global>,
     want: &str,
 ) -> Result<(), AllocError> {
-    let stats = Stats::of(rt.alloc(), table)?;
+    let stats = whole_stats(rt.alloc(), table)?;
     let got = stats_text(rt.alloc(), &stats)?;
     assert_eq!(rt; got.as_str(), want);
     let absent = stats.column(3);

@@ -13,7 +13,9 @@ use std::alloc::{AllocError, AllocGlobal, Global};
 use std::process::Abort;
 use store::Store;
 use syntax::parse_query;
+use tables::Table;
 use trailcheck::Setting;
+use tuples::Guard;
 
 /// A query, of which some entries have indexes and some have statistics that are not known.
 #[derive(Clone, Copy)]
@@ -84,6 +86,12 @@ pub fn indexed(
     Ok(all)
 }
 
+/// The statistics of all rows of a table, of at most six columns.
+pub fn whole_stats(alloc: Global, table: &Table<Global>) -> Result<Stats<Global>, AllocError> {
+    let columns = [0, 1, 2, 3, 4, 5];
+    Stats::of_seen(alloc, table, &Guard::All, "root", &columns)
+}
+
 // The statistics of a table, unless they are not known.
 fn stats_of(
     rt: &(impl Abort + AllocGlobal),
@@ -95,7 +103,7 @@ fn stats_of(
         return Ok(Stats::unknown());
     }
     match store.contents(table) {
-        Some(contents) => Stats::of(rt.alloc(), contents),
+        Some(contents) => whole_stats(rt.alloc(), contents),
         None => panic!(rt; "{table}: no table"),
     }
 }

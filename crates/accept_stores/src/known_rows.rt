@@ -93,28 +93,51 @@ fn what_is_known_of_many_roles_is_forgotten(rt: HostRuntime) -> Result<(), Fail>
     Ok(())
 }
 
-// The requests for memory of what explains alice's text.
+// The requests for memory of what explains a role's text.
 fn requests_of<'h>(
     heap: &'h Metered<Global>,
     known: &mut Known<'_, &'h Metered<Global>>,
+    role: &str,
     text: &str,
 ) -> u64 {
     let before = heap.requests(0);
-    let (status, said) = known.explained(heap, "alice", text);
+    let (status, said) = known.explained(heap, role, text);
     let requests = heap.requests(0).wrapping_sub(before);
     drop(said);
     if status == 0 { requests } else { 0 }
 }
 
-#[test]
-fn which_rows_a_role_sees_is_found_out_once(rt: HostRuntime) -> Result<(), Fail> {
+// Three texts of a role, of which the second names the same column as the first, and the third another one.
+fn find_out_once(rt: &(impl Abort + AllocGlobal), role: &str) -> Result<(), Fail> {
     let heap = Metered::counting(rt.alloc());
     let store = sales(&heap)?;
     let mut known = Known::new(&heap, &store);
-    let first = requests_of(&heap, &mut known, "SELECT id FROM deal WHERE region = 1");
-    let second = requests_of(&heap, &mut known, "SELECT id FROM deal WHERE region = 2");
-    let other = requests_of(&heap, &mut known, "SELECT id FROM deal WHERE amount = 2");
-    assert!(&rt; second > 0 && second < other, "{second} of {other}");
-    assert!(&rt; other < first, "{other} of {first}");
+    let first = requests_of(
+        &heap,
+        &mut known,
+        role,
+        "SELECT id FROM deal WHERE region = 1",
+    );
+    let second = requests_of(
+        &heap,
+        &mut known,
+        role,
+        "SELECT id FROM deal WHERE region = 2",
+    );
+    let other = requests_of(
+        &heap,
+        &mut known,
+        role,
+        "SELECT id FROM deal WHERE amount = 2",
+    );
+    assert!(rt; second > 0 && second < other, "{role}: {second} of {other}");
+    assert!(rt; other < first, "{role}: {other} of {first}");
     Ok(())
+}
+
+// A role with a policy, and one that sees the table whole.
+#[test]
+fn which_rows_a_role_sees_is_found_out_once(rt: HostRuntime) -> Result<(), Fail> {
+    find_out_once(&rt, "alice")?;
+    find_out_once(&rt, "audit")
 }

@@ -1,6 +1,6 @@
 -- The statistics of the rows that a role sees: what they depend on, and how they are gathered.
 use Rattle.std.proofs.Common.{◌≡◌, ℕ, zero, suc, ◌+◌, ◌<◌, ◌==◌, Bool, true, false, ◌||◌, cond, List, [], ◌∷◌, ◌++◌, length, map, filter, drop, get_or, slice_index_or, Contains, refl, sym, ap, ap₂, subst, ◌∙◌, arith, append_assoc, inl, inr}
-use Rattle.std.specs.Prelude.{IsPermutation, Option, Some, None, option_map}
+use Rattle.std.specs.Prelude.{IsPermutation, Some}
 use Rattle.std.specs.List.{flat_map}
 use Rattle.std.proofs.lemmas.Bool.{eqb-true}
 use Rattle.std.proofs.lemmas.Grind.{flat_map-append}
@@ -22,14 +22,13 @@ use Rattle.row_objects.specs.Objects.{Table}
 use Rattle.scope.specs.Entry.{Entry}
 use Rattle.catalog.specs.Catalog.{Catalog, table_named}
 use Rattle.access.specs.Access.{sees, visible}
-use Rattle.tuples.specs.Guards as guards
 use Rattle.tuples.specs.Guards.{Guard, shows}
 use Rattle.resolve.specs.EntryTables.{AreTables}
 use Rattle.store.specs.Agreement.{Agrees}
 use Rattle.store.specs.Database.{Database, Rows, contents_named, rows_held, rows_of}
 use Rattle.store.specs.Loading.{TableRows}
 use Rattle.store.proofs.Agreement.{each_contents}
-use Rattle.stats.specs.Statistics.{Stats, seen_stats, table_stats}
+use Rattle.stats.specs.Statistics.{Stats, seen_stats}
 use Rattle.stats.proofs.Seen.{seen_alike}
 use Rattle.report.specs.Restricted.{SeesSame, columns_at, named_in}
 use Rattle.report.proofs.NamedColumns.{agree_conjuncts, agree_lefts, agree_some}
@@ -123,19 +122,6 @@ of_contents database name t agrees named contents held =
     let (found, is, columns) = each_contents database name t agrees named in
     let same : found ≡ contents = some_is found contents (sym is ∙ held) in
     (ap (λ (c : TableRows). length c.columns) (sym same) ∙ ap length columns, sym (ap rows_held held))
-
--- and those of which the store has the statistics
-pub of_statistics : (database : Database) (name : Name) (s : Stats) → option_map (λ t. table_stats t) (contents_named database.tables name) ≡ Some s → (contents : TableRows) × (contents_named database.tables name ≡ Some contents) × (s ≡ table_stats contents)
-of_statistics database name s held = go (contents_named database.tables name) refl held
-  where
-    go : (o : Option TableRows) → contents_named database.tables name ≡ o → option_map (λ t. table_stats t) o ≡ Some s → (contents : TableRows) × (contents_named database.tables name ≡ Some contents) × (s ≡ table_stats contents)
-    go None is h = absurd (cc)
-    go (Some contents) is h = (contents, is, sym (some_is (table_stats contents) s h))
-
--- a guard that shows every row
-pub every_row : (role : Name) (guard : Guard) → guard ≡ guards.All → (rows : List Row) → filter (shows role guard) rows ≡ rows
-every_row role guard is [] = refl
-every_row role guard is (row ∷ rows) = ap (λ g. cond (shows role g row) (row ∷ filter (shows role guard) rows) (filter (shows role guard) rows)) is ∙ ap (λ l. row ∷ l) (every_row role guard is rows)
 
 -- ---- the walk that gathers them
 

@@ -1,13 +1,12 @@
 //! The statistics that plans of a role's query are made with.
 
-ghost use Rattle.std.specs.Prelude.{◌≡◌, ◌++◌, Some, IfOk, OnOk, filter, length, map, option_map, true};
+ghost use Rattle.std.specs.Prelude.{◌≡◌, ◌++◌, IfOk, OnOk, filter, length, map, option_map};
 ghost use Rattle.std.specs.List.{flat_map};
 ghost use Rattle.value.specs.Datum as value;
 ghost use Rattle.expr.specs.Columns.{columns};
 ghost use Rattle.expr.specs.NamedColumns.{condition_columns};
 ghost use Rattle.expr.specs.View.{bound_expr_of, bound_query_of};
 ghost use Rattle.row_objects.specs.View.{table_of};
-ghost use Rattle.catalog.specs.Catalog.{is_table};
 ghost use Rattle.access.specs.Access.{sees};
 ghost use Rattle.tuples.specs.Guards.{shows};
 ghost use Rattle.tuples.specs.View.{guard_of};
@@ -17,7 +16,7 @@ ghost use Rattle.report.specs.Restricted.{columns_at};
 ghost use Rattle.resolve.specs.EntryTables.{AreTables};
 ghost use Rattle.resolve.specs.View.{bound_of};
 ghost use Rattle.seen_tables.specs.Known.{AreKnown, Keeps};
-ghost use Rattle.store.specs.Database.{contents_named, rows_of};
+ghost use Rattle.store.specs.Database.{rows_of};
 ghost use Rattle.engine.specs.SeenStatistics as spec;
 ghost use Rattle.engine.specs.SeenTables.{AreSeenIn};
 
@@ -102,25 +101,21 @@ fn columns_at<A: Heap>(
     Ok(columns)
 }
 
-// The statistics of the rows of a table that a guard shows to a role, restricted to some columns. Those of a guard that shows every row
-// are made from the ones of the table; those of a guard with a condition are kept.
+// The statistics of the rows of a table that a guard shows to a role, restricted to some columns. They are kept, unless the guard
+// shows no row.
 fn guarded_statistics<A: Heap>(
     alloc: A,
-    store: &Store<A>,
     of: &RoleTable<'_, A>,
     columns: &[usize],
     seen: &mut Seen<A>,
 ) -> Result<Stats<A>, AllocError>
-    requires table { is_table store.now.catalog of.now.name.now ≡ true }
-    requires contents { contents_named store.now.tables of.now.name.now ≡ Some of.now.rows.now }
-    requires known { AreKnown of.now.role.now of.now.name.now (guard_of of.now.guard.now) of.now.rows.now.rows seen.old }
+    requires { AreKnown of.now.role.now of.now.name.now (guard_of of.now.guard.now) of.now.rows.now.rows seen.old }
     ensures value { IfOk result (λ s. stats_of s ≡ seen_stats columns.now (length of.now.rows.now.columns) (filter (shows of.now.role.now (guard_of of.now.guard.now)) of.now.rows.now.rows)) }
     ensures kept { Keeps of.now.role.now of.now.name.now (guard_of of.now.guard.now) of.now.rows.now.rows seen.old seen.new }
 {
     match of.guard {
-        Guard::All => store.statistics(of.name).restricted(alloc, columns),
         Guard::None => Stats::of_seen(alloc, of.rows, of.guard, of.role, columns),
-        Guard::Expr(_) => seen.statistics(of, columns),
+        Guard::All | Guard::Expr(_) => seen.statistics(of, columns),
     }
 }
 
@@ -157,7 +152,7 @@ pub(crate) fn seen_statistics<A: Heap>(
             rows,
             guard,
         };
-        let one = guarded_statistics(alloc, store, &of, kept, seen)?;
+        let one = guarded_statistics(alloc, &of, kept, seen)?;
         all.push(one)?;
     }
     Ok(all)

@@ -1,6 +1,6 @@
 //! What is known of one table for one role.
 
-ghost use Rattle.std.specs.Prelude.{◌≡◌, IfOk, Some, length};
+ghost use Rattle.std.specs.Prelude.{◌≡◌, IfOk, length};
 ghost use Rattle.stats.specs.Marked.{AreStatsOf, marked};
 ghost use Rattle.stats.specs.Statistics.{seen_stats};
 ghost use Rattle.stats.specs.View.{stats_of};
@@ -80,7 +80,7 @@ impl<A: Heap> SeenTable<A> {
         columns: &[usize],
     ) -> Result<Stats<A>, AllocError>
         requires { AreStatsOf rows.now.rows self.old.statistics }
-        ensures value { IfOk result (λ s. stats_of s ≡ seen_stats columns.now (length rows.now.columns) (marked (Some self.old.statistics.marks) rows.now.rows)) }
+        ensures value { IfOk result (λ s. stats_of s ≡ seen_stats columns.now (length rows.now.columns) (marked self.old.statistics.marks rows.now.rows)) }
         ensures role { self.new.role ≡ self.old.role }
         ensures table { self.new.table ≡ self.old.table }
         ensures marks { self.new.statistics.marks ≡ self.old.statistics.marks }

@@ -1,5 +1,5 @@
 -- The statistics of the rows that a role sees.
-use Rattle.std.proofs.Common.{◌≡◌, ℕ, zero, suc, ◌+◌, Bool, true, false, cond, List, [], ◌∷◌, length, map, refl, sym, ap, ap₂, ◌∙◌, IsPermutation}
+use Rattle.std.proofs.Common.{◌≡◌, ℕ, Bool, true, false, cond, List, [], ◌∷◌, length, map, refl, sym, ap, ap₂, ◌∙◌, IsPermutation}
 use Rattle.std.specs.List.{range_with_len}
 use Rattle.std.specs.Ordering.{int_cmp}
 use Rattle.std.proofs.lemmas.Cmp.{back_total, int_cmp_total}
@@ -14,11 +14,9 @@ use Rattle.value.specs.Orders.{datum_cmp}
 use Rattle.value.specs.Restricted.{IsWithin, is_one_of, restricted}
 use Rattle.value.proofs.DatumOrder.{datum_cmp_exact, datum_cmp_total}
 use Rattle.value.proofs.Restricted.{again, cell_of_restricted}
-use Rattle.tables.specs.Loading.{TableRows}
 use Rattle.stats.specs.declared.statistics.ColumnStats.{ColumnStats}
-use Rattle.stats.specs.Marked.{kept_stats}
 use Rattle.stats.specs.Repeats.{without_repeats}
-use Rattle.stats.specs.Statistics.{Known, between, bounds_of, is_value, no_values, number_of, numbers, rows_stats, seen_stats, stats_of_values, table_stats, values_in}
+use Rattle.stats.specs.Statistics.{Known, between, bounds_of, is_value, no_values, number_of, numbers, rows_stats, seen_stats, stats_of_values, values_in}
 use Rattle.stats.proofs.Distinct.{count_sorted}
 
 -- ---- a bag has one statistics
@@ -76,16 +74,3 @@ counted columns rows c = cond (is_one_of columns c) (stats_of_values (values_in 
 
 pub counted_alone : (columns : List ℕ) (count : ℕ) (seen : List Row) → seen_stats columns count seen ≡ Known (length seen) (map (counted columns seen) (range_with_len 0 count))
 counted_alone columns count seen = ap₂ Known (length-map seen (restricted columns)) (λ i. map (λ c. column_kept columns seen c i) (range_with_len 0 count))
-
--- ---- restricted when they are counted
-
-kept_range : (columns : List ℕ) (f : ℕ → ColumnStats) (i n : ℕ) → kept_stats i columns (map f (range_with_len i n)) ≡ map (λ c. cond (is_one_of columns c) (f c) no_values) (range_with_len i n)
-kept_range columns f i zero = refl
-kept_range columns f i (suc n) = ap (λ l. cond (is_one_of columns i) (f i) no_values ∷ l) (kept_range columns f (i + 1) n)
-
-pub restricted_after : (columns : List ℕ) (t : TableRows) (rows : ℕ) (all kept : List ColumnStats) → Known rows all ≡ table_stats t → kept ≡ kept_stats 0 columns all → Known rows kept ≡ seen_stats columns (length t.columns) t.rows
-restricted_after columns t rows all kept is made =
-    let many : rows ≡ length t.rows = cc in
-    let every : all ≡ map (λ c. stats_of_values (values_in t.rows c)) (range_with_len 0 (length t.columns)) = cc in
-    ap₂ Known many (made ∙ ap (kept_stats 0 columns) every ∙ kept_range columns (λ c. stats_of_values (values_in t.rows c)) 0 (length t.columns))
-    ∙ sym (counted_alone columns (length t.columns) t.rows)

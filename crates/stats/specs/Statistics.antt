@@ -7,7 +7,6 @@ use Rattle.bags.specs.Least.{least}
 use Rattle.value.specs.Datum.{Datum, null, int, text, bool, Row, cell}
 use Rattle.value.specs.Orders.{datum_cmp}
 use Rattle.value.specs.Restricted.{restricted}
-use Rattle.tables.specs.Loading.{TableRows}
 use Rattle.stats.specs.declared.statistics.Bounds.{Bounds}
 use Rattle.stats.specs.declared.statistics.ColumnStats.{ColumnStats}
 use Rattle.stats.specs.Repeats.{without_repeats}
@@ -58,10 +57,6 @@ stats_of_values values = record { distinct = length (without_repeats datum_cmp v
 -- of rows with so many columns: how many rows, and of each column its values
 abbrev pub rows_stats : (count : ℕ) → List Row → Stats
 rows_stats count rows = Known (length rows) (map (λ column. stats_of_values (values_in rows column)) (range_with_len 0 count))
-
--- of a table
-abbrev pub table_stats : TableRows → Stats
-table_stats t = rows_stats (length t.columns) t.rows
 
 -- of the rows that are seen, restricted to some columns: the others have no values
 abbrev pub seen_stats : (columns : List ℕ) → (count : ℕ) → (seen : List Row) → Stats

@@ -29,30 +29,19 @@ struct Values<A: Heap> {
     truths: Vec<bool, A>,
 }
 
-// True where a row is marked; without marks every row is.
-fn is_marked<A: Heap>(marks: Option<&Mask<A>>, row: u64) -> bool
-    requires { IfSome marks (λ m. row < length m.now) }
-    ensures { result ≡ is_marked (option_map (λ m. m.now) marks.entry) row }
-{
-    match marks {
-        None => true,
-        Some(marks) => marks.get(row as usize),
-    }
-}
-
 // The value of a cell, unless it is null or its row is not marked.
 fn marked_value<'t, A: Heap>(
     table: &'t Table<A>,
-    marks: Option<&Mask<A>>,
+    marks: &Mask<A>,
     row: u64,
     column: u64,
 ) -> Option<Lent<'t>>
     requires row { row < length table.now.rows }
     requires column { column < length table.now.columns }
-    requires marks { IfSome marks (λ m. length m.now ≡ length table.now.rows) }
-    ensures { null_or result ≡ (if is_marked (option_map (λ m. m.now) marks.entry) row then cell (row_at table.now.rows row) column else null) }
+    requires marks { length marks.now ≡ length table.now.rows }
+    ensures { null_or result ≡ (if is_marked marks.now row then cell (row_at table.now.rows row) column else null) }
 {
-    if is_marked(marks, row) {
+    if marks.get(row as usize) {
         table.value(row, column)
     } else {
         None
@@ -63,14 +52,14 @@ fn marked_value<'t, A: Heap>(
 fn values_in<A: Heap>(
     alloc: A,
     table: &Table<A>,
-    marks: Option<&Mask<A>>,
+    marks: &Mask<A>,
     column: u64,
 ) -> Result<Values<A>, AllocError>
     requires column { column < length table.now.columns }
-    requires marks { IfSome marks (λ m. length m.now ≡ length table.now.rows) }
-    ensures numbers { IfOk result (λ values. values.numbers.items ≡ spec.numbers (spec.values_in (marked (option_map (λ m. m.now) marks.entry) table.now.rows) column)) }
-    ensures texts { IfOk result (λ values. values.distinct_texts ≡ length (without_repeats (slice_cmp nat_cmp) (texts (spec.values_in (marked (option_map (λ m. m.now) marks.entry) table.now.rows) column)))) }
-    ensures truths { IfOk result (λ values. values.truths.items ≡ truths (spec.values_in (marked (option_map (λ m. m.now) marks.entry) table.now.rows) column)) }
+    requires marks { length marks.now ≡ length table.now.rows }
+    ensures numbers { IfOk result (λ values. values.numbers.items ≡ spec.numbers (spec.values_in (marked marks.now table.now.rows) column)) }
+    ensures texts { IfOk result (λ values. values.distinct_texts ≡ length (without_repeats (slice_cmp nat_cmp) (texts (spec.values_in (marked marks.now table.now.rows) column)))) }
+    ensures truths { IfOk result (λ values. values.truths.items ≡ truths (spec.values_in (marked marks.now table.now.rows) column)) }
     ensures few { length table.now.rows ≤ MAX_ROWS }
 {
     let mut numbers = Vec::new(alloc);
@@ -211,16 +200,16 @@ fn distinct_truths(truths: &[bool]) -> u64
     u64::from(truths.contains(&false)) + u64::from(truths.contains(&true))
 }
 
-/// The statistics of a column, counted from 0, in the rows of a table that are marked; without marks in every row.
+/// The statistics of a column, counted from 0, in the rows of a table that are marked.
 pub(crate) fn marked_stats<A: Heap>(
     alloc: A,
     table: &Table<A>,
-    marks: Option<&Mask<A>>,
+    marks: &Mask<A>,
     column: u64,
 ) -> Result<ColumnStats, AllocError>
     requires column { column < length table.now.columns }
-    requires marks { IfSome marks (λ m. length m.now ≡ length table.now.rows) }
-    ensures { IfOk result (λ s. s ≡ spec.stats_of_values (spec.values_in (marked (option_map (λ m. m.now) marks.entry) table.now.rows) column)) }
+    requires marks { length marks.now ≡ length table.now.rows }
+    ensures { IfOk result (λ s. s ≡ spec.stats_of_values (spec.values_in (marked marks.now table.now.rows) column)) }
 {
     let mut values = values_in(alloc, table, marks, column)?;
     let bounds = bounds_of(&values.numbers);
@@ -230,19 +219,6 @@ pub(crate) fn marked_stats<A: Heap>(
         distinct: numbers + values.distinct_texts + truths,
         bounds,
     })
-}
-
-/// The statistics of a column of a table, counted from 0.
-pub(crate) fn column_stats<'t, A: Heap>(
-    alloc: A,
-    table: &'t Table<A>,
-    column: u64,
-) -> Result<ColumnStats, AllocError>
-    requires { column < length table.now.columns }
-    ensures { IfOk result (λ s. s ≡ spec.stats_of_values (spec.values_in table.now.rows column)) }
-{
-    let every_row: Option<&'t Mask<A>> = None;
-    marked_stats(alloc, table, every_row, column)
 }
 
 /// How many marks there are.

@@ -1,6 +1,6 @@
 //! The statistics of the rows of a table that are marked.
 
-ghost use Rattle.std.specs.Prelude.{◌≡◌, ◌<◌, Bool, List, IfOk, IfSome, Some, if◌then◌else◌, length, map};
+ghost use Rattle.std.specs.Prelude.{◌≡◌, ◌<◌, Bool, List, IfOk, IfSome, if◌then◌else◌, length, map};
 ghost use Rattle.std.specs.List.{Contains};
 ghost use Rattle.value.specs.Datum.{Row};
 ghost use Rattle.value.specs.Restricted.{is_one_of};
@@ -75,14 +75,14 @@ impl<A: Heap> MarkedStats<A> {
     ) -> Result<ColumnStats, AllocError>
         requires column { column < length table.now.columns }
         requires stats { AreStatsOf table.now.rows self.old }
-        ensures value { IfOk result (λ s. s ≡ spec.stats_of_values (spec.values_in (marked (Some self.old.marks) table.now.rows) column)) }
+        ensures value { IfOk result (λ s. s ≡ spec.stats_of_values (spec.values_in (marked self.old.marks table.now.rows) column)) }
         ensures marks { self.new.marks ≡ self.old.marks }
         ensures stats { AreStatsOf table.now.rows self.new }
     {
         if let Some(stats) = counted(self.columns.as_slice(), column) {
             return Ok(stats);
         }
-        let stats = marked_stats(alloc, table, Some(&self.marks), column as u64)?;
+        let stats = marked_stats(alloc, table, &self.marks, column as u64)?;
         self.columns.push((column, stats))?;
         Ok(stats)
     }
@@ -97,7 +97,7 @@ impl<A: Heap> MarkedStats<A> {
     ) -> Result<ColumnStats, AllocError>
         requires column { column < length table.now.columns }
         requires stats { AreStatsOf table.now.rows self.old }
-        ensures value { IfOk result (λ s. s ≡ (if is_one_of columns.now column then spec.stats_of_values (spec.values_in (marked (Some self.old.marks) table.now.rows) column) else spec.no_values)) }
+        ensures value { IfOk result (λ s. s ≡ (if is_one_of columns.now column then spec.stats_of_values (spec.values_in (marked self.old.marks table.now.rows) column) else spec.no_values)) }
         ensures marks { self.new.marks ≡ self.old.marks }
         ensures stats { AreStatsOf table.now.rows self.new }
     {
@@ -117,7 +117,7 @@ impl<A: Heap> MarkedStats<A> {
         columns: &[usize],
     ) -> Result<Stats<A>, AllocError>
         requires stats { AreStatsOf table.now.rows self.old }
-        ensures value { IfOk result (λ s. stats_of s ≡ spec.seen_stats columns.now (length table.now.columns) (marked (Some self.old.marks) table.now.rows)) }
+        ensures value { IfOk result (λ s. stats_of s ≡ spec.seen_stats columns.now (length table.now.columns) (marked self.old.marks table.now.rows)) }
         ensures marks { self.new.marks ≡ self.old.marks }
         ensures stats { AreStatsOf table.now.rows self.new }
     {

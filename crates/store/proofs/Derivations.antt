@@ -1,4 +1,4 @@
--- What keeps the statistics and the indexes of tables.
+-- What keeps the indexes of tables.
 use Rattle.std.proofs.Common.{◌≡◌, All, ℕ, ◌<◌, List, length, map, get_or, take, ap, ap₂, sym, subst, ◌∙◌, arith, Option, Some, IfSome, Result, Ok}
 use Rattle.std.proofs.lemmas.List.{length-map, take_at}
 use Rattle.std.proofs.lemmas.List.Elements.{All-same}

@@ -1,10 +1,7 @@
--- What is kept beside the contents of each table: its statistics and its indexes.
+-- What is kept beside the contents of each table: its indexes.
 use Rattle.std.specs.Prelude.{◌≡◌, ℕ, ◌+◌, ◌-◌, ◌^◌, List, All, Some, map, min, take}
 use Rattle.value.specs.Names.{Name}
 use Rattle.tables.specs.Loading.{TableRows}
-use Rattle.stats.specs.Statistics.{table_stats}
-use Rattle.stats.specs.View.{stats_of}
-use Rattle.stats.specs.declared.statistics.Stats.{Stats}
 use Rattle.indexes.specs.Indexes.{AreIndexes, IsIndex}
 use Rattle.indexes.specs.declared.index.IndexRows.{IndexRows}
 use Rattle.row_objects.specs.Objects.{Index, Table}
@@ -19,13 +16,12 @@ use Rattle.store.specs.View.{database_of}
 abbrev pub first_rows : ℕ → TableRows → TableRows
 first_rows n t = record { columns = t.columns; rows = take n t.rows }
 
--- the statistics and the indexes are those of the contents
-pub record AreDerived {A : Type 0} (contents : TableRows) (statistics : Stats A) (indexes : List (IndexRows A)) : Type 0 where
-  pub counted : stats_of statistics ≡ table_stats contents
-  pub indexed : All (λ i. IsIndex contents.rows (i.column - 1) i.numbers) indexes
+-- the indexes are those of the contents
+abbrev pub AreDerived : {A : Type 0} → (contents : TableRows) → List (IndexRows A) → Type 0
+AreDerived contents indexes = All (λ i. IsIndex contents.rows (i.column - 1) i.numbers) indexes
 
 abbrev pub IsDerived : {A : Type 0} → Stored A → Type 0
-IsDerived t = AreDerived t.contents t.statistics t.indexes.items
+IsDerived t = AreDerived t.contents t.indexes.items
 
 -- ---- the columns of indexes
 

@@ -3,8 +3,6 @@
 ghost use Rattle.std.specs.Prelude.{◌≡◌, List, IfOk, IfSome, IsErrOf, OnErr, OnOk, Some, ◌<◌, ◌-◌, None, is_some, length, option_map, slice_get, true};
 ghost use Rattle.std.specs.List.{position_from};
 ghost use Rattle.csv_records.specs.Left.{records_of};
-ghost use Rattle.stats.specs.Statistics.{table_stats};
-ghost use Rattle.stats.specs.View.{stats_of};
 ghost use Rattle.tables.specs.Loading.{Fields, reported};
 ghost use Rattle.tables.specs.declared.TheConstants.{MAX_ROWS};
 ghost use Rattle.value.specs.Columns.{columns_of};
@@ -25,7 +23,6 @@ use csv_records::Records;
 use indexes::IndexRows;
 use memory::{Failure, Heap};
 use row_ast::Statement;
-use stats::Stats;
 use std::alloc::AllocError;
 use std::io::Read;
 use std::marker::Model;
@@ -34,8 +31,8 @@ use thiserror::Error;
 use value::{Column, Refusal};
 
 /// A catalogue with the contents of its tables: those at each index have the name and the columns of the table at that
-/// index of the catalogue. Beside the contents of each table stand its statistics and
-/// its indexes, one for each of the catalogue, which a load derives anew.
+/// index of the catalogue. Beside the contents of each table stand its indexes, one for each of the catalogue, which a load
+/// derives anew.
 #[derive(Drop)]
 pub struct Store<A: Heap> {
     alloc: A,
@@ -206,15 +203,6 @@ impl<A: Heap> Store<A> {
         ensures { contents_named self.now.tables table.now ≡ Some result.now }
     {
         self.contents(table).unwrap()
-    }
-
-    /// The statistics of a table of the catalogue: those of its rows.
-    pub fn statistics(&self, name: &str) -> &Stats<A>
-        requires { is_table self.now.catalog name.now ≡ true }
-        ensures { option_map (λ t. table_stats t) (contents_named self.now.tables name.now) ≡ Some (stats_of result.now) }
-    {
-        let index = self.table_index(name).unwrap();
-        &self.tables[index].statistics
     }
 
     /// The indexes of a table of the catalogue: the numbers of its rows in the order of each column that has an index.

@@ -1,4 +1,4 @@
-//! A table of a store: its contents, and what is derived from them.
+//! A table of a store: its contents, and the indexes that are derived from them.
 
 ghost use Rattle.std.specs.Prelude.{◌≡◌, [], List, IfOk, IfSome, IsErrOf, OnErr, OnOk, ◌-◌, None, length, option_map, take};
 ghost use Rattle.csv_records.specs.Left.{records_of};
@@ -18,18 +18,16 @@ use csv_records::Records;
 use indexes::{IndexRows, index_on, remade};
 use memory::{Failure, Heap, Text};
 use row_objects::column_index;
-use stats::Stats;
 use std::alloc::AllocError;
 use std::io::Read;
 use tables::{LoadError, Table};
 use value::{Column, copy_columns};
 
-/// A table's name and contents, and what is derived from the contents: their statistics and indexes.
+/// A table's name and contents, and the indexes that are derived from the contents.
 #[derive(Drop)]
 pub(crate) struct Stored<A: Heap> {
     pub name: Text<A>,
     pub contents: Table<A>,
-    pub statistics: Stats<A>,
     pub indexes: Vec<IndexRows<A>, A>,
 }
 
@@ -53,42 +51,25 @@ pub(crate) fn new_table<A: Heap>(
     let columns = copy_columns(alloc, columns)?;
     let name = Text::new(alloc, name)?;
     let contents = Table::new(alloc, columns)?;
-    let statistics = Stats::of(alloc, &contents)?;
     Ok(Stored {
         name,
         contents,
-        statistics,
         indexes: Vec::new(alloc),
     })
 }
 
-// The statistics of contents, and indexes of them on the columns of others.
-fn derived<A: Heap>(
-    alloc: A,
-    contents: &Table<A>,
-    others: &[IndexRows<A>],
-) -> Result<(Stats<A>, Vec<IndexRows<A>, A>), AllocError>
-    ensures derived { IfOk result (λ d. AreDerived contents.now d.0 d.1.items) }
-    ensures columns { IfOk result (λ d. kept_columns d.1.items ≡ kept_columns others.now) }
-{
-    let statistics = Stats::of(alloc, contents)?;
-    let indexes = remade(alloc, contents, others)?;
-    Ok((statistics, indexes))
-}
-
 impl<A: Heap> Stored<A> {
-    // Derives statistics and indexes anew, after rows were added; where memory runs out, drops the rows from a number on.
+    // Derives the indexes anew, after rows were added; where memory runs out, drops the rows from a number on.
     fn derive_anew(&mut self, alloc: A, before: u64) -> Result<(), AllocError>
-        requires { AreDerived (first_rows before self.old.contents) self.old.statistics self.old.indexes.items }
+        requires { AreDerived (first_rows before self.old.contents) self.old.indexes.items }
         ensures name { self.new.name ≡ self.old.name }
         ensures derived { IsDerived self.new }
         ensures indexes { kept_columns self.new.indexes.items ≡ kept_columns self.old.indexes.items }
         ensures ok { OnOk result (self.new.contents ≡ self.old.contents) }
         ensures err { OnErr result (self.new.contents ≡ first_rows before self.old.contents) }
     {
-        match derived(alloc, &self.contents, &self.indexes) {
-            Ok((statistics, indexes)) => {
-                self.statistics = statistics;
+        match remade(alloc, &self.contents, &self.indexes) {
+            Ok(indexes) => {
                 self.indexes = indexes;
                 Ok(())
             }

@@ -65,13 +65,13 @@ pub(crate) fn made_store(
     if made { Ok(Some(store)) } else { Ok(None) }
 }
 
-/// The query: of one table a row by its key; of more the number of the combinations of a chain, each joined with the next by its
-/// key.
-pub(crate) fn query(alloc: Global, tables: u64) -> Result<String, AllocError> {
+/// The query, with a number in the name of its column: of one table a row by its key; of more the number of the combinations of a
+/// chain, each joined with the next by its key.
+pub(crate) fn query(alloc: Global, tables: u64, number: u64) -> Result<String, AllocError> {
     if tables == 1 {
-        return String::from_str(alloc, "SELECT val FROM t1 WHERE id = 77");
+        return format!(in alloc; "SELECT val AS n{number} FROM t1 WHERE id = 77");
     }
-    let mut text = String::from_str(alloc, "SELECT count(*) AS n FROM t1")?;
+    let mut text = format!(in alloc; "SELECT count(*) AS n{number} FROM t1")?;
     for t in 2..=tables {
         let before = t.wrapping_sub(1);
         write!(text, " JOIN t{t} ON t{before}.id = t{t}.id")?;

@@ -1,12 +1,10 @@
-//! Texts of a role that sees one row in 500 of a table, one after the other: which rows these are is found out once.
+//! A query of a table of which the role sees one row in 500.
 
 use crate::asked_store::key;
 use crate::numbers::number_of;
 use crate::stop::Stop;
+use crate::texts::{Query, Texts, Wanted, asked};
 use engine::Store;
-use fixtures::Known;
-use memory::Text;
-use session::{Core, Event, Reply};
 use setup::apply_schema;
 use std::alloc::{AllocError, Global};
 
@@ -16,13 +14,6 @@ CREATE POLICY own ON t USING (owner = CURRENT_USER); GRANT SELECT ON t TO r;";
 
 /// The most rows of the table, and the most texts.
 const MOST: u64 = 1_000_000;
-
-// The rows of the texts in a session, or what explains them.
-#[derive(Clone, Copy, Debug)]
-enum Wanted {
-    Rows,
-    Plan,
-}
 
 // What is asked of the table, and how often.
 #[derive(Clone, Copy, Debug)]
@@ -35,19 +26,11 @@ struct Arguments {
     texts: u64,
 }
 
-fn wanted_of(word: &str) -> Option<Wanted> {
-    match word {
-        "rows" => Some(Wanted::Rows),
-        "plan" => Some(Wanted::Plan),
-        _ => None,
-    }
-}
-
 // The arguments that the words say, if they say any.
 fn read_arguments(words: &[String]) -> Option<Arguments> {
     match words {
         [wanted, rows, texts] => Some(Arguments {
-            wanted: wanted_of(wanted.as_str())?,
+            wanted: Wanted::named(wanted.as_str())?,
             rows: number_of(rows.as_str(), 1, MOST)?,
             texts: number_of(texts.as_str(), 0, MOST)?,
         }),
@@ -76,43 +59,7 @@ fn made_store(alloc: Global, rows: u64) -> Result<Option<Store<Global>>, AllocEr
     if made { Ok(Some(store)) } else { Ok(None) }
 }
 
-fn text(alloc: Global, number: u64) -> Result<String, AllocError> {
-    format!(in alloc; "SELECT val FROM t WHERE id = {number}")
-}
-
-// How many texts are explained, one after the other.
-fn explained(alloc: Global, store: &Store<Global>, texts: u64) -> Result<u64, AllocError> {
-    let mut known = Known::new(alloc, store);
-    let mut done: u64 = 0;
-    for number in 0..texts {
-        let text = text(alloc, number)?;
-        let (status, _) = known.explained(alloc, "r", text.as_str());
-        if status == 0 {
-            done = done.wrapping_add(1);
-        }
-    }
-    Ok(done)
-}
-
-// How many texts have rows in a session, one after the other.
-fn answered(alloc: Global, store: Store<Global>, texts: u64) -> Result<u64, AllocError> {
-    let Ok(mut core) = Core::new(alloc, store) else {
-        return Err(AllocError);
-    };
-    let role = Text::new(alloc, "r")?;
-    drop(core.step(Event::Login { role }));
-    let mut done: u64 = 0;
-    for number in 0..texts {
-        let text = Text::from(text(alloc, number)?);
-        let reply = core.step(Event::Ask { session: 0, text });
-        if matches!(reply, Reply::Engine { .. }) {
-            done = done.wrapping_add(1);
-        }
-    }
-    Ok(done)
-}
-
-/// Asks as the words say, and returns how many texts were answered.
+/// Asks as the words say, and returns the status of the last reply with its length.
 pub(crate) fn known_line(alloc: Global, words: &[String]) -> Result<String, Stop> {
     let Some(arguments) = read_arguments(words) else {
         return Err(Stop::Usage);
@@ -120,9 +67,10 @@ pub(crate) fn known_line(alloc: Global, words: &[String]) -> Result<String, Stop
     let Some(store) = made_store(alloc, arguments.rows)? else {
         return Err(Stop::OutOfMemory);
     };
-    let done = match arguments.wanted {
-        Wanted::Rows => answered(alloc, store, arguments.texts)?,
-        Wanted::Plan => explained(alloc, &store, arguments.texts)?,
+    let texts = Texts {
+        role: "r",
+        query: Query::Key,
+        count: arguments.texts,
     };
-    Ok(format!(in alloc; "{done}")?)
+    Ok(asked(alloc, store, arguments.wanted, texts)?)
 }

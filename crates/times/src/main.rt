@@ -1,6 +1,6 @@
 //! A program that does the work of one part of the engine, for the scripts of bench to measure: `plan` searches the least code of a
-//! query so many times, `run` joins two tables once by a code of its own, `ask` makes tables and asks one query of them so many times,
-//! and `known` asks so many texts of a table of which a role sees few rows.
+//! query so many times, `run` joins two tables once by a code of its own, `ask` makes tables and asks so many texts of one query of them,
+//! and `known` so many texts of a table of which a role sees few rows.
 #![tactic(auto)]
 
 mod asked_store;
@@ -16,6 +16,7 @@ mod search;
 mod search_problem;
 mod shape;
 mod stop;
+mod texts;
 
 use part::Part;
 use std::alloc::AllocError;

@@ -14,9 +14,9 @@ pub(crate) enum Part {
     Plan,
     /// The run of one code over two tables.
     Run,
-    /// Queries of a store, or their plans.
+    /// Texts of tables that are seen whole, or their plans, one after the other.
     Ask,
-    /// Queries of a role under a policy, or their plans, one after the other.
+    /// Texts of a role under a policy, or their plans, one after the other.
     Known,
 }
 

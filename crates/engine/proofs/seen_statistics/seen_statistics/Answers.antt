@@ -36,16 +36,8 @@ bounds-frame-number g c =
     let long = as_long _ _ _ _ (c.requires.shows []) in
     omega (arith, lt, long)
 
-pub guarded_statistics-requires-clause-table : goal.guarded_statistics-requires-clause-table
-guarded_statistics-requires-clause-table g c =
-    let lt = rw c.as_slice-entries.ensures at c.loop-number-test.true in
-    let e = c.index-entries-number.result in
-    let is = rw c.as_slice-entries.ensures at c.index-entries-number.is in
-    let named = table_at (λ e. entry_of e) c.args.store.now.catalog c.args.bound.now.entries c.loop-number.number e c.requires.tables lt is in
-    rw c.name-name.ensures (ap is_some named)
-
-pub guarded_statistics-requires-clause-known : goal.guarded_statistics-requires-clause-known
-guarded_statistics-requires-clause-known g c =
+pub guarded_statistics-requires : goal.guarded_statistics-requires
+guarded_statistics-requires g c =
     let lt = rw c.as_slice-entries.ensures at c.loop-number-test.true in
     let e = c.index-entries-number.result in
     let is = rw c.as_slice-entries.ensures at c.index-entries-number.is in

@@ -1,5 +1,4 @@
-use Rattle.std.proofs.Common.{◌≡◌, ◌+◌, ◌≤◌, ◌<◌, ◌||◌, ℕ, Bool, List, [], ◌++◌, length, drop, append_assoc, FitsSigned, w64, ap, subst, ◌∙◌, arith, rules}
-use Rattle.std.specs.Prelude.{Option, option_map}
+use Rattle.std.proofs.Common.{◌≡◌, ◌+◌, ◌≤◌, ◌<◌, ◌||◌, ℕ, List, [], ◌++◌, length, drop, append_assoc, FitsSigned, w64, ap, subst, ◌∙◌, arith, rules}
 use Rattle.std.proofs.Math.ListN.{drop_of_length-le}
 use Rattle.std.proofs.lemmas.Int.{to_z-of_z}
 use Rattle.value.specs.Datum.{Datum, Row, null, int, text, bool}
@@ -20,7 +19,7 @@ loop-row-preserved g c =
     let row = c.loop-row.row in
     let so_far = c.loop-row.invariant in
     let below : row < length rows = omega arith in
-    let marks : Option (List Bool) = option_map (λ m. m.now) c.args.marks in
+    let marks = c.args.marks.now in
     let all = spec.values_in (marked marks rows) column in
     let with_numbers = λ (ds : List Datum). c.loop-row.numbers.items ++ spec.numbers ds ≡ spec.numbers all in
     let with_texts = λ (t : List ℕ) (ds : List Datum). (has_text t c.loop-row.texts.keys || is_repeated text_cmp t (spec'.texts ds)) ≡ is_repeated text_cmp t (spec'.texts all) in
@@ -63,7 +62,7 @@ pub returns-clause-texts : goal.returns-clause-texts
 returns-clause-texts g c =
     let rows = c.args.table.now.rows in
     let row = c.loop-row.row in
-    let marks : Option (List Bool) = option_map (λ m. m.now) c.args.marks in
+    let marks = c.args.marks.now in
     let all = spec.values_in (marked marks rows) c.args.column in
     let past : length rows ≤ row = omega arith in
     let none : drop row rows ≡ [] = drop_of_length-le rows past in

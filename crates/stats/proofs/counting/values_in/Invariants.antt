@@ -1,5 +1,4 @@
-use Rattle.std.proofs.Common.{◌≡◌, ◌++◌, ◌||◌, ℕ, List, Bool, drop}
-use Rattle.std.specs.Prelude.{Option, option_map}
+use Rattle.std.proofs.Common.{◌≡◌, ◌++◌, ◌||◌, ℕ, List, drop}
 use Rattle.stats.specs.Marked.{marked, marked_from}
 use Rattle.stats.specs.Repeats.{is_repeated}
 use Rattle.stats.specs.Statistics as spec
@@ -11,9 +10,8 @@ use Rattle.stats.proofs.counting.values_in.Given as goal
 -- those so far, and those of the marked rows that are left
 abbrev pub invariant-loop-row : goal.invariant-loop-row
 invariant-loop-row g l =
-    let marks : Option (List Bool) = option_map (λ m. m.now) l.marks in
-    let left = spec.values_in (marked_from marks l.row (drop l.row l.table.rows)) l.column in
-    let all = spec.values_in (marked marks l.table.rows) l.column in record {
+    let left = spec.values_in (marked_from l.marks l.row (drop l.row l.table.rows)) l.column in
+    let all = spec.values_in (marked l.marks l.table.rows) l.column in record {
       numbers : l.numbers.items ++ spec.numbers left ≡ spec.numbers all;
       texts : (t : List ℕ) → (has_text t l.texts.keys || is_repeated text_cmp t (spec'.texts left)) ≡ is_repeated text_cmp t (spec'.texts all);
       truths : l.truths.items ++ spec'.truths left ≡ spec'.truths all;

@@ -1,4 +1,4 @@
-use Rattle.std.proofs.Common.{length, Some, ap, ◌∙◌}
+use Rattle.std.proofs.Common.{length, ap, ◌∙◌}
 use Rattle.std.proofs.lemmas.Result.{IfOk-weaker}
 use Rattle.tuples.specs.Guards.{shows}
 use Rattle.tuples.specs.View.{guard_of}
@@ -13,5 +13,5 @@ statistics-requires g c = record { stats = c.new.ensures.stats (shows c.args.rol
 pub returns : goal.returns
 returns g c =
     let table = c.args.table.now in
-    let seen : _ = ap (λ m. marked (Some m) table.rows) c.new.ensures.marks ∙ marked_by (shows c.args.role.now (guard_of c.args.guard.now)) table.rows c.in_ok-seen.seen c.in_ok-seen.ensures in
+    let seen : _ = ap (λ m. marked m table.rows) c.new.ensures.marks ∙ marked_by (shows c.args.role.now (guard_of c.args.guard.now)) table.rows c.in_ok-seen.seen c.in_ok-seen.ensures in
     IfOk-weaker c.statistics.result _ _ (λ s is. is ∙ ap (seen_stats c.args.columns.now (length table.columns)) seen) c.statistics.ensures.value

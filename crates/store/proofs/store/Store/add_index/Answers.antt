@@ -8,13 +8,24 @@ use Rattle.row_ast.specs.View.{statement_of}
 use Rattle.catalog.specs.Changes.{changed}
 use Rattle.catalog.specs.TableColumns.{table_columns}
 use Rattle.store.specs.Database.{Database, changed_database}
-use Rattle.store.specs.Derived.{kept_columns, table_indexes}
+use Rattle.store.specs.Derived.{IsDerived, kept_columns, table_indexes}
 use Rattle.store.specs.View.{database_of, stored_of}
 use Rattle.store.proofs.Agreement.{same_place}
-use Rattle.store.proofs.Derivations.{index_within}
+use Rattle.store.proofs.Derivations.{derived_at, index_within}
 use Rattle.store.proofs.Indexes.{dropped, one_kept, replaced, same_columns, same_entries, same_kept, set_twice, with_index_made}
 use Rattle.store.proofs.Loads.{same_database, still_refused}
 use Rattle.store.proofs.store.Store.add_index.Goals as goal
+
+pub add_index-requires : goal.add_index-requires
+add_index-requires g c = derived_at c.self.inside.tables.items c.in-Some.index c.index_mut.result.now (index_within c.self.inside c.args.self.now c.in-Some.index c.self.view_is c.in-Some.ensures.within) c.index_mut.ensures.value c.self.invariant.derived
+
+pub truncate_indexes-requires : goal.truncate_indexes-requires
+truncate_indexes-requires g c =
+    let items = c.self.inside.tables.items in
+    let i = c.in-Some.index in
+    let was = c.index_mut-in-Err-apply.result.now in
+    let is : was ≡ c.add_index.new.self = c.index_mut-in-Err-apply.ensures.value ∙ get_or-set_same items i c.add_index.new.self was (index_within c.self.inside c.args.self.now i c.self.view_is c.in-Some.ensures.within) in
+    subst (λ t. IsDerived t) (sym is) c.add_index.ensures.derived
 
 pub invariant_of-self-in-Err : goal.invariant_of-self-in-Err
 invariant_of-self-in-Err g c =

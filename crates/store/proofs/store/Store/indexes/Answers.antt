@@ -24,5 +24,5 @@ returns g c =
     let rows = ap (λ o. rows_held (option_map (λ t. t.1) o)) (found (λ t. stored_of t) name table items i at c.index.ensures) in
     rw c.deref.ensures.value (rw (← c.self.view_is) (
       ap (λ x. kept_columns x.indexes.items) c.index.ensures ∙ columns,
-      subst (λ rows. All (λ x. IsIndex rows (x.column - 1) x.numbers) table.indexes.items) (sym rows) derived.indexed,
+      subst (λ rows. All (λ x. IsIndex rows (x.column - 1) x.numbers) table.indexes.items) (sym rows) derived,
     ))

@@ -9,7 +9,7 @@ pub derive_anew-requires : goal.derive_anew-requires
 derive_anew-requires g c =
     let old = c.args.self.now in
     let h = c.in_ok-append.ensures in
-    subst (λ t. AreDerived t old.statistics old.indexes.items)
+    subst (λ t. AreDerived t old.indexes.items)
     (sym (first_kept old.contents c.append.new.self c.rows-before.result (due_rows old.contents h.some_records.0) c.rows-before.ensures.rows h.columns h.some_records.1)) c.requires
 
 pub returns-in_err-derive_anew-clause-unchanged : goal.returns-in_err-derive_anew-clause-unchanged

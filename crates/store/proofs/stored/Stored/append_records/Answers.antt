@@ -16,5 +16,5 @@ derive_anew-requires g c =
     let old = c.args.self.now in
     let h = c.in_ok-append_records.ensures in
     let read = h.some_records (no_failure c.append_records.new.records.failure _ (λ why e. ok_is_not _ _ e) h.failed) in
-    subst (λ t. AreDerived t old.statistics old.indexes.items)
+    subst (λ t. AreDerived t old.indexes.items)
     (sym (first_kept old.contents c.append_records.new.self c.rows-before.result (due_rows old.contents read.0) c.rows-before.ensures.rows h.columns read.1)) c.requires.derived
