@@ -26,7 +26,7 @@ left_drop held n (Some xs) le = ap Some (sym (drop-append-le n held xs le))
 
 -- ---- more bytes are read
 
--- what is held with bytes that were read behind it
+-- what is held with bytes that were read after it
 pub more_held : (bytes buf rest : List ℕ) (at filled count : ℕ) → at ≡ 0 → filled ≤ length bytes → count ≤ length buf
     → slice_range (take filled bytes ++ (buf ++ rest)) at (filled + count) ≡ slice_range bytes at filled ++ take count buf
 more_held bytes buf rest at filled count start le few = rw start (whole ∙ sym front) where

@@ -8,7 +8,7 @@ use Rattle.std.specs.Str.Parse.{digits_value, digits_value_after}
 use Rattle.value.proofs.DigitRoom.{behind, within}
 use Rattle.value.proofs.digits.many_digits.Goals as goal
 
--- a word of digits, and the text behind it
+-- a word of digits, and the text after it
 digits_left : (rest more : List ℕ) (word : ℕ) (t : Bool) → rest ≡ to_le_bytes w64 word ++ more → list_all is_ascii_digit (to_le_bytes w64 word) ≡ t → list_all is_ascii_digit rest ≡ (t && list_all is_ascii_digit more)
 digits_left rest more word t is digits = ap (list_all is_ascii_digit) is ∙ list_all-append is_ascii_digit (to_le_bytes w64 word) more ∙ ap (λ b. b && list_all is_ascii_digit more) digits
 
