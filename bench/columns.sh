@@ -1,6 +1,7 @@
 #!/usr/bin/env bash
-# Measures a load of a table of five columns with one query: 2,000 rows that a policy shows, a count and a sum in 50 groups, and the
-# first 10 rows by a column, each beside sqlite3's .import of the same file with the same query.
+# Measures a load of a table of five columns with one query: 2,000 rows that a policy shows, a count and a sum in 50 groups, the
+# first 10 rows by a column, and all rows by that column, each beside sqlite3's .import of the same file with the same query. Where R
+# with data.table is there, its fread of the file on one thread is measured beside the load.
 # usage: bench/columns.sh [ROWS [RUNS]], with 1000000 rows and 5 runs where nothing is said. Times are of the processor, in seconds;
 # of the runs, which take turns, the middle one counts. Memory is the most of any run.
 # `rt` must be on the path. The program is proved and built first, if it is not yet.
@@ -24,9 +25,10 @@ SQL
 build
 seen='SELECT id, amount FROM deal'
 groups='SELECT region, count(*), sum(amount) FROM deal GROUP BY region ORDER BY region'
-first='SELECT id, amount FROM deal ORDER BY amount LIMIT 10'
-declare -A beside=([few]="$seen WHERE id <= 2000" [one_owner]="$seen WHERE owner = 'owner-7'" [groups]=$groups [first]=$first)
-for name in few one_owner groups first; do
+sorted='SELECT id, amount FROM deal ORDER BY amount'
+first="$sorted LIMIT 10"
+declare -A beside=([few]="$seen WHERE id <= 2000" [one_owner]="$seen WHERE owner = 'owner-7'" [groups]=$groups [first]=$first [sorted]=$sorted)
+for name in few one_owner groups first sorted; do
     cat > "$work/$name.sql" <<SQL
 CREATE TABLE deal (id INTEGER, owner TEXT, region INTEGER, amount INTEGER, parts INTEGER);
 .import --csv --skip 1 $work/deal.csv deal
@@ -50,13 +52,20 @@ for _ in $(seq "$runs"); do
     note one_owner bash -c "ask one_owner \"$seen\""
     note groups bash -c "ask root \"$groups\""
     note first bash -c "ask root \"$first\""
-    for name in few one_owner groups first; do
+    note sorted bash -c "ask root \"$sorted\""
+    if Rscript -e 'library(data.table)' > "$work/out" 2>&1; then
+        note fread Rscript -e "library(data.table); setDTthreads(1); rows <- fread('$work/deal.csv', na.strings = '\\\\N')"
+    fi
+    for name in few one_owner groups first sorted; do
         note "sqlite-$name" sqlite3 -init "$work/$name.sql" :memory: .quit
     done
 done
 echo "$rows rows, $(stat -c %s "$work/deal.csv") bytes"
 printf '%-12s %6s s %20s %6s MiB\n' load "$(middle load)" '' "$(most load)"
-for name in few one_owner groups first; do
+if [ -f "$work/fread.times" ]; then
+    printf '%-12s %6s s %20s %6s MiB\n' fread "$(middle fread)" '' "$(most fread)"
+fi
+for name in few one_owner groups first sorted; do
     ours=$(middle "$name")
     theirs=$(middle "sqlite-$name")
     printf '%-12s %6s s, %s of sqlite3 (%s s) %6s MiB\n' "$name" "$ours" \
