@@ -1,6 +1,6 @@
 //! Records whose fields are not quoted, found where they stand.
 
-ghost use Rattle.std.specs.Prelude.{◌≡◌, ◌+◌, ◌≤◌, ◌<◌, ◌++◌, if◌then◌else◌, ℕ, List, length, drop, slice_index, IfOk, IfSome, MatchOption};
+ghost use Rattle.std.specs.Prelude.{◌≡◌, ◌+◌, ◌≤◌, ◌<◌, ◌==◌, ◌++◌, if◌then◌else◌, ℕ, List, length, drop, slice_index, IfOk, IfSome, MatchOption};
 ghost use Rattle.std.specs.Int.{bit_at};
 ghost use Rattle.csv_records.specs.Records.{IsPlainRecord, SameNext, ends_line};
 ghost use Rattle.csv_records.specs.Scanned.{Scanned, is_special};
@@ -28,16 +28,29 @@ pub(crate) fn line_ends(bytes: &[u8]) -> usize
     bytes.len()
 }
 
+// 255 in each lane that is a byte, and 0 in the others.
+fn lanes_of(block: u8x64, byte: u8) -> u8x64
+    ensures long { length result ≡ 64 }
+    ensures each { (k : ℕ) → k < 64 → slice_index result k ≡ if slice_index block k == byte then 255 else 0 }
+{
+    block
+        .simd_eq(u8x64::splat(byte))
+        .select(u8x64::splat(255), u8x64::splat(0))
+}
+
 // Which of the 64 bytes from an index on separate fields, quote them or end lines, a byte to a bit.
 fn special_bits(bytes: &[u8], at: usize) -> u64
     requires { at + 64 ≤ length bytes.now }
     ensures { (k : ℕ) → k < 64 → bit_at result k ≡ if is_special (slice_index bytes.now (at + k)) then 1 else 0 }
 {
     let block = u8x64::from_slice(&bytes[at..]);
-    block.simd_eq(u8x64::splat(b',')).to_bitmask()
-        | block.simd_eq(u8x64::splat(b'"')).to_bitmask()
-        | block.simd_eq(u8x64::splat(b'\r')).to_bitmask()
-        | block.simd_eq(u8x64::splat(b'\n')).to_bitmask()
+    let commas = lanes_of(block, b',');
+    let quotes = lanes_of(block, b'"');
+    let returns = lanes_of(block, b'\r');
+    let feeds = lanes_of(block, b'\n');
+    (commas | quotes | returns | feeds)
+        .simd_eq(u8x64::splat(255))
+        .to_bitmask()
 }
 
 // Goes over the 64 bytes from an index on, in the field that begins at `start`, and keeps the ends of fields. The index of the first byte
@@ -63,7 +76,7 @@ fn scan_block(
         } else if byte != b'"' || i == *start {
             return Ok(Some(i));
         }
-        bits &= !(1 << bit);
+        bits &= bits - 1;
     }
     Ok(None)
 }

@@ -1,7 +1,7 @@
 use Rattle.std.proofs.Common.{◌+◌, ap, w64}
 use Rattle.std.specs.Int.{trailing_zeros}
 use Rattle.csv_records.specs.Records.{ends_line}
-use Rattle.csv_records.proofs.BlockFacts.{block_begins, in_block, one_bit_less, past_lowest, to_end, to_lowest}
+use Rattle.csv_records.proofs.BlockFacts.{block_begins, in_block, past_lowest, to_end, to_lowest}
 use Rattle.csv_records.proofs.PlainFacts.{byte_joined, field_ended}
 use Rattle.csv_records.proofs.plain.scan_block.Goals as goal
 use Rattle.csv_records.proofs.plain.scan_block.Goals.{then-byte-eq44+in_ok-push, else-byte-eq44+else-byte-ne34+else-i-start}
@@ -14,9 +14,6 @@ returns-then-byte-ne34 c =
     let bytes = c.args.bytes.now in
     let l = c.loop-bits in
     (in_block bytes l.ends.items l.start c.args.at l.bits c.requires.room l.invariant c.loop-bits-test.true l.auto.bits-fits.fits, to_lowest bytes l.ends.items l.start c.args.at l.bits c.requires.room l.invariant c.loop-bits-test.true l.auto.bits-fits.fits)
-
-pub loop-bits-smaller : goal.loop-bits-smaller
-loop-bits-smaller c = one_bit_less c.args.bytes.now c.loop-bits.ends.items c.loop-bits.start c.args.at c.loop-bits.bits c.requires.room c.loop-bits.invariant c.loop-bits-test.true c.loop-bits.auto.bits-fits.fits
 
 pub loop-bits-preserved : goal.loop-bits-preserved
 loop-bits-preserved c =
