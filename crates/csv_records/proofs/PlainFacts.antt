@@ -1,5 +1,5 @@
 -- Records whose fields are not quoted, byte by byte.
-use Rattle.std.proofs.Common.{◌≡◌, ◌≢◌, ℕ, suc, ◌+◌, ◌-◌, ◌<◌, ◌≤◌, ◌==◌, ◌||◌, ◌⊎◌, inl, inr, Bool, true, false, if◌then◌else◌, List, [], ◌∷◌, ◌++◌, length, take, drop, get_or, Some, refl, sym, ap, ◌∙◌, arith}
+use Rattle.std.proofs.Common.{◌≡◌, ◌≢◌, ℕ, zero, suc, subst, ◌+◌, ◌-◌, ◌<◌, ◌≤◌, ◌==◌, ◌||◌, ◌⊎◌, inl, inr, Bool, true, false, if◌then◌else◌, List, [], ◌∷◌, ◌++◌, length, take, drop, get_or, Some, refl, sym, ap, ◌∙◌, arith}
 use Rattle.std.proofs.lemmas.List.{drop_more, get_or_append_left, get_or-drop, length-append, length-drop}
 use Rattle.std.proofs.Math.Seq.{take-suc}
 use Rattle.std.proofs.lemmas.Bool.Decides.{eqb_tells}
@@ -13,19 +13,9 @@ use Rattle.csv.specs.declared.parser.State.TheVariants as st
 use Rattle.csv_records.specs.Fields.{EndsWithin, fields_from, start_after}
 use Rattle.csv_records.specs.Machine.{settled}
 use Rattle.csv_records.specs.Records.{IsPlainRecord, SameNext, ends_line}
+use Rattle.csv_records.specs.Scanned.{Scanned, is_special, place_at}
 use Rattle.csv_records.proofs.FieldFacts.{one_more_end, one_more_field, start_after-last}
 use Rattle.csv_records.proofs.MachineFacts.{after_step, next_is}
-
--- the state before a byte: a record starts, a field starts, or it is in a field
-abbrev pub place_at : ℕ → ℕ → State
-place_at i start = if i == 0 then st.StartRecord else if i == start then st.StartField else st.InField
-
--- the bytes before an index are fields that ended, and the first bytes of one that did not
-pub record Scanned (bytes ends : List ℕ) (start i : ℕ) : Type 0 where
-  pub within : EndsWithin (length bytes) 0 ends
-  pub starts : start_after 0 ends ≡ start
-  pub behind : start ≤ i
-  pub leads : (more : List ℕ) → next_record default_config st.StartRecord [] [] (bytes ++ more) ≡ next_record default_config (place_at i start) (fields_from bytes 0 ends) (slice_range bytes start i) (drop i (bytes ++ more))
 
 -- ---- the steps
 
@@ -186,3 +176,30 @@ record_ended bytes ends new start i so lt later line is = rw is (
 ) where
   all : fields_from bytes 0 ends ++ (slice_range bytes start i ∷ []) ≡ fields_from bytes 0 (ends ++ i ∷ [])
   all = sym (one_more_field bytes 0 i ends ∙ ap (λ n. fields_from bytes 0 ends ++ slice_range bytes n i ∷ []) so.starts)
+
+-- ---- many bytes at a time
+
+or_false : (a b : Bool) → (a || b) ≡ false → (a ≡ false) × (b ≡ false)
+or_false true b none = absurd (let h = none in cc h)
+or_false false b none = (refl, none)
+
+differs : (a b : ℕ) → (a == b) ≡ false → a ≢ b
+differs a b none same = by_test (eqb_tells a b) where
+  by_test : Test a b → ⊥
+  by_test (inl (e, is)) = let h = sym e ∙ none in absurd (cc h)
+  by_test (inr (e, differ)) = differ same
+
+-- a byte that is not special joins the field
+plain_joined : (bytes ends : List ℕ) (start i : ℕ) → Scanned bytes ends start i → i < length bytes → is_special (get_or bytes i 0) ≡ false → Scanned bytes ends start (i + 1)
+plain_joined bytes ends start i so lt plain =
+    let byte = get_or bytes i 0 in
+    let parts = or_false ((byte == 44) || (byte == 34)) (ends_line byte) plain in
+    let inner = or_false (byte == 44) (byte == 34) parts.0 in
+    byte_joined bytes ends start i so lt (differs byte 44 inner.0) parts.1 (λ quote. absurd (differs byte 34 inner.1 quote))
+
+pub bytes_joined : (n : ℕ) (bytes ends : List ℕ) (start i : ℕ) → Scanned bytes ends start i → i + n ≤ length bytes → ((k : ℕ) → i ≤ k → k < i + n → is_special (get_or bytes k 0) ≡ false) → Scanned bytes ends start (i + n)
+bytes_joined zero bytes ends start i so le plain = let same : i ≡ i + 0 = omega arith in subst (Scanned bytes ends start) same so
+bytes_joined (suc n) bytes ends start i so le plain =
+    let one = plain_joined bytes ends start i so (omega (arith, le)) (plain i (omega arith) (omega arith)) in
+    let next : i + 1 + n ≡ i + suc n = omega arith in
+    subst (Scanned bytes ends start) next (bytes_joined n bytes ends start (i + 1) one (omega (arith, le)) (λ k low high. plain k (omega (arith, low)) (omega (arith, high))))
