@@ -91,7 +91,11 @@ fn long_text(alloc: Global, to: usize) -> Result<String, AllocError> {
     for _ in text.len()..to {
         text.push_str("x")?;
     }
-    text.push_str("\n12,\"3,\"\"4\"\n\r\n5,67\r\n\"8\",9")?;
+    text.push_str("\n12,\"3,\"\"4\"\n\r\n5,67\r\n1\"2,3\"4\r")?;
+    for _ in 0..70 {
+        text.push_str("y")?;
+    }
+    text.push_str(",\"z\"\n\"8\",9")?;
     Ok(text)
 }
 
