@@ -13,6 +13,8 @@ mod first_rows;
 #[cfg(test)]
 mod group_by;
 #[cfg(test)]
+mod many_rows;
+#[cfg(test)]
 mod order;
 #[cfg(test)]
 mod passing;

@@ -6,6 +6,8 @@ pub mod ItemsByMarks
 pub mod KeptConditions
 pub mod NamedColumns
 pub mod OutputOrder
+pub mod PackedKeys
 pub mod Restricting
 pub mod SameCombinations
 pub mod Taking
+pub mod Words

@@ -4,6 +4,7 @@
 
 mod answer_rows;
 mod answering;
+mod comparing;
 mod conditions;
 mod finishing;
 mod gathered;
@@ -12,6 +13,8 @@ mod laws;
 mod order_laws;
 mod ordering;
 mod outcomes;
+mod packed_keys;
+mod sorting;
 mod ungrouped;
 
 pub use answering::Answering;

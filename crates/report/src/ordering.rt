@@ -3,75 +3,20 @@
 ghost use Rattle.std.specs.Prelude.{◌≡◌, ◌≤◌, ◌++◌, [], ◌∷◌, List, IsSorted, OnOk, length, map, take, vec_len};
 ghost use Rattle.std.specs.List.{insert};
 ghost use Rattle.bags.specs.Sorting.{insert_sorted, sorted_by};
-ghost use Rattle.value.specs.Datum.{Row, datum_of, row_of, cell};
-ghost use Rattle.value.specs.Orders.{datum_cmp};
+ghost use Rattle.value.specs.Datum.{Row, row_of};
 ghost use Rattle.report.specs.Held.{held, is_before_last};
 ghost use Rattle.report.specs.Ordered as spec;
-ghost use Rattle.report.specs.Ordered.{by_key, by_keys, output_cmp, limited};
+ghost use Rattle.report.specs.Ordered.{output_cmp, limited};
 
+use crate::comparing::cmp_outputs;
+use crate::sorting::sort_outputs;
 use expr::OutputKey;
 use memory::{Heap, Items};
 use std::alloc::AllocError;
-use std::cmp::Ordering;
-use value::{Val, Value, cmp_rows, cmp_values};
+use value::Value;
 
 // Up to this limit the first rows alone are held.
 const FEW: u64 = 64;
-
-// The value of an output column.
-fn cell<A: Heap>(row: &[Value<A>], index: usize) -> Val<'_, A>
-    ensures { datum_of result ≡ cell (row_of row.now) index }
-{
-    match row.get(index) {
-        Some(value) => value.as_val(),
-        None => Val::Null,
-    }
-}
-
-fn cmp_cells<A: Heap>(a: &[Value<A>], b: &[Value<A>], index: usize) -> Ordering
-    ensures { result ≡ datum_cmp (cell (row_of a.now) index) (cell (row_of b.now) index) }
-{
-    cmp_values(&cell(a, index), &cell(b, index))
-}
-
-fn cmp_by_key<A: Heap>(key: OutputKey, a: &[Value<A>], b: &[Value<A>]) -> Ordering
-    ensures { result ≡ by_key key (row_of a.now) (row_of b.now) }
-{
-    if key.descending {
-        cmp_cells(b, a, key.index)
-    } else {
-        cmp_cells(a, b, key.index)
-    }
-}
-
-// By the first key, then by the others.
-fn cmp_by_keys<A: Heap>(keys: &[OutputKey], a: &[Value<A>], b: &[Value<A>]) -> Ordering
-    ensures { result ≡ by_keys keys.now (row_of a.now) (row_of b.now) }
-{
-    match keys.split_first() {
-        None => Ordering::Equal,
-        Some((key, keys)) => match cmp_by_key(*key, a, b) {
-            Ordering::Equal => cmp_by_keys(keys, a, b),
-            other => other,
-        },
-    }
-}
-
-// By the keys, and then by all columns from left to right.
-fn cmp_outputs<A: Heap>(keys: &[OutputKey], a: &[Value<A>], b: &[Value<A>]) -> Ordering
-    ensures { result ≡ output_cmp keys.now (row_of a.now) (row_of b.now) }
-{
-    match cmp_by_keys(keys, a, b) {
-        Ordering::Equal => cmp_rows(a, b),
-        other => other,
-    }
-}
-
-fn sort_outputs<A: Heap>(keys: &[OutputKey], rows: &mut Vec<Items<Value<A>, A>, A>)
-    ensures { map (λ r. row_of r) rows.new.items ≡ sorted_by (output_cmp keys.now) (map (λ r. row_of r) rows.old.items) }
-{
-    rows.sort_unstable_by(|a, b| cmp_outputs(keys, a.as_slice(), b.as_slice()));
-}
 
 fn limit_rows<A: Heap>(limit: Option<u64>, rows: &mut Vec<Items<Value<A>, A>, A>)
     ensures { map (λ r. row_of r) rows.new.items ≡ limited limit (map (λ r. row_of r) rows.old.items) }

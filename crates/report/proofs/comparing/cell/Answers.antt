@@ -1,6 +1,6 @@
 use Rattle.std.proofs.Common.{◌∙◌}
 use Rattle.value.proofs.Cells.{cell_past, cell_within}
-use Rattle.report.proofs.ordering.cell.Goals as goal
+use Rattle.report.proofs.comparing.cell.Goals as goal
 
 pub returns-in-Some : goal.returns-in-Some
 returns-in-Some g c =

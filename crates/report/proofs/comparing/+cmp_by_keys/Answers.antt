@@ -4,7 +4,7 @@ use Rattle.std.specs.declared.cmp.Ordering.TheVariants.{Equal}
 use Rattle.value.specs.Datum.{Row, row_of}
 use Rattle.expr.specs.declared.query.OutputKey.{OutputKey}
 use Rattle.report.specs.Ordered.{by_keys}
-use Rattle.report.proofs.ordering.+cmp_by_keys.Goals as goal
+use Rattle.report.proofs.comparing.+cmp_by_keys.Goals as goal
 
 by_none : (keys : List OutputKey) (a b : Row) → length keys ≡ 0 → Equal ≡ by_keys keys a b
 by_none [] a b none = refl
