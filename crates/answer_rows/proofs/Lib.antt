@@ -1,0 +1,3 @@
+pub mod FirstRows
+pub mod OutputOrder
+pub mod PackedKeys
