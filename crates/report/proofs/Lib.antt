@@ -1,13 +1,11 @@
 pub mod ChangedRows
 pub mod Dropped
-pub mod FirstRows
 pub mod HiddenRows
 pub mod ItemsByMarks
 pub mod KeptConditions
 pub mod NamedColumns
 pub mod OutputOrder
-pub mod PackedKeys
+pub mod Pushing
 pub mod Restricting
 pub mod SameCombinations
 pub mod Taking
-pub mod Words

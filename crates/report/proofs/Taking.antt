@@ -8,7 +8,7 @@ use Rattle.memory.specs.declared.failure.Failure.{Failure}
 use Rattle.memory.specs.declared.failure.Failure.TheVariants as failures
 use Rattle.bags.specs.Least.{lesser}
 use Rattle.bags.proofs.Least.{lesser_none, lesser_assoc}
-use Rattle.value.specs.Datum.{Row, row_of}
+use Rattle.value.specs.Datum.{Row}
 use Rattle.value.specs.Names.{Name}
 use Rattle.value.specs.declared.faults.Fault.{Fault}
 use Rattle.expr.specs.Aggregates.{AggregateCall}
@@ -29,6 +29,7 @@ use Rattle.groups.specs.Members.{Member, arguments, key_on, member_on, with_key}
 use Rattle.groups.specs.Running.{finished_rows, put_running, running_groups}
 use Rattle.groups.specs.Taking.{Takes, rows_of, totals_in}
 use Rattle.groups.proofs.ClassLaws.{rows_finished, totals_more}
+use Rattle.answer_rows.specs.Growing.{only}
 use Rattle.tuples.specs.Combinations.{Combination, joined_cells}
 use Rattle.tuples.specs.View.{world_of}
 use Rattle.tuples.specs.World.{World, combination_at}
@@ -37,7 +38,7 @@ use Rattle.row_marks.specs.declared.marked.Marked.{Marked}
 use Rattle.row_marks.specs.declared.marks.Marks.{Marks}
 use Rattle.row_marks.specs.Marks.{AreMarked, AreMarksOf, exprs_of, seen_of}
 use Rattle.row_marks.proofs.Marking.{with_conditions}
-use Rattle.report.specs.declared.answer_rows.AnswerRows.{AnswerRows}
+use Rattle.report.specs.declared.taken_rows.TakenRows.{TakenRows}
 use Rattle.report.specs.declared.answering.Answering.{Answering}
 use Rattle.report.specs.declared.gathered.Gathered.{Gathered}
 use Rattle.report.specs.Answer.{answer, rows_of_kept}
@@ -75,24 +76,24 @@ nothing_given fates fate none = sym (given_more fates fate ∙ ap (λ o. all_giv
 -- ---- rows
 
 module _ {A : Type 0} (keys : List OutputKey) (limit : Option ℕ) where
-  pub row_more : (old new : AnswerRows A) (fates : List (Fate Row)) (due : Result Row Fault) (row : Row) → due ≡ Ok row → HoldsRows keys limit old fates →
-      map (λ r. row_of r) new.rows.items ≡ held keys limit (all_given fates ++ row ∷ []) → new.stage.least ≡ old.stage.least → HoldsRows keys limit new (fates ++ gives due ∷ [])
-  row_more old new fates due row is h rows least =
+  pub row_more : (old new : TakenRows A) (fates : List (Fate Row)) (due : Result Row Fault) (row : Row) → due ≡ Ok row → old.stage.least ≡ least_fault fates →
+      new.rows ≡ only (held keys limit (all_given fates ++ row ∷ [])) → new.stage.least ≡ old.stage.least → HoldsRows keys limit new (fates ++ gives due ∷ [])
+  row_more old new fates due row is fault rows least =
       let whole : HoldsRows keys limit new (fates ++ Ok (Some row) ∷ []) = record {
-        rows = rows ∙ ap (held keys limit) (sym (given_more fates (Ok (Some row))));
-        fault = least ∙ h.fault ∙ same_least fates (Some row);
+        rows = rows ∙ ap (λ l. only (held keys limit l)) (sym (given_more fates (Ok (Some row))));
+        fault = least ∙ fault ∙ same_least fates (Some row);
       } in
       subst (λ d. HoldsRows keys limit new (fates ++ gives d ∷ [])) (sym is) whole
 
-  pub fault_more : (old new : AnswerRows A) (fates : List (Fate Row)) (due : Result Row Fault) (failure : Failure Fault) → IsFailure failure due → HoldsRows keys limit old fates →
-      Adds (Err failure) old.stage new.stage → new.rows ≡ old.rows → HoldsRows keys limit new (fates ++ gives due ∷ [])
-  fault_more old new fates due (failures.Error f) is h adds rows =
+  pub fault_more : (old new : TakenRows A) (fates : List (Fate Row)) (due : Result Row Fault) (failure : Failure Fault) → IsFailure failure due → old.rows.rows ≡ held keys limit (all_given fates) → old.stage.least ≡ least_fault fates →
+      Adds (Err failure) old.stage new.stage → new.rows ≡ only old.rows.rows → HoldsRows keys limit new (fates ++ gives due ∷ [])
+  fault_more old new fates due (failures.Error f) is held_rows fault adds rows =
       let whole : HoldsRows keys limit new (fates ++ Err f ∷ []) = record {
-        rows = ap (λ v. map (λ r. row_of r) v.items) rows ∙ h.rows ∙ ap (held keys limit) (nothing_given fates (Err f) refl);
-        fault = adds.1 ∙ ap (λ o. lesser fault_cmp o (Some f)) h.fault ∙ sym (least_more fates (Err f));
+        rows = rows ∙ ap only (held_rows ∙ ap (held keys limit) (nothing_given fates (Err f) refl));
+        fault = adds.1 ∙ ap (λ o. lesser fault_cmp o (Some f)) fault ∙ sym (least_more fates (Err f));
       } in
       subst (λ d. HoldsRows keys limit new (fates ++ gives d ∷ [])) (sym is) whole
-  fault_more old new fates due failures.OutOfMemory is h adds rows = absurd adds
+  fault_more old new fates due failures.OutOfMemory is held_rows fault adds rows = absurd adds
 
 -- ---- groups
 

@@ -1,8 +1,10 @@
 -- What is held of the combinations that come one after the other.
-use Rattle.std.specs.Prelude.{◌≡◌, ℕ, true, false, List, map, Option, None}
+use Rattle.std.specs.Prelude.{◌≡◌, ℕ, true, false, List, map, Option, None, Result}
 use Rattle.std.specs.List.{filter_map}
+use Rattle.memory.specs.Gives.{Gives}
+use Rattle.memory.specs.declared.failure.Failure.{Failure}
 use Rattle.bags.specs.Least.{least}
-use Rattle.value.specs.Datum.{Row, row_of}
+use Rattle.value.specs.Datum.{Row}
 use Rattle.value.specs.declared.faults.Fault.{Fault}
 use Rattle.expr.specs.declared.bound.ColumnId.{ColumnId}
 use Rattle.expr.specs.declared.query.OutputKey.{OutputKey}
@@ -18,10 +20,11 @@ use Rattle.tuples.specs.Combinations.{Combination}
 use Rattle.tuples.specs.View.{world_of}
 use Rattle.tuples.specs.World.{World}
 use Rattle.row_marks.specs.Marks.{AreMarksOf}
-use Rattle.report.specs.declared.answer_rows.AnswerRows.{AnswerRows}
+use Rattle.report.specs.declared.taken_rows.TakenRows.{TakenRows}
 use Rattle.report.specs.declared.gathered.Gathered as gathered
 use Rattle.report.specs.declared.gathered.Gathered.TheVariants as code
 use Rattle.report.specs.declared.answering.Answering.{Answering}
+use Rattle.answer_rows.specs.Growing.{only}
 use Rattle.report.specs.Held.{held}
 use Rattle.report.specs.QueryStages.{where_fate, items_fate, arguments_fate, query_aggregates}
 
@@ -36,9 +39,15 @@ all_given fates = filter_map given_in fates
 -- ---- what is held of these outcomes
 
 -- their rows, the first in order where the limit is small, and the least fault
-pub record HoldsRows {A : Type 0} (keys : List OutputKey) (limit : Option ℕ) (s : AnswerRows A) (fates : List (Fate Row)) : Type 0 where
-  pub rows : map (λ r. row_of r) s.rows.items ≡ held keys limit (all_given fates)
+pub record HoldsRows {A : Type 0} (keys : List OutputKey) (limit : Option ℕ) (s : TakenRows A) (fates : List (Fate Row)) : Type 0 where
+  pub rows : s.rows ≡ only (held keys limit (all_given fates))
   pub fault : s.stage.least ≡ least_fault fates
+
+-- the same, and the values of the next row, or their fault
+pub record HasPushed {A : Type 0} (keys : List OutputKey) (limit : Option ℕ) (s : TakenRows A) (fates : List (Fate Row)) (outcome : Result (Unit {0}) (Failure Fault)) (due : Result Row Fault) : Type 0 where
+  pub rows : s.rows.rows ≡ held keys limit (all_given fates)
+  pub fault : s.stage.least ≡ least_fault fates
+  pub next : Gives (λ _. s.rows.unfinished) outcome due
 
 -- the groups of their members with the totals so far, while there is no fault, and the least fault
 pub record HoldsGroups {A : Type 0} (columns : List ColumnId) (calls : List AggregateCall) (s : Groups A) (fates : List (Fate Member)) : Type 0 where

@@ -2,7 +2,6 @@ pub mod Answer
 pub mod Answering
 pub mod Held
 pub mod Ordered
-pub mod PackedKeys
+pub mod Pushed
 pub mod QueryStages
 pub mod Restricted
-pub mod Sorting

@@ -2,7 +2,6 @@
 
 ghost use Rattle.std.specs.Prelude.{[], ◌∷◌, ◌++◌, List, IfOk, IsPermutation, OnOk, map};
 ghost use Rattle.memory.specs.Gives.{Gives};
-ghost use Rattle.value.specs.Datum.{row_of};
 ghost use Rattle.tuples.specs.Combinations.{Combination};
 ghost use Rattle.tuples.specs.View.{world_of};
 ghost use Rattle.tuples.specs.World as spec;
@@ -12,13 +11,14 @@ ghost use Rattle.report.specs.Answering.{Took};
 
 use crate::conditions::{keeps_by_marks, keeps_combination};
 use crate::gathered::Gathered;
+use answer_rows::AnswerRows;
 use expr::AggregateCall;
 use groups::Stage;
 use memory::{Failure, Heap, Items};
 use row_marks::{Marks, query_aggregates};
 use std::alloc::AllocError;
 use tuples::{Combo, Sink, World};
-use value::{Fault, Value};
+use value::Fault;
 
 /// The answer of a query over combinations that come one after the other. It holds no combination: of those that stage WHERE
 /// keeps it holds the groups, or the rows of the items, of which, where the limit is small, the first in order alone.
@@ -76,9 +76,9 @@ impl<'w, A: Heap> Answering<'w, A> {
 
     /// The answer over the combinations that were taken, in any order, on which every movable conjunct is true: its rows in order,
     /// or the least fault of the first stage in which one faults.
-    pub fn end(self) -> Result<Items<Items<Value<A>, A>, A>, Failure<Fault>>
+    pub fn end(self) -> Result<AnswerRows<A>, Failure<Fault>>
         ensures { (w : spec.World) (these same : List Combination) → Took w self.entry these → IsPermutation these same →
-            Gives (λ rows. map (λ r. row_of r) rows) result (answer w.role w.query same) }
+            Gives (λ rows. rows.rows) result (answer w.role w.query same) }
     {
         match self.filter.least {
             None => self.gathered.end(self.alloc, self.world),

@@ -2,7 +2,6 @@
 
 ghost use Rattle.std.specs.Prelude.{◌≡◌, ◌++◌, [], ◌∷◌, List, IfOk, OnOk, map};
 ghost use Rattle.memory.specs.Gives.{Gives};
-ghost use Rattle.value.specs.Datum.{row_of};
 ghost use Rattle.expr.specs.View.{aggregate_calls_of};
 ghost use Rattle.tuples.specs.Combinations.{Combination};
 ghost use Rattle.tuples.specs.View.{world_of};
@@ -12,16 +11,17 @@ ghost use Rattle.report.specs.Answer.{rows_of_kept};
 ghost use Rattle.report.specs.Answering.{Gathers};
 ghost use Rattle.report.specs.QueryStages.{query_aggregates};
 
-use crate::answer_rows::AnswerRows;
 use crate::grouped::{put_combination, rows_of_groups};
+use crate::taken_rows::TakenRows;
 use crate::ungrouped::put_items;
+use answer_rows::AnswerRows;
 use expr::AggregateCall;
 use groups::Groups;
-use memory::{Failure, Heap, Items};
+use memory::{Failure, Heap};
 use row_marks::Marks;
 use std::alloc::AllocError;
 use tuples::{Combo, World};
-use value::{Fault, Value};
+use value::Fault;
 
 /// What is held of the combinations that stage WHERE keeps.
 #[derive(Drop)]
@@ -29,7 +29,7 @@ pub enum Gathered<A: Heap> {
     /// Their groups.
     Groups(Groups<A>),
     /// The rows of the items.
-    Rows(AnswerRows<A>),
+    Rows(TakenRows<A>),
 }
 
 impl<A: Heap> Gathered<A> {
@@ -46,7 +46,7 @@ impl<A: Heap> Gathered<A> {
             let columns = world.query.group_by.as_slice();
             Ok(Gathered::Groups(Groups::new(alloc, columns, calls)?))
         } else {
-            Ok(Gathered::Rows(AnswerRows::new(alloc)))
+            Ok(Gathered::Rows(TakenRows::new(alloc)))
         }
     }
 
@@ -95,9 +95,9 @@ impl<A: Heap> Gathered<A> {
         self,
         alloc: A,
         world: &World<'_, A>,
-    ) -> Result<Items<Items<Value<A>, A>, A>, Failure<Fault>>
+    ) -> Result<AnswerRows<A>, Failure<Fault>>
         ensures { let w = world_of world.now in (kept : List Combination) → Gathers w self kept →
-            Gives (λ rows. map (λ r. row_of r) rows) result (rows_of_kept w.role w.query kept) }
+            Gives (λ rows. rows.rows) result (rows_of_kept w.role w.query kept) }
     {
         match self {
             Gathered::Groups(groups) => rows_of_groups(alloc, world, groups),

@@ -2,26 +2,27 @@
 
 ghost use Rattle.std.specs.Prelude.{◌≡◌, ◌++◌, [], ◌∷◌, List, OnOk, IfOk, map, option_map, option_to_list};
 ghost use Rattle.memory.specs.Gives.{Gives};
-ghost use Rattle.value.specs.Datum.{row_of};
 ghost use Rattle.expr.specs.View.{aggregate_calls_of, bound_expr_of, bound_query_of};
+ghost use Rattle.groups.specs.GroupRow as spec_row;
 ghost use Rattle.groups.specs.View.{group_row_of};
 ghost use Rattle.tuples.specs.Combinations.{Combination};
 ghost use Rattle.tuples.specs.View.{world_of};
 ghost use Rattle.tuples.specs.World.{combination_at};
 ghost use Rattle.row_marks.specs.Marks.{AreMarkedArguments, arguments_of};
-ghost use Rattle.report.specs.Answering.{HoldsGroups};
+ghost use Rattle.report.specs.Answering.{HoldsGroups, HoldsRows};
 ghost use Rattle.report.specs.Ordered.{in_order_of};
 ghost use Rattle.report.specs.QueryStages as spec;
 
-use crate::answer_rows::AnswerRows;
-use crate::outcomes::{keeps, values};
+use crate::outcomes::{keeps, push_values};
+use crate::taken_rows::TakenRows;
+use answer_rows::AnswerRows;
 use expr::{AggregateCall, BoundExpr, BoundQuery};
 use groups::{GroupCells, GroupRow, Groups, Stage, gives_if, key_on};
 use memory::{Failure, Heap, Items};
 use row_marks::{MarkedArgument, MarkedArguments, query_aggregates};
 use std::alloc::AllocError;
 use tuples::{Combo, JoinedRow, World};
-use value::{Fault, Value};
+use value::Fault;
 
 // HAVING as a list of conditions, none without it.
 fn having_conditions<'q, A: Heap>(
@@ -105,22 +106,26 @@ fn having_stage<'g, A: Heap>(
     stage.end()
 }
 
-// The values of the items on a group, or the first fault.
-fn values_on_group<A: Heap>(
+// Takes the items of one more group, or their fault.
+fn put_group<A: Heap>(
     alloc: A,
     world: &World<'_, A>,
     calls: &[AggregateCall<'_, A>],
     group: &GroupRow<A>,
-) -> Result<Items<Value<A>, A>, Failure<Fault>>
+    rows: &mut TakenRows<A>,
+) -> Result<(), AllocError>
     requires calls { aggregate_calls_of calls.now ≡ spec.query_aggregates (world_of world.now).query }
-    ensures { let w = world_of world.now in Gives (λ r. row_of r) result (spec.values_of (spec.cells_of_group w.query (group_row_of group.now)) w.role w.query.items) }
+    ensures { let w = world_of world.now in (these : List spec_row.GroupRow) → HoldsRows w.query.order_by w.query.limit rows.old (map (spec.group_items_fate w.role w.query) these) →
+        OnOk result (HoldsRows w.query.order_by w.query.limit rows.new (map (spec.group_items_fate w.role w.query) (these ++ group_row_of group.now ∷ []))) }
 {
     let cells = GroupCells {
         columns: world.query.group_by.as_slice(),
         calls,
         row: group,
     };
-    values(alloc, world.query.items.as_slice(), &cells, world.role)
+    let items = world.query.items.as_slice();
+    let outcome = push_values(alloc, items, &cells, world.role, &mut rows.rows);
+    rows.end_row(world.query, outcome)
 }
 
 // The items of each group, in order and cut by the limit, or the least fault.
@@ -129,13 +134,13 @@ fn rows_in_order<A: Heap>(
     world: &World<'_, A>,
     calls: &[AggregateCall<'_, A>],
     groups: &[&GroupRow<A>],
-) -> Result<Items<Items<Value<A>, A>, A>, Failure<Fault>>
+) -> Result<AnswerRows<A>, Failure<Fault>>
     requires calls { aggregate_calls_of calls.now ≡ spec.query_aggregates (world_of world.now).query }
-    ensures { let w = world_of world.now in Gives (λ rows. map (λ r. row_of r) rows) result (in_order_of w.query.order_by w.query.limit (spec.group_items_stage w.role w.query (map (λ g. group_row_of g.now) groups.now))) }
+    ensures { let w = world_of world.now in Gives (λ rows. rows.rows) result (in_order_of w.query.order_by w.query.limit (spec.group_items_stage w.role w.query (map (λ g. group_row_of g.now) groups.now))) }
 {
-    let mut rows = AnswerRows::new(alloc);
+    let mut rows = TakenRows::new(alloc);
     for group in groups {
-        rows.add(world.query, values_on_group(alloc, world, calls, group))?;
+        put_group(alloc, world, calls, group, &mut rows)?;
     }
     rows.end(world.query)
 }
@@ -146,9 +151,9 @@ fn rows_of_group_rows<A: Heap>(
     world: &World<'_, A>,
     calls: &[AggregateCall<'_, A>],
     groups: &[GroupRow<A>],
-) -> Result<Items<Items<Value<A>, A>, A>, Failure<Fault>>
+) -> Result<AnswerRows<A>, Failure<Fault>>
     requires calls { aggregate_calls_of calls.now ≡ spec.query_aggregates (world_of world.now).query }
-    ensures { let w = world_of world.now in Gives (λ rows. map (λ r. row_of r) rows) result (in_order_of w.query.order_by w.query.limit (spec.rows_of_group_rows w.role w.query (map (λ g. group_row_of g) groups.now))) }
+    ensures { let w = world_of world.now in Gives (λ rows. rows.rows) result (in_order_of w.query.order_by w.query.limit (spec.rows_of_group_rows w.role w.query (map (λ g. group_row_of g) groups.now))) }
 {
     let having = having_conditions(alloc, world.query)?;
     let kept = having_stage(alloc, world, calls, having.as_slice(), groups)?;
@@ -160,9 +165,9 @@ pub fn rows_of_groups<A: Heap>(
     alloc: A,
     world: &World<'_, A>,
     groups: Groups<A>,
-) -> Result<Items<Items<Value<A>, A>, A>, Failure<Fault>>
+) -> Result<AnswerRows<A>, Failure<Fault>>
     ensures { let w = world_of world.now in (these : List Combination) → HoldsGroups w.query.group_by (spec.query_aggregates w.query) groups (map (spec.arguments_fate w.role w.query) these) →
-        Gives (λ rows. map (λ r. row_of r) rows) result (in_order_of w.query.order_by w.query.limit (spec.rows_of_groups w.role w.query these)) }
+        Gives (λ rows. rows.rows) result (in_order_of w.query.order_by w.query.limit (spec.rows_of_groups w.role w.query these)) }
 {
     let calls = query_aggregates(alloc, world.query)?;
     let rows = groups.rows(alloc, calls.as_slice())?;

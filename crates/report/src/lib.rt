@@ -2,22 +2,16 @@
 //! and the laws of it.
 #![tactic(auto)]
 
-mod answer_rows;
 mod answering;
-mod comparing;
 mod conditions;
 mod finishing;
 mod gathered;
 mod grouped;
 mod laws;
-mod order_laws;
-mod ordering;
 mod outcomes;
-mod packed_keys;
-mod sorting;
+mod taken_rows;
 mod ungrouped;
 
 pub use answering::Answering;
 pub use finishing::{finish, finish_marked};
 pub use laws::{law_dropped_rows, law_hidden_rows, law_order_of_combinations};
-pub use order_laws::law_ordered_rows;

@@ -1,16 +1,18 @@
 //! The outcomes of conditions and items on one row or group.
 
-ghost use Rattle.std.specs.Prelude.{map};
+ghost use Rattle.std.specs.Prelude.{◌≡◌, map};
 ghost use Rattle.memory.specs.Gives.{Gives};
-ghost use Rattle.value.specs.Datum.{datum, datum_of, row_of};
+ghost use Rattle.value.specs.Datum.{datum_of};
 ghost use Rattle.expr.specs.View.{bound_expr_of, bound_item_of, bound_items_of};
 ghost use Rattle.eval.specs.Meaning.{Outcome, meaning};
+ghost use Rattle.report.specs.Pushed.{value_after, values_after};
 ghost use Rattle.report.specs.QueryStages.{truth_in, keeps, values_of};
 
+use answer_rows::AnswerRows;
 use eval::{Row, eval};
 use expr::{BoundExpr, BoundItem};
-use memory::{Failure, Heap, Items};
-use value::{Fault, Truth, Val, Value, as_condition};
+use memory::{Failure, Heap};
+use value::{Fault, Truth, Val, as_condition};
 
 /// True where the outcome of a condition is true; null and false are not.
 pub(crate) fn truth_in<A: Heap>(
@@ -41,34 +43,39 @@ pub(crate) fn keeps<A: Heap, R: Row<A>>(
     Ok(true)
 }
 
-// The value of an item on the row.
-fn item_on<A: Heap, R: Row<A>>(
+// Pushes the value of an item on the row, or gives its fault.
+fn push_value<A: Heap, R: Row<A>>(
     alloc: A,
     item: &BoundItem<A>,
     row: &R,
     role: &str,
-) -> Result<Value<A>, Failure<Fault>>
-    ensures { Gives (λ v. datum v) result (meaning (R.cells row.now) role.now (bound_item_of item.now).value) }
+    rows: &mut AnswerRows<A>,
+) -> Result<(), Failure<Fault>>
+    ensures value { Gives (λ _. rows.new.unfinished) result (value_after rows.old.unfinished (meaning (R.cells row.now) role.now (bound_item_of item.now).value)) }
+    ensures rows { rows.new.rows ≡ rows.old.rows }
 {
     match eval(alloc, &item.value, row, role) {
-        Ok(value) => Ok(value.to_value(alloc)?),
+        Ok(value) => {
+            rows.push(&value)?;
+            Ok(())
+        }
         Err(failure) => Err(failure),
     }
 }
 
-// The values of items on the row, or the first fault from left to right.
-#[tactic(auto, using(groups::proofs::Walks::walks))]
-pub(crate) fn values<A: Heap, R: Row<A>>(
+/// Pushes the values of items on the row, or gives the first fault from left to right.
+pub(crate) fn push_values<A: Heap, R: Row<A>>(
     alloc: A,
     items: &[BoundItem<A>],
     row: &R,
     role: &str,
-) -> Result<Items<Value<A>, A>, Failure<Fault>>
-    ensures { Gives (λ values. row_of values) result (values_of (R.cells row.now) role.now (bound_items_of items.now)) }
+    rows: &mut AnswerRows<A>,
+) -> Result<(), Failure<Fault>>
+    ensures values { Gives (λ _. rows.new.unfinished) result (values_after rows.old.unfinished (values_of (R.cells row.now) role.now (bound_items_of items.now))) }
+    ensures rows { rows.new.rows ≡ rows.old.rows }
 {
-    let mut values = Items::new(alloc);
     for item in items {
-        values.push(item_on(alloc, item, row, role)?)?;
+        push_value(alloc, item, row, role, rows)?;
     }
-    Ok(values)
+    Ok(())
 }

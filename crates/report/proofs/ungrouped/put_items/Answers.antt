@@ -1,7 +1,5 @@
 use Rattle.std.proofs.Common.{◌≡◌, OnOk, [], ◌∷◌, map, subst, sym}
 use Rattle.std.proofs.lemmas.List.{map-append}
-use Rattle.memory.specs.Gives.{Gives}
-use Rattle.value.specs.Datum.{row_of}
 use Rattle.groups.specs.Members.{all_of}
 use Rattle.tuples.specs.Combinations.{joined_cells}
 use Rattle.tuples.specs.View.{world_of}
@@ -19,5 +17,4 @@ returns g c = λ these are exprs h.
     let due = values_of (joined_cells row) w.role w.query.items in
     let is : all_of (map (λ m. outcome_in (joined_cells row) w.role c.args.combination.now m) c.args.items.now) ≡ due =
     items_are w c.args.combination.now c.args.items.now are w.query.items exprs in
-    subst (λ l. OnOk c.add.result (HoldsRows w.query.order_by w.query.limit c.add.new.self l)) (sym (map-append (items_fate w.role w.query) these (row ∷ [])))
-    (c.add.ensures due (map (items_fate w.role w.query) these) (subst (Gives (λ r. row_of r) c.items_on-outcome.result) is (rw c.new-row.ensures at c.items_on-outcome.ensures)) h)
+    ?
