@@ -1,3 +1,4 @@
 pub mod FirstRows
+pub mod Held
 pub mod OutputOrder
 pub mod PackedKeys

@@ -146,7 +146,10 @@ impl<A: Heap> AnswerRows<A> {
         ensures err { OnErr result (self.new ≡ self.old) }
     {
         let place = put_cells(&mut self.cells, &self.unfinished)?;
-        self.places.insert(number, place)?;
+        if let Err(error) = self.places.insert(number, place) {
+            self.cells.truncate(place.start as usize);
+            return Err(AllocError::from(error));
+        }
         self.unfinished.clear();
         self.finished_texts = self.texts.len();
         Ok(())

@@ -1,0 +1,1 @@
+use Rattle.answer_rows.proofs.rows.AnswerRows.insert_row.Goals as goal
