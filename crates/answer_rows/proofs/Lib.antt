@@ -1,3 +1,4 @@
 pub mod FirstRows
 pub mod OutputOrder
 pub mod PackedKeys
+pub mod Words
