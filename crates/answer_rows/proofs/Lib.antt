@@ -2,3 +2,4 @@ pub mod FirstRows
 pub mod Held
 pub mod OutputOrder
 pub mod PackedKeys
+pub mod Words
