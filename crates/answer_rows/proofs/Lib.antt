@@ -1,3 +1,5 @@
 pub mod FirstRows
+pub mod Held
 pub mod OutputOrder
 pub mod PackedKeys
+pub mod Words

@@ -146,7 +146,10 @@ impl<A: Heap> AnswerRows<A> {
         ensures err { OnErr result (self.new ≡ self.old) }
     {
         let place = put_cells(&mut self.cells, &self.unfinished)?;
-        self.places.insert(number, place)?;
+        if let Err(error) = self.places.insert(number, place) {
+            self.cells.truncate(place.start as usize);
+            return Err(AllocError::from(error));
+        }
         self.unfinished.clear();
         self.finished_texts = self.texts.len();
         Ok(())
@@ -184,11 +187,10 @@ impl<A: Heap> AnswerRows<A> {
     pub fn copy(&self, alloc: A, start: usize, count: usize) -> Result<AnswerRows<A>, AllocError>
         ensures { IfOk result (λ copy. copy ≡ only (take count (drop start self.now.rows))) }
     {
-        let start = self.len().min(start);
-        let count = count.min(self.len() - start);
+        let len = count.min(self.len().saturating_sub(start));
         let mut copy = AnswerRows::new(alloc);
-        for number in start..start + count {
-            copy.push_row(&self.row(number))?;
+        for i in 0..len {
+            copy.push_row(&self.row(start + i))?;
         }
         Ok(copy)
     }
@@ -247,7 +249,8 @@ impl<A: Heap> AnswerRows<A> {
             return Ok(());
         };
         if self.cells.len() / MANY > first.len as usize {
-            *self = self.copy(*self.cells.allocator(), 0, self.places.len())?;
+            let copy = self.copy(*self.cells.allocator(), 0, self.places.len())?;
+            *self = copy;
         }
         Ok(())
     }
