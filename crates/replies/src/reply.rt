@@ -2,11 +2,12 @@
 
 ghost use Rattle.replies.specs.ReplyText.{NullFieldIsNull};
 
+use answer_rows::AnswerRows;
 use memory::{Heap, Items, Text};
-use value::{Fault, Refusal, Value};
+use value::{Fault, Refusal};
 
 /// The reply to a role's text.
-#[derive(Debug, Drop)]
+#[derive(Drop)]
 pub enum Reply<A: Heap> {
     /// The text is refused.
     Refused {
@@ -32,7 +33,7 @@ pub enum Reply<A: Heap> {
         /// The name of each column.
         headings: Items<Text<A>, A>,
         /// The rows in order, each with a value for each heading.
-        rows: Items<Items<Value<A>, A>, A>,
+        rows: AnswerRows<A>,
     },
 }
 

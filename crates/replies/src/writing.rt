@@ -2,7 +2,7 @@
 
 ghost use Rattle.std.specs.Prelude.{◌≡◌, ◌<◌, ◌≤◌, ◌++◌, ◌∷◌, None, IfSome, map, flat_map, length, take, drop};
 ghost use Rattle.std.specs.List.{list_any};
-ghost use Rattle.value.specs.Datum.{datum, row_of, text as text_datum};
+ghost use Rattle.value.specs.Datum.{datum_of, text as text_datum};
 ghost use Rattle.replies.specs.Buffered.{Puts};
 ghost use Rattle.replies.specs.Reply.{Refused as refused, Denied as denied, Faulted as faulted, Rows as answered};
 ghost use Rattle.replies.specs.ReplyText.{is_special, needs_quotes, doubled, quoted_text, field_text, line_text, reply_text};
@@ -10,10 +10,11 @@ ghost use Rattle.replies.specs.View.{reply_of};
 
 use crate::buffered::{put, put_all};
 use crate::reply::Reply;
+use answer_rows::{AnswerRow, AnswerRows};
 use itoa::Buffer;
-use memory::{Heap, Items, Text};
+use memory::{Heap, Text};
 use output::{Failed, Out};
-use value::{Fault, Refusal, Value};
+use value::{Fault, Refusal, Val};
 
 fn special(b: u8) -> bool
     ensures { result ≡ is_special b }
@@ -83,32 +84,32 @@ fn put_quoted<A: Heap, W: Out>(
 fn put_field<A: Heap, W: Out>(
     out: &mut W,
     buffer: &mut Vec<u8, A>,
-    value: &Value<A>,
+    value: &Val<'_, A>,
 ) -> Result<(), Failed>
-    ensures { Puts W.taken W.failures out.old out.new buffer.old.items buffer.new.items (field_text (datum value.now)) result }
+    ensures { Puts W.taken W.failures out.old out.new buffer.old.items buffer.new.items (field_text (datum_of value.now)) result }
 {
     match value {
-        Value::Null => put(out, buffer, b"\\N"),
-        Value::Int(n) => {
+        Val::Null => put(out, buffer, b"\\N"),
+        Val::Int(n) => {
             let mut digits = Buffer::new();
             put(out, buffer, digits.format(*n).as_bytes())
         }
-        Value::Text(text) => put_quoted(out, buffer, text.as_str().as_bytes()),
-        Value::Bool(true) => put(out, buffer, b"t"),
-        Value::Bool(false) => put(out, buffer, b"f"),
+        Val::Text(text) => put_quoted(out, buffer, text.as_str().as_bytes()),
+        Val::Bool(true) => put(out, buffer, b"t"),
+        Val::Bool(false) => put(out, buffer, b"f"),
     }
 }
 
 fn put_further_fields<A: Heap, W: Out>(
     out: &mut W,
     buffer: &mut Vec<u8, A>,
-    row: &[Value<A>],
+    row: &AnswerRow<'_, A>,
 ) -> Result<(), Failed>
-    ensures { Puts W.taken W.failures out.old out.new buffer.old.items buffer.new.items (flat_map (λ e. 44 ∷ field_text e) (row_of row.now)) result }
+    ensures { Puts W.taken W.failures out.old out.new buffer.old.items buffer.new.items (flat_map (λ e. 44 ∷ field_text e) row.now) result }
 {
-    for value in row {
+    for i in 0..row.len() {
         put(out, buffer, b",")?;
-        put_field(out, buffer, value)?;
+        put_field(out, buffer, &row.get(i))?;
     }
     Ok(())
 }
@@ -116,15 +117,15 @@ fn put_further_fields<A: Heap, W: Out>(
 fn put_line<A: Heap, W: Out>(
     out: &mut W,
     buffer: &mut Vec<u8, A>,
-    row: &[Value<A>],
+    row: &AnswerRow<'_, A>,
 ) -> Result<(), Failed>
-    ensures { Puts W.taken W.failures out.old out.new buffer.old.items buffer.new.items (line_text (row_of row.now)) result }
+    ensures { Puts W.taken W.failures out.old out.new buffer.old.items buffer.new.items (line_text row.now) result }
 {
     let Some((first, others)) = row.split_first() else {
         return put(out, buffer, b"\n");
     };
-    put_field(out, buffer, first)?;
-    put_further_fields(out, buffer, others)?;
+    put_field(out, buffer, &first)?;
+    put_further_fields(out, buffer, &others)?;
     put(out, buffer, b"\n")?;
     Ok(())
 }
@@ -162,12 +163,12 @@ fn put_header<A: Heap, W: Out>(
 fn put_rows<A: Heap, W: Out>(
     out: &mut W,
     buffer: &mut Vec<u8, A>,
-    rows: &[Items<Value<A>, A>],
+    rows: &AnswerRows<A>,
 ) -> Result<(), Failed>
-    ensures { Puts W.taken W.failures out.old out.new buffer.old.items buffer.new.items (flat_map line_text (map (λ r. row_of r) rows.now)) result }
+    ensures { Puts W.taken W.failures out.old out.new buffer.old.items buffer.new.items (flat_map line_text rows.now.rows) result }
 {
-    for row in rows {
-        put_line(out, buffer, row.as_slice())?;
+    for number in 0..rows.len() {
+        put_line(out, buffer, &rows.row(number))?;
     }
     Ok(())
 }
@@ -235,9 +236,9 @@ fn put_answer<A: Heap, W: Out>(
     out: &mut W,
     buffer: &mut Vec<u8, A>,
     headings: &[Text<A>],
-    rows: &[Items<Value<A>, A>],
+    rows: &AnswerRows<A>,
 ) -> Result<(), Failed>
-    ensures { Puts W.taken W.failures out.old out.new buffer.old.items buffer.new.items (reply_text (answered headings.now (map (λ r. row_of r) rows.now))) result }
+    ensures { Puts W.taken W.failures out.old out.new buffer.old.items buffer.new.items (reply_text (answered headings.now rows.now.rows)) result }
 {
     put_header(out, buffer, headings)?;
     put_rows(out, buffer, rows)?;
@@ -256,8 +257,6 @@ pub fn put_reply<A: Heap, W: Out>(
         Reply::Refused { code, offset } => put_refusal(out, buffer, *code, *offset),
         Reply::Denied { column, table } => put_denial(out, buffer, column, table.as_str()),
         Reply::Faulted { fault } => put_fault(out, buffer, *fault),
-        Reply::Rows { headings, rows } => {
-            put_answer(out, buffer, headings.as_slice(), rows.as_slice())
-        }
+        Reply::Rows { headings, rows } => put_answer(out, buffer, headings.as_slice(), rows),
     }
 }
