@@ -1,5 +1,6 @@
 use Rattle.std.proofs.Common.{◌≡◌, false, ap, arith, length, map, sym, take, ◌∙◌}
 use Rattle.std.proofs.lemmas.List.{length-map}
+use Rattle.std.proofs.lemmas.Result.{on_ok_weaker}
 use Rattle.answer_rows.specs.Growing.{only}
 use Rattle.answer_rows.specs.Ordered.{is_before_last}
 use Rattle.answer_rows.specs.View.{row_in}
@@ -24,5 +25,7 @@ returns g c = λ all is.
     let rows = c.args.self.now.rows in
     let number = c.number_in_order-number.result in
     let put = c.number_in_order-number.ensures.number (first_sorted keys c.args.n all rows is) in
-    let first = first_inserted keys c.args.n number row all rows is put in
-    ?
+    let inserted = c.in_ok-insert_row.ensures.ok in
+    let first = c.truncate.ensures.rows ∙ ap (λ s. take c.args.n s.rows) inserted ∙ first_inserted keys c.args.n number row all rows is put in
+    let none = c.truncate.ensures.unfinished ∙ ap (λ s. s.unfinished) inserted in
+    on_ok_weaker c.give_back.result (λ same. same ∙ (λ i. record { rows = first i; unfinished = none i })) c.give_back.ensures
