@@ -1,6 +1,6 @@
 -- The rows that cells hold.
 use Rattle.std.specs.Prelude.{ℕ, ◌+◌, ◌≤◌, ◌<◌, ◌≡◌, ◌++◌, ⊤, List, map, take, drop, length, All}
-use Rattle.value.specs.Datum.{Datum, null, int, text, bool, Row, cell}
+use Rattle.value.specs.Datum.{Datum, null, int, bool, Row, cell}
 use Rattle.answer_rows.specs.Growing.{Growing}
 use Rattle.answer_rows.specs.declared.cells.Cell.{Cell}
 use Rattle.answer_rows.specs.declared.cells.Cell.TheVariants as code
