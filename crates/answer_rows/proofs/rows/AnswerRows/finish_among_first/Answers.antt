@@ -1,4 +1,4 @@
-use Rattle.std.proofs.Common.{◌≡◌, false, ap, arith, length, map, sym, take, ◌∙◌}
+use Rattle.std.proofs.Common.{◌≡◌, false, ap, arith, length, sym, take, ◌∙◌}
 use Rattle.std.proofs.lemmas.List.{length-map}
 use Rattle.std.proofs.lemmas.Result.{on_ok_weaker}
 use Rattle.answer_rows.specs.Growing.{only}
