@@ -1,14 +1,16 @@
 -- Rows that stay the same where texts, cells and places are put after others or cut off.
-use Rattle.std.proofs.Common.{◌≡◌, ℕ, ◌+◌, ◌<◌, ◌≤◌, List, [], ◌∷◌, ◌++◌, length, map, take, drop, All, refl, sym, ap, ap₂, subst, ◌∙◌, arith, length-append}
+use Rattle.std.proofs.Common.{◌≡◌, ℕ, ◌-◌, ◌<◌, ◌≤◌, List, [], ◌∷◌, ◌++◌, length, get_or, map, take, drop, All, is_lt, refl, sym, ap, ap₂, subst, ◌∙◌, arith, length-append}
 use Rattle.std.specs.List.{insert}
-use Rattle.std.proofs.lemmas.List.{length-drop, get_or_append_left, get_or-take, map-append, take-append-le, drop-append-le, drop_at, take_all}
+use Rattle.std.proofs.lemmas.List.{length-drop, length-map, get_or-map, get_or_append_left, get_or-take, map-append, take-append-le, drop-append-le, drop_at, take_all}
 use Rattle.std.proofs.lemmas.List.Elements.{All-drop, All-head, All-push, All-tail, All-take, All-weaker}
-use Rattle.value.specs.Datum.{Datum, null, cell}
+use Rattle.value.specs.Datum.{Datum, Row, null, cell}
+use Rattle.expr.specs.declared.query.OutputKey.{OutputKey}
+use Rattle.answer_rows.specs.Ordered.{is_before_last, output_cmp}
 use Rattle.answer_rows.specs.View.{value_in, values_in, row_in, rows_in, IsAmong, IsPutIn, IsWithin}
 use Rattle.answer_rows.specs.declared.cells.Cell.{Cell}
 use Rattle.answer_rows.specs.declared.cells.Cell.TheVariants as code
 use Rattle.answer_rows.specs.declared.cells.Place.{Place}
-use Rattle.answer_rows.proofs.FirstRows.{map-insert}
+use Rattle.answer_rows.proofs.FirstRows.{last_is, map-insert}
 
 among_more : (m n : ℕ) (c : Cell) → m ≤ n → IsAmong m c → IsAmong n c
 among_more m n code.Null le h = tt
@@ -84,3 +86,13 @@ module _ (texts : List Datum) (cells more : List Cell) where
 
     pub rows_put : (places : List Place) (number : ℕ) → All (IsWithin (length cells)) places → rows_in texts (cells ++ more) (insert places number place) ≡ insert (rows_in texts cells places) number (values_in texts more)
     rows_put places number all = map-insert (row_in texts (cells ++ more)) places number place ∙ ap₂ (λ l r. insert l number r) (rows_cells places all) row_put
+
+-- ---- the last row
+
+pub last_place : (keys : List OutputKey) (view : Place → Row) (row : Row) (places : List Place) (last : Place) → 0 < length places → last ≡ get_or places (length places - 1) last → is_lt (output_cmp keys row (view last)) ≡ is_before_last keys row (map view places)
+last_place keys view row places last some is =
+    let as_many = length-map places view in
+    ap (λ p. is_lt (output_cmp keys row (view p))) is
+    ∙ ap (λ r. is_lt (output_cmp keys row r)) (sym (get_or-map view places (length places - 1) last (view last) (omega (arith, some))))
+    ∙ ap (λ n. is_lt (output_cmp keys row (get_or (map view places) (n - 1) (view last)))) (sym as_many)
+    ∙ last_is keys row (map view places) (view last) (omega (arith, some, as_many))

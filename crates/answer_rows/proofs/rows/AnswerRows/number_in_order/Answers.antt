@@ -15,5 +15,5 @@ returns-clause-number g c =
     let row = c.unfinished_row-row.result in
     let places = c.deref.result.now in
     rw (← c.unfinished_row-row.ensures, ← c.self.view_is, ← c.as_slice-cells.ensures.value, ← c.deref.ensures.value) (λ sorted.
-        let point = IsPartitionPoint-from_clause (λ p. is_lt (cmp (view p) row)) places c.partition_point.result c.partition_point.ensures.partitioned (parts cmp total view row places (ascends_from_sorted cmp total _ sorted)) (λ a r f' k. search rules) in
-        inserted cmp total view row places c.partition_point.result point c.partition_point.ensures.bound)
+    let point = IsPartitionPoint-from_clause (λ p. is_lt (cmp (view p) row)) places c.partition_point.result c.partition_point.ensures.partitioned (parts cmp total view row places (ascends_from_sorted cmp total _ sorted)) (λ a r f' k. search rules) in
+    inserted cmp total view row places c.partition_point.result point c.partition_point.ensures.bound)
