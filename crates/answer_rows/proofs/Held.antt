@@ -1,14 +1,16 @@
 -- Rows that stay the same where texts, cells and places are put after others or cut off.
-use Rattle.std.proofs.Common.{◌≡◌, ℕ, ◌+◌, ◌<◌, ◌≤◌, List, [], ◌∷◌, ◌++◌, length, map, take, drop, get_or, All, refl, sym, ap, ap₂, subst, ◌∙◌, arith, length-append}
+use Rattle.std.proofs.Common.{◌≡◌, ℕ, ◌-◌, ◌<◌, ◌≤◌, List, [], ◌∷◌, ◌++◌, length, get_or, map, take, drop, All, is_lt, refl, sym, ap, ap₂, subst, ◌∙◌, arith, length-append}
 use Rattle.std.specs.List.{insert}
-use Rattle.std.proofs.lemmas.List.{length-drop, get_or_append_left, get_or-take, map-append, take-append-le, drop-append-le, drop_at, take_all}
-use Rattle.std.proofs.lemmas.List.Elements.{All-append, All-cons, All-drop, All-head, All-push, All-tail, All-take, All-weaker}
-use Rattle.value.specs.Datum.{Datum, null, cell}
+use Rattle.std.proofs.lemmas.List.{length-drop, length-map, get_or-map, get_or_append_left, get_or-take, map-append, take-append-le, drop-append-le, drop_at, take_all}
+use Rattle.std.proofs.lemmas.List.Elements.{All-drop, All-head, All-push, All-tail, All-take, All-weaker}
+use Rattle.value.specs.Datum.{Datum, Row, null, cell}
+use Rattle.expr.specs.declared.query.OutputKey.{OutputKey}
+use Rattle.answer_rows.specs.Ordered.{is_before_last, output_cmp}
 use Rattle.answer_rows.specs.View.{value_in, values_in, row_in, rows_in, IsAmong, IsPutIn, IsWithin}
 use Rattle.answer_rows.specs.declared.cells.Cell.{Cell}
 use Rattle.answer_rows.specs.declared.cells.Cell.TheVariants as code
 use Rattle.answer_rows.specs.declared.cells.Place.{Place}
-use Rattle.answer_rows.proofs.FirstRows.{map-insert}
+use Rattle.answer_rows.proofs.FirstRows.{last_is, map-insert}
 
 among_more : (m n : ℕ) (c : Cell) → m ≤ n → IsAmong m c → IsAmong n c
 among_more m n code.Null le h = tt
@@ -16,14 +18,8 @@ among_more m n (code.Int k) le h = tt
 among_more m n (code.Text i) le h = omega arith
 among_more m n (code.Bool b) le h = tt
 
-pub all_among_more : (m n : ℕ) (cells : List Cell) → m ≤ n → All (IsAmong m) cells → All (IsAmong n) cells
+all_among_more : (m n : ℕ) (cells : List Cell) → m ≤ n → All (IsAmong m) cells → All (IsAmong n) cells
 all_among_more m n cells le all = All-weaker (IsAmong m) (IsAmong n) (λ c h. among_more m n c le h) cells all
-
-pub all_within_more : (m n : ℕ) (places : List Place) → m ≤ n → All (IsWithin m) places → All (IsWithin n) places
-all_within_more m n places le all = All-weaker (IsWithin m) (IsWithin n) (λ p h. omega arith) places all
-
-pub all_insert : {X : Type 0} (P : X → Type 0) (xs : List X) (i : ℕ) (x : X) → All P xs → P x → All P (insert xs i x)
-all_insert P xs i x all p = All-append P (take i xs) (x ∷ drop i xs) (All-take P i xs all) (All-cons P x (drop i xs) p (All-drop P i xs all))
 
 -- ---- texts
 
@@ -79,7 +75,7 @@ module _ (texts : List Datum) (cells more : List Cell) where
       ∙ ap (values_in texts) (take-append-le place.len (drop place.start cells) more (omega (arith, length-drop place.start cells)))
 
   -- where cells are put after others
-  pub rows_cells : (places : List Place) → All (IsWithin (length cells)) places → rows_in texts (cells ++ more) places ≡ rows_in texts cells places
+  rows_cells : (places : List Place) → All (IsWithin (length cells)) places → rows_in texts (cells ++ more) places ≡ rows_in texts cells places
   rows_cells [] all = refl
   rows_cells (p ∷ places) all = ap₂ (λ r rs. r ∷ rs) (row_cells p (All-head (IsWithin (length cells)) p places all)) (rows_cells places (All-tail (IsWithin (length cells)) p places all))
 
@@ -88,13 +84,15 @@ module _ (texts : List Datum) (cells more : List Cell) where
     row_put : row_in texts (cells ++ more) place ≡ values_in texts more
     row_put = ap (λ l. values_in texts (take place.len l)) (drop_at cells more place.start (sym start)) ∙ ap (values_in texts) (take_all place.len more (omega (arith, len)))
 
-    pub place_put : (places : List Place) (number : ℕ) → All (IsWithin (length cells)) places → All (IsWithin (length (cells ++ more))) (insert places number place)
-    place_put places number all =
-        let many = length-append cells more in
-        all_insert (IsWithin (length (cells ++ more))) places number place (all_within_more (length cells) (length (cells ++ more)) places (omega (arith, many)) all) (omega (arith, start, len, many))
-
     pub rows_put : (places : List Place) (number : ℕ) → All (IsWithin (length cells)) places → rows_in texts (cells ++ more) (insert places number place) ≡ insert (rows_in texts cells places) number (values_in texts more)
     rows_put places number all = map-insert (row_in texts (cells ++ more)) places number place ∙ ap₂ (λ l r. insert l number r) (rows_cells places all) row_put
 
-pub all_cells : (n m : ℕ) (cells more cells' : List Cell) → n ≤ m → cells' ≡ cells ++ more → All (IsAmong n) cells → All (IsAmong m) more → All (IsAmong m) cells'
-all_cells n m cells more cells' le is all all_more = subst (All (IsAmong m)) (sym is) (All-append (IsAmong m) cells more (all_among_more n m cells le all) all_more)
+-- ---- the last row
+
+pub last_place : (keys : List OutputKey) (view : Place → Row) (row : Row) (places : List Place) (last : Place) → 0 < length places → last ≡ get_or places (length places - 1) last → is_lt (output_cmp keys row (view last)) ≡ is_before_last keys row (map view places)
+last_place keys view row places last some is =
+    let as_many = length-map places view in
+    ap (λ p. is_lt (output_cmp keys row (view p))) is
+    ∙ ap (λ r. is_lt (output_cmp keys row r)) (sym (get_or-map view places (length places - 1) last (view last) (omega (arith, some))))
+    ∙ ap (λ n. is_lt (output_cmp keys row (get_or (map view places) (n - 1) (view last)))) (sym as_many)
+    ∙ last_is keys row (map view places) (view last) (omega (arith, some, as_many))
