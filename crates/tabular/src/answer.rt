@@ -2,7 +2,7 @@
 
 ghost use Rattle.std.specs.Prelude.{◌≡◌, IfOk, false, map};
 ghost use Rattle.std.specs.List.{list_any};
-ghost use Rattle.value.specs.Datum.{cell, datum, int, row_of};
+ghost use Rattle.value.specs.Datum.{cell, datum_of, int};
 ghost use Rattle.replies.specs.View.{reply_of};
 ghost use Rattle.tabular.specs.Cells as cells;
 ghost use Rattle.tabular.specs.ReplyTables as spec;
@@ -11,11 +11,12 @@ ghost use Rattle.tabular.specs.Tables.{table_text};
 
 use crate::cells::shown;
 use crate::lines::table_text;
+use answer_rows::{AnswerRow, AnswerRows};
 use itoa::Buffer;
 use memory::{Heap, Items, Text};
 use replies::{Reply, reply_text};
 use std::alloc::AllocError;
-use value::Value;
+use value::Val;
 
 fn number_cell<A: Heap>(alloc: A, n: i64) -> Result<Text<A>, AllocError>
     ensures { IfOk result (λ made. made ≡ cell_of (int n)) }
@@ -24,37 +25,37 @@ fn number_cell<A: Heap>(alloc: A, n: i64) -> Result<Text<A>, AllocError>
     Text::new(alloc, buffer.format(n))
 }
 
-fn value_cell<A: Heap>(alloc: A, value: &Value<A>) -> Result<Text<A>, AllocError>
-    ensures { IfOk result (λ made. made ≡ cell_of (datum value.now)) }
+fn value_cell<A: Heap>(alloc: A, value: &Val<'_, A>) -> Result<Text<A>, AllocError>
+    ensures { IfOk result (λ made. made ≡ cell_of (datum_of value.now)) }
 {
     match value {
-        Value::Null => Text::new(alloc, "\\N"),
-        Value::Int(n) => number_cell(alloc, *n),
-        Value::Text(text) => shown(alloc, text.as_str()),
-        Value::Bool(true) => Text::new(alloc, "t"),
-        Value::Bool(false) => Text::new(alloc, "f"),
+        Val::Null => Text::new(alloc, "\\N"),
+        Val::Int(n) => number_cell(alloc, *n),
+        Val::Text(text) => shown(alloc, text.as_str()),
+        Val::Bool(true) => Text::new(alloc, "t"),
+        Val::Bool(false) => Text::new(alloc, "f"),
     }
 }
 
-fn row_cells<A: Heap>(alloc: A, row: &[Value<A>]) -> Result<Items<Text<A>, A>, AllocError>
-    ensures { IfOk result (λ cells. cells ≡ cells_of (row_of row.now)) }
+fn row_cells<A: Heap>(alloc: A, row: &AnswerRow<'_, A>) -> Result<Items<Text<A>, A>, AllocError>
+    ensures { IfOk result (λ cells. cells ≡ cells_of row.now) }
 {
     let mut cells = Items::new(alloc);
-    for value in row {
-        cells.push(value_cell(alloc, value)?)?;
+    for i in 0..row.len() {
+        cells.push(value_cell(alloc, &row.get(i))?)?;
     }
     Ok(cells)
 }
 
 fn all_cells<A: Heap>(
     alloc: A,
-    rows: &[Items<Value<A>, A>],
+    rows: &AnswerRows<A>,
 ) -> Result<Items<Items<Text<A>, A>, A>, AllocError>
-    ensures { IfOk result (λ cells. cells ≡ map cells_of (map (λ r. row_of r) rows.now)) }
+    ensures { IfOk result (λ cells. cells ≡ map cells_of rows.now.rows) }
 {
     let mut cells = Items::new(alloc);
-    for row in rows {
-        cells.push(row_cells(alloc, row.as_slice())?)?;
+    for number in 0..rows.len() {
+        cells.push(row_cells(alloc, &rows.row(number))?)?;
     }
     Ok(cells)
 }
@@ -69,20 +70,20 @@ fn heading_cells<A: Heap>(alloc: A, headings: &[Text<A>]) -> Result<Items<Text<A
     Ok(made)
 }
 
-fn is_number<A: Heap>(row: &[Value<A>], j: usize) -> bool
-    ensures { result ≡ is_number (cell (row_of row.now) j) }
+fn is_number<A: Heap>(row: &AnswerRow<'_, A>, j: usize) -> bool
+    ensures { result ≡ is_number (cell row.now j) }
 {
     match row.get(j) {
-        Some(Value::Int(_)) => true,
+        Val::Int(_) => true,
         _ => false,
     }
 }
 
-fn has_number<A: Heap>(rows: &[Items<Value<A>, A>], j: usize) -> bool
-    ensures { result ≡ has_number j (map (λ r. row_of r) rows.now) }
+fn has_number<A: Heap>(rows: &AnswerRows<A>, j: usize) -> bool
+    ensures { result ≡ has_number j rows.now.rows }
 {
-    for row in rows {
-        if is_number(row.as_slice(), j) {
+    for number in 0..rows.len() {
+        if is_number(&rows.row(number), j) {
             return true;
         }
     }
@@ -92,9 +93,9 @@ fn has_number<A: Heap>(rows: &[Items<Value<A>, A>], j: usize) -> bool
 fn sides<A: Heap>(
     alloc: A,
     headings: &[Text<A>],
-    rows: &[Items<Value<A>, A>],
+    rows: &AnswerRows<A>,
 ) -> Result<Vec<bool, A>, AllocError>
-    ensures { IfOk result (λ sides. sides.items ≡ sides_from 0 headings.now (map (λ r. row_of r) rows.now)) }
+    ensures { IfOk result (λ sides. sides.items ≡ sides_from 0 headings.now rows.now.rows) }
 {
     let mut sides = Vec::new(alloc);
     for j in 0..headings.len() {
@@ -106,9 +107,9 @@ fn sides<A: Heap>(
 fn rows_table<A: Heap>(
     alloc: A,
     headings: &[Text<A>],
-    rows: &[Items<Value<A>, A>],
+    rows: &AnswerRows<A>,
 ) -> Result<Vec<u8, A>, AllocError>
-    ensures { IfOk result (λ text. text.items ≡ table_text (map cells.shown headings.now) (sides_from 0 headings.now (map (λ r. row_of r) rows.now)) (map cells_of (map (λ r. row_of r) rows.now))) }
+    ensures { IfOk result (λ text. text.items ≡ table_text (map cells.shown headings.now) (sides_from 0 headings.now rows.now.rows) (map cells_of rows.now.rows)) }
 {
     let sides = sides(alloc, headings, rows)?;
     let cells = all_cells(alloc, rows)?;
@@ -122,7 +123,7 @@ pub fn reply_table<A: Heap>(alloc: A, reply: &Reply<A>) -> Result<Vec<u8, A>, Al
     ensures { IfOk result (λ text. text.items ≡ spec.reply_table (reply_of reply.now)) }
 {
     match reply {
-        Reply::Rows { headings, rows } => rows_table(alloc, headings.as_slice(), rows.as_slice()),
+        Reply::Rows { headings, rows } => rows_table(alloc, headings.as_slice(), rows),
         _ => reply_text(alloc, reply),
     }
 }
