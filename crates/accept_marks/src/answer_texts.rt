@@ -1,51 +1,47 @@
 //! Answers as texts.
 
-use memory::{Failure, Items};
+use answer_rows::{AnswerRow, AnswerRows};
+use memory::Failure;
 use replies::Reply;
 use std::alloc::{AllocError, Global};
-use value::{Fault, Value};
+use value::{Fault, Val};
 
 /// The rows of an answer, or its fault.
-pub type Answer = Result<Items<Items<Value<Global>, Global>, Global>, Failure<Fault>>;
+pub type Answer = Result<AnswerRows<Global>, Failure<Fault>>;
 
-fn push_value(text: &mut String, value: &Value<Global>) -> Result<(), AllocError> {
+/// Writes a value at the end of a text.
+pub fn push_value(text: &mut String, value: &Val<'_, Global>) -> Result<(), AllocError> {
     match value {
-        Value::Null => text.push_str("\\N"),
-        Value::Int(number) => write!(text, "{number}"),
-        Value::Text(word) => text.push_str(word.as_str()),
-        Value::Bool(true) => text.push_str("t"),
-        Value::Bool(false) => text.push_str("f"),
+        Val::Null => text.push_str("\\N"),
+        Val::Int(number) => write!(text, "{number}"),
+        Val::Text(word) => text.push_str(word.as_str()),
+        Val::Bool(true) => text.push_str("t"),
+        Val::Bool(false) => text.push_str("f"),
     }
 }
 
-/// Values with a comma between two.
-pub fn line(alloc: Global, values: &[Value<Global>]) -> Result<String, AllocError> {
+// The values of a row with a comma between two.
+fn line(alloc: Global, row: &AnswerRow<'_, Global>) -> Result<String, AllocError> {
     let mut text = String::new(alloc);
-    for (i, value) in values.iter().enumerate() {
+    for i in 0..row.len() {
         if i > 0 {
             text.push_str(",")?;
         }
-        push_value(&mut text, value)?;
+        push_value(&mut text, &row.get(i))?;
     }
     Ok(text)
 }
 
-fn lines(
-    alloc: Global,
-    rows: &[Items<Value<Global>, Global>],
-) -> Result<Vec<String, Global>, AllocError> {
+fn lines(alloc: Global, rows: &AnswerRows<Global>) -> Result<Vec<String, Global>, AllocError> {
     let mut lines = Vec::new(alloc);
-    for row in rows {
-        lines.push(line(alloc, row.as_slice())?)?;
+    for number in 0..rows.len() {
+        lines.push(line(alloc, &rows.row(number))?)?;
     }
     Ok(lines)
 }
 
 // The rows as lines, in the order of their texts.
-fn sorted_lines(
-    alloc: Global,
-    rows: &[Items<Value<Global>, Global>],
-) -> Result<String, AllocError> {
+fn sorted_lines(alloc: Global, rows: &AnswerRows<Global>) -> Result<String, AllocError> {
     let mut lines = lines(alloc, rows)?;
     lines.sort_unstable_by(|one, other| one.as_str().cmp(other.as_str()));
     let mut text = String::new(alloc);
@@ -58,7 +54,7 @@ fn sorted_lines(
 /// An answer, its rows in the order of their texts.
 pub fn answer_text(alloc: Global, answer: Answer) -> Result<String, AllocError> {
     match answer {
-        Ok(rows) => sorted_lines(alloc, rows.as_slice()),
+        Ok(rows) => sorted_lines(alloc, &rows),
         Err(Failure::Error(fault)) => {
             format!(in alloc; "fault {} at {}", fault.kind.code(), fault.offset)
         }

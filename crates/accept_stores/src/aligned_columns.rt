@@ -1,11 +1,13 @@
 //! The rows of a reply as a table, against those of psql 15 with `\pset null '\\N'`.
 
+use answer_rows::AnswerRows;
 use memory::{Items, Text};
 use replies::Reply;
 use std::alloc::{AllocError, Global};
+use std::borrow::CowStr;
 use std::process::Abort;
 use tabular::{reply_table, shown};
-use value::{Refusal, Value};
+use value::{Refusal, Val};
 
 fn texts(alloc: Global, words: &[&str]) -> Result<Items<Text<Global>, Global>, AllocError> {
     let mut all = Items::new(alloc);
@@ -16,24 +18,23 @@ fn texts(alloc: Global, words: &[&str]) -> Result<Items<Text<Global>, Global>, A
 }
 
 // `null` is null, `true` and `false` are truth values, digits are a number.
-fn value_of(alloc: Global, word: &str) -> Result<Value<Global>, AllocError> {
-    Ok(match word {
-        "null" => Value::Null,
-        "true" => Value::Bool(true),
-        "false" => Value::Bool(false),
+fn value_of(word: &str) -> Val<'_, Global> {
+    match word {
+        "null" => Val::Null,
+        "true" => Val::Bool(true),
+        "false" => Val::Bool(false),
         _ => match word.parse::<i64>() {
-            Ok(n) => Value::Int(n),
-            Err(_) => Value::Text(Text::new(alloc, word)?),
+            Ok(n) => Val::Int(n),
+            Err(_) => Val::Text(CowStr::Borrowed(word)),
         },
-    })
+    }
 }
 
-fn row(alloc: Global, words: &[&str]) -> Result<Items<Value<Global>, Global>, AllocError> {
-    let mut all = Items::new(alloc);
+fn push_row(rows: &mut AnswerRows<Global>, words: &[&str]) -> Result<(), AllocError> {
     for word in words {
-        all.push(value_of(alloc, word)?)?;
+        rows.push(&value_of(word))?;
     }
-    Ok(all)
+    rows.finish_row()
 }
 
 fn table(
@@ -41,9 +42,9 @@ fn table(
     headings: &[&str],
     given: &[&[&str]],
 ) -> Result<Vec<u8, Global>, AllocError> {
-    let mut rows = Items::new(alloc);
+    let mut rows = AnswerRows::new(alloc);
     for words in given {
-        rows.push(row(alloc, words)?)?;
+        push_row(&mut rows, words)?;
     }
     let headings = texts(alloc, headings)?;
     reply_table(alloc, &Reply::Rows { headings, rows })

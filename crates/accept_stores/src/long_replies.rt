@@ -1,15 +1,17 @@
 //! Replies that are longer than what is written at once.
 
+use answer_rows::AnswerRows;
 use memory::{Heap, Items, Text};
 use metered::Metered;
 use output::Output;
 use replies::{Reply, reply_text, write_reply};
 use std::alloc::{AllocError, Global};
+use std::borrow::CowStr;
 use std::io;
 use std::io::{ErrorKind, Write};
 use std::process::Abort;
 use std::test::Fail;
-use value::Value;
+use value::Val;
 
 // Rows with one text, which is a part so many times; how the part is written, and what stands before and after the field.
 #[derive(Clone, Copy)]
@@ -107,23 +109,21 @@ fn repeated(alloc: Global, part: &str, times: usize) -> Result<String, AllocErro
 }
 
 // A row of a number, null and a text.
-fn row_of<A: Heap>(alloc: A, number: i64, text: &str) -> Result<Items<Value<A>, A>, AllocError> {
-    let mut row = Items::new(alloc);
-    row.push(Value::Int(number))?;
-    row.push(Value::Null)?;
-    row.push(Value::Text(Text::new(alloc, text)?))?;
-    Ok(row)
+fn push_row<A: Heap>(rows: &mut AnswerRows<A>, number: i64, text: &str) -> Result<(), AllocError> {
+    rows.push(&Val::Int(number))?;
+    rows.push(&Val::Null)?;
+    rows.push(&Val::Text(CowStr::Borrowed(text)))?;
+    rows.finish_row()
 }
 
 fn push_rows<A: Heap>(
     rt: &(impl Abort + AllocGlobal),
-    alloc: A,
-    rows: &mut Items<Items<Value<A>, A>, A>,
+    rows: &mut AnswerRows<A>,
     many: Many,
 ) -> Result<(), AllocError> {
     let text = repeated(rt.alloc(), many.part, many.times)?;
     for number in 0..many.rows {
-        rows.push(row_of(alloc, number, text.as_str())?)?;
+        push_row(rows, number, text.as_str())?;
     }
     Ok(())
 }
@@ -133,9 +133,9 @@ fn reply_of<A: Heap>(rt: &(impl Abort + AllocGlobal), alloc: A) -> Result<Reply<
     headings.push(Text::new(alloc, "id")?)?;
     headings.push(Text::new(alloc, "x,y")?)?;
     headings.push(Text::new(alloc, "text")?)?;
-    let mut rows = Items::new(alloc);
+    let mut rows = AnswerRows::new(alloc);
     for many in &ROWS {
-        push_rows(rt, alloc, &mut rows, *many)?;
+        push_rows(rt, &mut rows, *many)?;
     }
     Ok(Reply::Rows { headings, rows })
 }

@@ -1,7 +1,6 @@
 -- A session at its index.
-use Rattle.std.proofs.Common.{◌≡◌, ℕ, ◌-◌, List, drop, length, map, min, set, take, get_or, nat_eq, true, Option, Some, None, Result, Ok, Err, refl, sym, ap, ◌∙◌}
-use Rattle.std.proofs.lemmas.List.{drop-map, set-get_or, take_min, take_rest}
-use Rattle.std.specs.List.{take-map}
+use Rattle.std.proofs.Common.{◌≡◌, ℕ, ◌-◌, List, drop, length, min, set, take, get_or, nat_eq, true, Option, Some, None, Result, Ok, Err, refl, sym, ap, ◌∙◌}
+use Rattle.std.proofs.lemmas.List.{length-drop, set-get_or, take_min}
 use Rattle.std.specs.List.{position_from, remove}
 use Rattle.std.specs.Map.{lookup, remove_entry, set_value}
 use Rattle.std.specs.Result.{IfOk, OnOk}
@@ -71,9 +70,9 @@ changes s n text x known database (Err e) h = ap (λ d. record s { database = d 
 
 -- ---- fetches
 
--- the next of the rows, as f sees them
-pub next_seen : {X Z : Type 0} (f : X → Z) (all shown : List X) (k n m : ℕ) → shown ≡ all → m ≡ min n (length (take (length shown - k) (drop k shown))) → map f (take m (take (length shown - k) (drop k shown))) ≡ take n (drop k (map f all))
-next_seen f all shown k n m same is = rw (is, same, take_rest all k, take_min n (drop k all), drop-map f k all, take-map f n (drop k all)) refl
+-- the next of the rows, at most as many as are left
+pub next_taken : {X : Type 0} (all : List X) (k n m : ℕ) → m ≡ min n (length all - k) → take m (drop k all) ≡ take n (drop k all)
+next_taken all k n m is = rw (is, ← length-drop k all) (take_min n (drop k all))
 
 pub both_ok : {X E Q : Type 0} (r : Result X E) (P R : X → Type 0) → IfOk r P → OnOk r Q → ((x : X) → P x → Q → R x) → IfOk r R
 both_ok (Ok x) P R p q f = f x p q

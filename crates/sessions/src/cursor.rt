@@ -1,42 +1,40 @@
 //! Cursors.
 
-ghost use Rattle.std.specs.Prelude.{◌≡◌, IfOk, OnErr, OnOk, map};
-ghost use Rattle.value.specs.Datum.{row_of};
+ghost use Rattle.std.specs.Prelude.{◌≡◌, IfOk, OnErr, OnOk};
 ghost use Rattle.replies.specs.Reply.{Rows as rows_reply};
 ghost use Rattle.replies.specs.View.{reply_of};
 ghost use Rattle.sessions.specs.State.{advanced, new_cursor, next_rows};
 
-use crate::copies::{copy_rows, copy_texts};
+use crate::copies::copy_texts;
+use answer_rows::AnswerRows;
 use memory::{Heap, Items, Text};
 use replies::Reply;
 use std::alloc::AllocError;
 use std::marker::Model;
-use value::Value;
 
 /// An answer as it was when the cursor was declared, and how many of its rows were fetched.
 #[derive(Drop)]
 pub struct Cursor<A: Heap> {
     headings: Items<Text<A>, A>,
-    rows: Items<Items<Value<A>, A>, A>,
+    rows: AnswerRows<A>,
     fetched: usize,
 }
 
 impl<A: Heap> Model for Cursor<A> {
-    ghost use Rattle.std.specs.Prelude.{◌≤◌, length, map};
-    ghost use Rattle.value.specs.Datum.{row_of};
+    ghost use Rattle.std.specs.Prelude.{◌≤◌, length};
     ghost use Rattle.sessions.specs.State as spec;
 
     ghost Value = { spec.Cursor };
 
-    ghost view = { λ c. record { headings = c.headings; rows = map (λ r. row_of r) c.rows; fetched = c.fetched } };
+    ghost view = { λ c. record { headings = c.headings; rows = c.rows.rows; fetched = c.fetched } };
 
-    ghost invariant = { λ c. c.fetched ≤ length c.rows };
+    ghost invariant = { λ c. c.fetched ≤ length c.rows.rows };
 }
 
 impl<A: Heap> Cursor<A> {
     /// A cursor of which nothing was fetched.
-    pub(crate) fn new(headings: Items<Text<A>, A>, rows: Items<Items<Value<A>, A>, A>) -> Cursor<A>
-        ensures { result ≡ new_cursor headings (map (λ r. row_of r) rows) }
+    pub(crate) fn new(headings: Items<Text<A>, A>, rows: AnswerRows<A>) -> Cursor<A>
+        ensures { result ≡ new_cursor headings rows.rows }
     {
         Cursor {
             headings,
@@ -51,9 +49,9 @@ impl<A: Heap> Cursor<A> {
         ensures advanced { OnOk result (self.new ≡ advanced self.old count) }
         ensures unchanged { OnErr result (self.new ≡ self.old) }
     {
-        let rest = &self.rows.as_slice()[self.fetched..];
-        let count = count.min(rest.len() as u64) as usize;
-        let rows = copy_rows(alloc, &rest[..count])?;
+        let left = self.rows.len() - self.fetched;
+        let count = count.min(left as u64) as usize;
+        let rows = self.rows.copy(alloc, self.fetched, count)?;
         let headings = copy_texts(alloc, self.headings.as_slice())?;
         self.fetched += count;
         Ok(Reply::Rows { headings, rows })

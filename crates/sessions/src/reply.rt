@@ -11,7 +11,7 @@ use tables::LoadError;
 use value::Refusal;
 
 /// The reply to an event.
-#[derive(Debug, Drop)]
+#[derive(Drop)]
 pub enum Reply<A: Heap> {
     /// A refusal, a denial, a fault or rows.
     Engine {
