@@ -9,11 +9,11 @@ use Rattle.value.specs.declared.faults.Fault.{Fault}
 use Rattle.eval.specs.Meaning.{Outcome}
 use Rattle.report.specs.Pushed.{value_after, values_after}
 
-row_or : Row → Result Row Fault → Row
+abbrev row_or : Row → Result Row Fault → Row
 row_or other (Ok row) = row
 row_or other (Err fault) = other
 
-is_row : Result Row Fault → Bool
+abbrev is_row : Result Row Fault → Bool
 is_row (Ok row) = true
 is_row (Err fault) = false
 

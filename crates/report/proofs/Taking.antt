@@ -1,7 +1,7 @@
 -- What is held, with one more outcome or combination, and the answer from it.
 use Rattle.std.proofs.Common.{◌≡◌, ℕ, ◌+◌, ◌<◌, Bool, true, false, List, [], ◌∷◌, ◌++◌, length, get_or, map, take, refl, sym, ap, ap₂, ◌∙◌, subst, Result, Ok, Err, Option, Some, None, OnOk, option_to_list, Vec}
 use Rattle.std.proofs.lemmas.List.{append-nil, map-append, take_more}
-use Rattle.memory.specs.Gives.{IsFailure}
+use Rattle.memory.specs.Gives.{Gives, IsFailure}
 use Rattle.memory.specs.Results.{and_then}
 use Rattle.memory.proofs.Cases.{some_is_not}
 use Rattle.memory.specs.declared.failure.Failure.{Failure}
@@ -29,7 +29,7 @@ use Rattle.groups.specs.Members.{Member, arguments, key_on, member_on, with_key}
 use Rattle.groups.specs.Running.{finished_rows, put_running, running_groups}
 use Rattle.groups.specs.Taking.{Takes, rows_of, totals_in}
 use Rattle.groups.proofs.ClassLaws.{rows_finished, totals_more}
-use Rattle.answer_rows.specs.Growing.{only}
+use Rattle.answer_rows.specs.Growing.{Growing, only}
 use Rattle.tuples.specs.Combinations.{Combination, joined_cells}
 use Rattle.tuples.specs.View.{world_of}
 use Rattle.tuples.specs.World.{World, combination_at}
@@ -42,8 +42,9 @@ use Rattle.report.specs.declared.taken_rows.TakenRows.{TakenRows}
 use Rattle.report.specs.declared.answering.Answering.{Answering}
 use Rattle.report.specs.declared.gathered.Gathered.{Gathered}
 use Rattle.report.specs.Answer.{answer, rows_of_kept}
-use Rattle.report.specs.Answering.{Gathers, HoldsGroups, HoldsRows, Took, all_given, least_fault}
+use Rattle.report.specs.Answering.{Gathers, HasPushed, HoldsGroups, HoldsRows, Took, all_given, least_fault}
 use Rattle.report.specs.Held.{held}
+use Rattle.report.specs.Pushed.{values_after}
 use Rattle.report.specs.QueryStages.{arguments_fate, keeps, query_aggregates, where_fate}
 
 -- the first elements with the next one
@@ -94,6 +95,19 @@ module _ {A : Type 0} (keys : List OutputKey) (limit : Option ℕ) where
       } in
       subst (λ d. HoldsRows keys limit new (fates ++ gives d ∷ [])) (sym is) whole
   fault_more old new fates due failures.OutOfMemory is held_rows fault adds rows = absurd adds
+
+after_none : (due : Result Row Fault) → values_after [] due ≡ due
+after_none (Ok row) = refl
+after_none (Err fault) = refl
+
+-- the values of the next row are pushed
+pub has_pushed : {A : Type 0} (keys : List OutputKey) (limit : Option ℕ) (old : TakenRows A) (rows : Growing) (fates : List (Fate Row)) (outcome : Result (Unit {0}) (Failure Fault)) (due : Result Row Fault) → HoldsRows keys limit old fates →
+    rows.rows ≡ old.rows.rows → Gives (λ _. rows.unfinished) outcome (values_after old.rows.unfinished due) → HasPushed keys limit (record old { rows = rows }) fates outcome due
+has_pushed keys limit old rows fates outcome due h same pushed = record {
+  rows = same ∙ ap (λ (g : Growing). g.rows) h.rows;
+  fault = h.fault;
+  next = subst (Gives (λ _. rows.unfinished) outcome) (ap (λ (g : Growing). values_after g.unfinished due) h.rows ∙ after_none due) pushed;
+}
 
 -- ---- groups
 

@@ -17,11 +17,9 @@ loop-group-preserved g c =
     let role = c.args.world.now.role.now in
     let next = next_taken c.args.groups.now c.loop-group.group-index c.group-item.result c.loop-group-test.true c.group-item.is in
     let first = map (λ h. group_row_of h.now) (take c.loop-group.group-index c.args.groups.now) in
-    subst (HoldsRows q.order_by q.limit c.add.new.self)
-    (sym (ap (λ l. map (group_items_fate role q) (map (λ h. group_row_of h.now) l)) next
-    ∙ ap (map (group_items_fate role q)) (map-append (λ h. group_row_of h.now) (take c.loop-group.group-index c.args.groups.now) (c.group-item.result ∷ []))
-    ∙ map-append (group_items_fate role q) first (group_row_of c.group-item.result.now ∷ [])))
-    (c.in_ok-add.ensures _ (map (group_items_fate role q) first) c.values_on_group.ensures c.loop-group.invariant)
+    subst (λ l. HoldsRows q.order_by q.limit c.put_group.new.rows (map (group_items_fate role q) l))
+    (sym (ap (λ l. map (λ h. group_row_of h.now) l) next ∙ map-append (λ h. group_row_of h.now) (take c.loop-group.group-index c.args.groups.now) (c.group-item.result ∷ [])))
+    (c.in_ok-put_group.ensures first c.loop-group.invariant)
 
 pub returns : goal.returns
 returns g c =

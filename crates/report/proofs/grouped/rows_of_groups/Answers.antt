@@ -2,7 +2,7 @@ use Rattle.std.proofs.Common.{ap, map, subst, sym, ◌∙◌}
 use Rattle.std.proofs.lemmas.Result.{err_from_is_err_and}
 use Rattle.memory.specs.Gives.{Gives, IsFailure}
 use Rattle.memory.specs.Results.{and_then}
-use Rattle.value.specs.Datum.{row_of}
+use Rattle.answer_rows.specs.Growing.{Growing}
 use Rattle.expr.specs.View.{aggregate_calls_of}
 use Rattle.eval.specs.Meaning.{◌>>=◌}
 use Rattle.groups.specs.Taking.{rows_of}
@@ -32,6 +32,6 @@ returns g c = λ these h.
     let args = arguments_stage role q these in
     let are = ap (λ l. aggregate_calls_of l) c.as_slice.ensures ∙ c.in_ok-calls.ensures in
     let made = ap (λ calls. rows_of calls c.args.groups) are ∙ rows_are q.group_by (query_aggregates q) c.args.groups (map (arguments_fate role q) these) h in
-    subst (Gives (λ rows. map (λ r. row_of r) rows) c.rows_of_group_rows.result)
+    subst (Gives (λ (rows : Growing). rows.rows) c.rows_of_group_rows.result)
     (ap (in_order_of q.order_by q.limit) (sym (ap (λ r. r >>= rows_of_group_rows role q) (sym made ∙ c.in_ok-rows.ensures)) ∙ in_turn args (sums_stage role q) (rows_of_group_rows role q)))
     (rw c.as_slice-3.ensures at c.rows_of_group_rows.ensures)

@@ -1,6 +1,6 @@
-use Rattle.std.proofs.Common.{map, subst, sym}
+use Rattle.std.proofs.Common.{subst, sym}
 use Rattle.memory.specs.Gives.{Gives}
-use Rattle.value.specs.Datum.{row_of}
+use Rattle.answer_rows.specs.Growing.{Growing}
 use Rattle.eval.specs.Meaning.{◌>>=◌}
 use Rattle.tuples.specs.View.{world_of}
 use Rattle.report.specs.Answer.{in_order, rows_of}
@@ -10,4 +10,4 @@ pub returns-in-Groups : goal.returns-in-Groups
 returns-in-Groups g c = λ kept h.
     let w = world_of c.args.world.now in
     let holds = rw c.in-Groups.is at h in
-    subst (λ b. Gives (λ rows. map (λ r. row_of r) rows) c.rows_of_groups.result (rows_of w.role w.query b kept >>= in_order w.role w.query)) (sym holds.0) (c.rows_of_groups.ensures kept holds.1)
+    subst (λ b. Gives (λ (rows : Growing). rows.rows) c.rows_of_groups.result (rows_of w.role w.query b kept >>= in_order w.role w.query)) (sym holds.0) (c.rows_of_groups.ensures kept holds.1)
