@@ -3,6 +3,8 @@
 #![tactic(auto)]
 
 #[cfg(test)]
+mod answered_rows;
+#[cfg(test)]
 mod bits;
 #[cfg(test)]
 mod cases;

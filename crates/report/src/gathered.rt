@@ -91,11 +91,7 @@ impl<A: Heap> Gathered<A> {
     }
 
     /// Their rows in order and cut by the limit, or the least fault of the first stage that has one.
-    pub fn end(
-        self,
-        alloc: A,
-        world: &World<'_, A>,
-    ) -> Result<AnswerRows<A>, Failure<Fault>>
+    pub fn end(self, alloc: A, world: &World<'_, A>) -> Result<AnswerRows<A>, Failure<Fault>>
         ensures { let w = world_of world.now in (kept : List Combination) → Gathers w self kept →
             Gives (λ rows. rows.rows) result (rows_of_kept w.role w.query kept) }
     {

@@ -54,11 +54,7 @@ fn sorted_rows<A: Heap>(
 }
 
 // Of what is held of the rows those that the answer has, in order.
-fn in_order<A: Heap>(
-    keys: &[OutputKey],
-    limit: Option<u64>,
-    rows: AnswerRows<A>,
-) -> AnswerRows<A>
+fn in_order<A: Heap>(keys: &[OutputKey], limit: Option<u64>, rows: AnswerRows<A>) -> AnswerRows<A>
     ensures { (all : List Row) → rows.rows ≡ held keys.now limit all → result.rows ≡ spec.ordered keys.now limit all }
 {
     match limit {
