@@ -2,7 +2,7 @@
 use Rattle.std.specs.Prelude.{ℕ, ◌+◌, ◌-◌, ◌/◌, ◌==◌, max, Bool, true, false, if◌then◌else◌, List, [], ◌∷◌, ◌++◌, codes, map, flat_map, length, drop, replicate, get_or}
 use Rattle.std.specs.Fmt.{decimal}
 use Rattle.tabular.specs.Cells.{Cell, cell_width}
-use Rattle.tabular.specs.declared.columns.Column.{Column}
+use Rattle.tabular.specs.declared.widths.Column.{Column}
 
 -- ---- columns
 

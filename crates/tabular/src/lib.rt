@@ -3,8 +3,8 @@
 
 mod answer;
 mod cells;
-mod columns;
 mod lines;
+mod widths;
 mod writing;
 
 pub use answer::reply_table;

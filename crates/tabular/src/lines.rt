@@ -5,7 +5,7 @@ ghost use Rattle.tabular.specs.Tables as spec;
 ghost use Rattle.tabular.specs.Tables.{centred, count_line, header_line, is_none_left, lines, mark, placed, room, row_line, rule_line, spaces};
 
 use crate::cells::cell_width;
-use crate::columns::{Column, cell_at, columns};
+use crate::widths::{Column, cell_at, columns};
 use memory::{Heap, Items, Text, push_number, push_str};
 use std::alloc::AllocError;
 

@@ -1,6 +1,6 @@
 use Rattle.std.proofs.Common.{◌≡◌, ◌++◌, drop, length}
 use Rattle.tabular.specs.Tables.{columns, columns_from}
-use Rattle.tabular.proofs.columns.columns.Given as goal
+use Rattle.tabular.proofs.widths.columns.Given as goal
 
 abbrev pub invariant-loop-heading : goal.invariant-loop-heading
 invariant-loop-heading g l =
