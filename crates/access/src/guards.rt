@@ -26,7 +26,8 @@ use tuples::Guard;
 
 type Predicates<A> = Result<Vec<BoundExpr<A>, A>, AllocError>;
 
-fn applies<A: Heap>(catalog: &Catalog<A>, marks: &RoleMarks, role: &str, policy: &Policy<A>) -> bool
+/// True where a policy applies to a role, by the marks of the roles that the role belongs to.
+pub fn applies<A: Heap>(catalog: &Catalog<A>, marks: &RoleMarks, role: &str, policy: &Policy<A>) -> bool
     requires { AreMarksOf catalog.now role.now marks.now }
     ensures { result ≡ applies catalog.now role.now (policy_of policy.now) }
 {
@@ -195,7 +196,8 @@ fn bypasses_policies<A: Heap>(
         || (catalog.reaches(marks, role, table.owner()) && !table.forced())
 }
 
-fn guard_with<A: Heap>(
+/// The guard of a table for a role, by the marks of the roles that the role belongs to.
+pub fn guard_with<A: Heap>(
     alloc: A,
     catalog: &Catalog<A>,
     marks: &RoleMarks,

@@ -10,8 +10,8 @@ mod once;
 mod privileges;
 mod requirements;
 
-pub use guards::{frame, guard};
+pub use guards::{applies, frame, guard, guard_with};
 pub use laws::law_guard;
 pub use needed_laws::law_named_are_needed;
-pub use privileges::{RequiredPrivilege, denied, is_granted};
+pub use privileges::{RequiredPrivilege, denied, is_granted, is_granted_by};
 pub use requirements::{missing, needed};

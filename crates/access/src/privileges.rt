@@ -89,7 +89,8 @@ fn any_grants_to<A: Heap>(
     false
 }
 
-fn is_granted_by<A: Heap>(
+/// True where the role has a privilege, by the marks of the roles that it belongs to.
+pub fn is_granted_by<A: Heap>(
     catalog: &Catalog<A>,
     marks: &RoleMarks,
     role: &str,

@@ -1,6 +1,6 @@
 //! The sets of the catalogue, and the search in them.
 
-ghost use Rattle.std.specs.Prelude.{◌≡◌, ◌<◌, length, IfOk, IfSome, option_map};
+ghost use Rattle.std.specs.Prelude.{◌≡◌, ◌<◌, length, IfOk, IfSome, option_map, slice_get};
 ghost use Rattle.std.specs.List.{list_all};
 ghost use Rattle.row_objects.specs.Policies as policies;
 ghost use Rattle.row_objects.specs.View.{table_of};
@@ -152,6 +152,26 @@ impl<A: Heap> Catalog<A> {
     {
         match self.find_table(name) {
             Some((_, table)) => Some(table),
+            None => None,
+        }
+    }
+
+    /// The name of the role at an index, in order of creation.
+    pub fn role_name(&self, index: usize) -> Option<&str>
+        ensures { option_map (λ n. n.now) result ≡ option_map (λ role. role.name) (slice_get self.now.roles index) }
+    {
+        match self.roles.entry_at(index) {
+            Some((name, _)) => Some(name),
+            None => None,
+        }
+    }
+
+    /// The table at an index, in order of creation.
+    pub fn table_at(&self, index: usize) -> Option<Table<'_, A>>
+        ensures { option_map (λ t. table_of t) result ≡ slice_get self.now.tables index }
+    {
+        match self.tables.entry_at(index) {
+            Some((name, parts)) => Some(Table::new(name, parts)),
             None => None,
         }
     }

@@ -68,6 +68,16 @@ impl<V, A: Heap> ByName<V, A> {
             None => None,
         }
     }
+
+    /// The name at an index, and the thing.
+    pub fn entry_at(&self, index: usize) -> Option<(&str, &V)>
+        ensures { option_map (λ p. (p.0.now, p.1.now)) result ≡ slice_get self.now index }
+    {
+        match self.entries.as_slice().get_index(index) {
+            Some((key, thing)) => Some((key.as_str(), thing)),
+            None => None,
+        }
+    }
 }
 
 impl<V, A: Heap> ByName<V, A> {
