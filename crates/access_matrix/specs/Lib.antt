@@ -1,0 +1,5 @@
+pub mod Reading
+pub mod Reasons
+pub mod Matrix
+pub mod Changes
+pub mod Closed
