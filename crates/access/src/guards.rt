@@ -27,7 +27,12 @@ use tuples::Guard;
 type Predicates<A> = Result<Vec<BoundExpr<A>, A>, AllocError>;
 
 /// True where a policy applies to a role, by the marks of the roles that the role belongs to.
-pub fn applies<A: Heap>(catalog: &Catalog<A>, marks: &RoleMarks, role: &str, policy: &Policy<A>) -> bool
+pub fn applies<A: Heap>(
+    catalog: &Catalog<A>,
+    marks: &RoleMarks,
+    role: &str,
+    policy: &Policy<A>,
+) -> bool
     requires { AreMarksOf catalog.now role.now marks.now }
     ensures { result ≡ applies catalog.now role.now (policy_of policy.now) }
 {
