@@ -1,18 +1,26 @@
 -- What the getters of clap's matches say of the rows.
-use Rattle.std.proofs.Common.{◌≡◌, ◌≢◌, ◌∙◌, sym, ap, Bool, true, false, refl, Option, Some, None}
+use Rattle.std.proofs.Common.{◌≡◌, ◌≢◌, ◌∙◌, sym, ap, Bool, true, false, refl, List, [], option_map, Option, Some, None}
 use Rattle.std.specs.Prelude.{unwrap_or, codes}
 use Rattle.std.specs.Option.{option_map_or}
 use Rattle.std.specs.Str.{bytes_eq}
 use Rattle.std.specs.Str.Parse.{ParsesBool}
 use Rattle.std.proofs.lemmas.Slice.Eq.{bytes_eq-Decides}
-use Rattle.clap.specs.Words.{ReadsOne, Text, first_of, first_value, one_text, rows_of}
+use Rattle.clap.specs.Words.{ReadsOne, Text, first_of, first_value, matched_of, one_text, raw_values, rows_of}
 use Rattle.clap.specs.declared.parser.matches.Found.{Found}
-use Rattle.clap.proofs.WalkLemmas.{first_value-rows, one_text-rows}
-use Rattle.command_line.specs.Requests.{is_set}
+use Rattle.clap.proofs.WalkLemmas.{first_value-rows, one_text-rows, raw_values-rows}
+use Rattle.command_line.specs.Requests.{is_set, texts_of}
 
 -- the first value of an argument, by its rows
 pub given : (f : Found) (name : Text) (value : Option Text) → value ≡ first_value f name → first_of name (rows_of f) ≡ value
 given f name value e = sym (e ∙ first_value-rows f name)
+
+abbrev or_nothing : Option (List Text) → List Text
+or_nothing o = option_map_or (λ texts. texts) o []
+
+-- all values of an argument, by its rows
+pub all_given : (f : Found) (name : Text) (values : Option (List Text)) → values ≡ option_map raw_values (matched_of f name)
+    → or_nothing values ≡ texts_of name (rows_of f)
+all_given f name values e = ap or_nothing (e ∙ raw_values-rows f name)
 
 abbrev is_true : Text → Bool
 is_true text = bytes_eq text (codes "true")

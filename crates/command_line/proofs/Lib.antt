@@ -1,4 +1,5 @@
 pub mod Commands
 pub mod Getters
+pub mod Pairs
 pub mod Reading
 mod WorkedLines

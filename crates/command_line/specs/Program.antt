@@ -2,7 +2,7 @@
 use Rattle.std.specs.Prelude.{true, false, List, [], ◌∷◌, ◌++◌, Some, codes}
 use Rattle.clap.specs.Words.{App, Rule, Shape, Text, new_rule}
 use Rattle.clap.specs.Simple.{new_shape}
-use Rattle.clap.specs.declared.builder.ArgAction.TheVariants.{Set, SetTrue}
+use Rattle.clap.specs.declared.builder.ArgAction.TheVariants.{Append, Set, SetTrue}
 
 -- ---- arguments
 
@@ -20,6 +20,10 @@ word name = record (new_rule name) { action = Some Set }
 
 abbrev pub required_option : Text → Rule
 required_option name = record (option name) { required = true }
+
+-- it may be there several times, each time with one value
+abbrev pub repeated_option : Text → Rule
+repeated_option name = record (option name) { action = Some Append }
 
 abbrev pub required_word : Text → Rule
 required_word name = record (word name) { required = true }
@@ -48,17 +52,32 @@ abbrev pub session_rules : List Rule
 session_rules =
     required_option (codes "schema") ∷ required_option (codes "dir") ∷ flag (codes "frames") ∷ required_word (codes "SCRIPT") ∷ []
 
+abbrev pub matrix_rules : List Rule
+matrix_rules =
+    required_option (codes "schema") ∷ required_option (codes "dir") ∷ repeated_option (codes "role") ∷ option (codes "format") ∷ []
+
+abbrev pub changes_rules : List Rule
+changes_rules =
+    required_option (codes "schema") ∷ required_option (codes "with") ∷ required_option (codes "dir")
+    ∷ repeated_option (codes "allow") ∷ option (codes "format") ∷ []
+
 abbrev pub query_shape : Shape
 query_shape = subcommand (codes "query") (query_rules ++ option (codes "format") ∷ [])
 
 abbrev pub explain_shape : Shape
-explain_shape = subcommand (codes "explain") query_rules
+explain_shape = subcommand (codes "explain") (query_rules ++ option (codes "format") ∷ [])
 
 abbrev pub verify_shape : Shape
 verify_shape = subcommand (codes "verify") verify_rules
 
 abbrev pub session_shape : Shape
 session_shape = subcommand (codes "session") session_rules
+
+abbrev pub matrix_shape : Shape
+matrix_shape = subcommand (codes "matrix") matrix_rules
+
+abbrev pub changes_shape : Shape
+changes_shape = subcommand (codes "changes") changes_rules
 
 abbrev pub codes_shape : Shape
 codes_shape = subcommand (codes "codes") []
@@ -70,4 +89,4 @@ abbrev pub top_shape : Shape
 top_shape = record (new_shape (codes "rowplan")) { has_version = true; subcommand_required = true; is_leaf = false }
 
 unfoldable pub program : App
-program = record { top = top_shape; subs = query_shape ∷ explain_shape ∷ verify_shape ∷ session_shape ∷ codes_shape ∷ [] }
+program = record { top = top_shape; subs = query_shape ∷ explain_shape ∷ verify_shape ∷ session_shape ∷ matrix_shape ∷ changes_shape ∷ codes_shape ∷ [] }

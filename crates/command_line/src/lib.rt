@@ -6,6 +6,7 @@ mod error;
 mod program;
 
 pub use arguments::{
-    Format, QueryArguments, QueryText, Request, SessionArguments, VerifyArguments, read_words,
+    Allowed, ChangesArguments, Format, MatrixArguments, PlanFormat, QueryArguments, QueryText,
+    Request, SessionArguments, VerifyArguments, read_words,
 };
 pub use error::{CommandLineError, unread_words};

@@ -3,9 +3,9 @@ ghost use Rattle.std.specs.Prelude.{◌≡◌, ◌∷◌, [], IfOk, codes, fold}
 ghost use Rattle.clap.specs.Words.{IsPlainArg, app_of, with_rule};
 ghost use Rattle.command_line.specs.Building.{HasRule, HasShape, IsLocal, excluded_by, replaced_by};
 ghost use Rattle.command_line.specs.Program.{alternative, flag, option, program, word};
-ghost use Rattle.command_line.specs.Program.{query_rules, required_option, required_word};
-ghost use Rattle.command_line.specs.Program.{codes_shape, explain_shape, query_shape};
-ghost use Rattle.command_line.specs.Program.{session_shape, verify_shape};
+ghost use Rattle.command_line.specs.Program.{query_rules, repeated_option, required_option, required_word};
+ghost use Rattle.command_line.specs.Program.{changes_shape, codes_shape, explain_shape, matrix_shape};
+ghost use Rattle.command_line.specs.Program.{query_shape, session_shape, verify_shape};
 
 use clap::{Arg, ArgAction, Command};
 use std::alloc::{AllocError, Global};
@@ -14,7 +14,7 @@ use std::alloc::{AllocError, Global};
 const VERSION: &str = "0.1.0";
 
 const EXAMPLE: &str =
-    "Example, at the top of the repository:\n  rowplan query --schema examples/sales/schema.sql --dir examples/sales --role alice 'SELECT count(*) AS deals FROM deal'\n\nExit status: 0 answer, plan or whole script, 2 command line, 3 refused text, plan, line or frame, 4 denial, 5 fault, 6 schema, rows or unknown role, 7 memory, 8 input or output";
+    "Example, at the top of the repository:\n  rowplan query --schema examples/sales/schema.sql --dir examples/sales --role alice 'SELECT count(*) AS deals FROM deal'\n\nExit status: 0 answer, plan or whole script, 2 command line, 3 refused text, plan, line or frame, 4 denial, 5 fault, 6 schema, rows or unknown role, 7 memory, 8 input or output, 9 a change that opens something";
 
 fn option<'a>(alloc: Global, name: &'a str, value: &'a str, help: &'a str) -> Arg<'a>
     ensures rule { HasRule result (option name.entry.now) }
@@ -25,6 +25,16 @@ fn option<'a>(alloc: Global, name: &'a str, value: &'a str, help: &'a str) -> Ar
         .value_name(value)
         .help(help)
         .action(ArgAction::Set)
+}
+
+fn repeated_option<'a>(alloc: Global, name: &'a str, value: &'a str, help: &'a str) -> Arg<'a>
+    ensures { HasRule result (repeated_option name.entry.now) }
+{
+    Arg::new(alloc, name)
+        .long(name)
+        .value_name(value)
+        .help(help)
+        .action(ArgAction::Append)
 }
 
 fn flag<'a>(alloc: Global, name: &'a str, help: &'a str) -> Arg<'a>
@@ -102,6 +112,20 @@ fn format_option<'a>(alloc: Global) -> Arg<'a>
     option(alloc, "format", "FORMAT", help)
 }
 
+fn plan_format_option<'a>(alloc: Global) -> Arg<'a>
+    ensures { HasRule result (option (codes "format")) }
+{
+    let help = "How the plan is written: text, which is the default and what verify reads, or tree";
+    option(alloc, "format", "FORMAT", help)
+}
+
+fn with_option<'a>(alloc: Global) -> Arg<'a>
+    ensures { HasRule result (required_option (codes "with")) }
+{
+    let help = "The schema text after the change, or - for standard input";
+    option(alloc, "with", "FILE", help).required(true)
+}
+
 fn script_word<'a>(alloc: Global) -> Arg<'a>
     ensures { HasRule result (required_word (codes "SCRIPT")) }
 {
@@ -140,7 +164,7 @@ fn explain_command<'a>(alloc: Global) -> Result<Command<'a>, AllocError>
     let command = Command::new(alloc, "explain").about(
         "Writes the plan by which a role's query is answered",
     );
-    with_query_words(alloc, command)
+    with_query_words(alloc, command)?.arg(plan_format_option(alloc))
 }
 
 fn verify_command<'a>(alloc: Global) -> Result<Command<'a>, AllocError>
@@ -168,6 +192,36 @@ fn session_command<'a>(alloc: Global) -> Result<Command<'a>, AllocError>
         .arg(script_word(alloc))
 }
 
+fn matrix_command<'a>(alloc: Global) -> Result<Command<'a>, AllocError>
+    ensures { IfOk result (λ c. HasShape c matrix_shape) }
+{
+    let role =
+        "A role of which the rows are written; it may be there several times; all roles where it is not";
+    Command::new(alloc, "matrix")
+        .about(
+            "Writes which rows and columns of each table each role reads, and why, with the rights of root",
+        )
+        .arg(schema_option(alloc))?
+        .arg(dir_option(alloc))?
+        .arg(repeated_option(alloc, "role", "NAME", role))?
+        .arg(format_option(alloc))
+}
+
+fn changes_command<'a>(alloc: Global) -> Result<Command<'a>, AllocError>
+    ensures { IfOk result (λ c. HasShape c changes_shape) }
+{
+    let allow = "A role and a table of which it may gain something; it may be there several times";
+    Command::new(alloc, "changes")
+        .about(
+            "Writes the rows and columns that roles gain and lose by a change of the schema, with the rights of root",
+        )
+        .arg(schema_option(alloc))?
+        .arg(with_option(alloc))?
+        .arg(dir_option(alloc))?
+        .arg(repeated_option(alloc, "allow", "ROLE:TABLE", allow))?
+        .arg(format_option(alloc))
+}
+
 fn codes_command<'a>(alloc: Global) -> Command<'a>
     ensures { HasShape result codes_shape }
 {
@@ -187,5 +241,7 @@ pub fn command<'a>(alloc: Global) -> Result<Command<'a>, AllocError>
         .subcommand(explain_command(alloc)?)?
         .subcommand(verify_command(alloc)?)?
         .subcommand(session_command(alloc)?)?
+        .subcommand(matrix_command(alloc)?)?
+        .subcommand(changes_command(alloc)?)?
         .subcommand(codes_command(alloc))
 }

@@ -5,7 +5,7 @@ ghost use Rattle.rowplan.specs.Files.{csv_path};
 ghost use Rattle.setup.specs.Loads.{IsOfFile};
 
 use memory::{Failure, Text};
-use setup::{Folder, SetupError};
+use setup::{Folder, SetupError, Store, open_store};
 use std::alloc::{AllocError, Global};
 use std::fs::File;
 use std::io::{ErrorKind, Read};
@@ -97,4 +97,18 @@ impl<R: Files> Folder<Global> for Directory<'_, R> {
             Err(error) => Err(unreadable(alloc, path.as_str(), &error)),
         }
     }
+}
+
+/// The store of a schema text and of the files of a folder.
+pub fn store_of(
+    rt: &HostRuntime,
+    alloc: Global,
+    schema: &str,
+    dir: &str,
+) -> Result<Store<Global>, Failure<SetupError<Global>>> {
+    let folder = Directory {
+        files: rt,
+        path: dir,
+    };
+    open_store(alloc, schema, &folder)
 }

@@ -1,18 +1,20 @@
 //! The program `rowplan`: answers queries over a schema text and comma-separated tables.
 #![tactic(auto)]
 
+mod access;
 mod failure;
 mod files;
 mod frames;
 mod script;
 
+use access::{changes, matrix};
 use command_line::{
-    Format, QueryArguments, QueryText, Request, SessionArguments, VerifyArguments, read_words,
-    unread_words,
+    Format, PlanFormat, QueryArguments, QueryText, Request, SessionArguments, VerifyArguments,
+    read_words, unread_words,
 };
 use diagnostics::codes_text;
 use failure::{ProgramError, print_error, report_failure};
-use files::{Directory, read_bytes, read_text};
+use files::{read_bytes, read_text, store_of};
 use frames::answer_frames;
 use memory::Failure;
 use output::{Output, write_whole};
@@ -20,25 +22,11 @@ use script::{answer_input, answer_text};
 use session_scripts::Core;
 use setup::{
     Arguments, SchemaError, SetupError, Store, explain, explain_refusal, explain_schema,
-    open_store, reply, reply_table, store_of_schema, verify,
+    explain_tree, reply, reply_table, store_of_schema, verify,
 };
 use std::alloc::{AllocError, Global};
 use std::process::ExitCode;
 use std::{env, io};
-
-// The store of a schema text and of the files of a folder.
-fn store_of(
-    rt: &HostRuntime,
-    alloc: Global,
-    schema: &str,
-    dir: &str,
-) -> Result<Store<Global>, Failure<SetupError<Global>>> {
-    let folder = Directory {
-        files: rt,
-        path: dir,
-    };
-    open_store(alloc, schema, &folder)
-}
 
 // The text of the query.
 fn query_text(
@@ -52,11 +40,11 @@ fn query_text(
     }
 }
 
-// What is asked of a query: its rows in a form, or its plan.
+// What is asked of a query: its rows, or its plan, each in a form.
 #[derive(Clone, Copy)]
 enum Asked {
     Rows(Format),
-    Plan,
+    Plan(PlanFormat),
 }
 
 // Writes the reply or the plan to standard output, the diagnostics of a refusal to standard error where they are asked for,
@@ -76,7 +64,12 @@ fn write_reply(
     let status = match asked {
         Asked::Rows(Format::Csv) => reply(alloc, store, arguments, &mut out),
         Asked::Rows(Format::Table) => reply_table(alloc, store, arguments, &mut out),
-        Asked::Plan => explain(alloc, store, arguments.role, arguments.text, &mut out),
+        Asked::Plan(PlanFormat::Text) => {
+            explain(alloc, store, arguments.role, arguments.text, &mut out)
+        }
+        Asked::Plan(PlanFormat::Tree) => {
+            explain_tree(alloc, store, arguments.role, arguments.text, &mut out)
+        }
     };
     if explains && (status == 3 || status == 4 || status == 6) {
         let mut error = Output {
@@ -213,18 +206,20 @@ fn run(rt: &HostRuntime) -> Result<u8, ProgramError> {
     let words = command_words(rt, alloc)?;
     let texts = texts_of(alloc, words.as_slice())?;
     match read_words(alloc, texts.as_slice())? {
-        Request::Query(arguments) => Ok(query(
+        Request::Query(arguments, format) => Ok(query(rt, alloc, Asked::Rows(format), &arguments)?),
+        Request::Explain(arguments, format) => Ok(query(
             rt,
             alloc,
-            Asked::Rows(arguments.format),
+            Asked::Plan(format),
             &arguments,
         )?),
-        Request::Explain(arguments) => Ok(query(rt, alloc, Asked::Plan, &arguments)?),
         Request::Verify(arguments) => Ok(audit(rt, alloc, &arguments)?),
         Request::Session(arguments) => {
             session(rt, alloc, &arguments)?;
             Ok(0)
         }
+        Request::Matrix(arguments) => Ok(matrix(rt, alloc, &arguments)?),
+        Request::Changes(arguments) => Ok(changes(rt, alloc, &arguments)?),
         Request::Codes => Ok(codes(rt, alloc)?),
     }
 }

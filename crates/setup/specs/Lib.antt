@@ -1,3 +1,4 @@
+pub mod Access
 pub mod Explanation
 pub mod Lines
 pub mod Loads

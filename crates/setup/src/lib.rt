@@ -2,6 +2,7 @@
 //! either stops.
 #![tactic(auto)]
 
+mod access;
 mod arguments;
 mod error;
 mod explanation;
@@ -12,6 +13,8 @@ mod reply_tables;
 mod schema;
 mod schema_explanation;
 
+pub use access::{write_changes, write_changes_table, write_matrix, write_matrix_table};
+pub use access_matrix::Pair;
 pub use arguments::{Arguments, reply};
 pub use engine::{Store, explain, verify};
 pub use error::{SchemaError, SetupError};

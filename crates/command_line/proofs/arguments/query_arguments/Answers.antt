@@ -18,12 +18,7 @@ returns-in_err-role c =
     let f = found_of c.args.found.now in
     rw (given f (codes "schema") _ c.in_ok-schema.ensures, given f (codes "dir") _ c.in_ok-dir.ensures, given f (codes "role") _ c.in_err-role.ensures, c.from_residual-in_err-role.ensures) refl
 
-pub returns-in_err-format : goal.returns-in_err-format
-returns-in_err-format c =
-    let f = found_of c.args.found.now in
-    rw (given f (codes "schema") _ c.in_ok-schema.ensures, given f (codes "dir") _ c.in_ok-dir.ensures, given f (codes "role") _ c.in_ok-role.ensures, ← c.in_ok-text.ensures, ← c.in_err-format.ensures, c.from_residual-in_err-format.ensures) refl
-
 pub returns : goal.returns
 returns c =
     let f = found_of c.args.found.now in
-    rw (given f (codes "schema") _ c.in_ok-schema.ensures, given f (codes "dir") _ c.in_ok-dir.ensures, given f (codes "role") _ c.in_ok-role.ensures, ← c.in_ok-text.ensures, ← c.in_ok-format.ensures, c.is_set.ensures) refl
+    rw (given f (codes "schema") _ c.in_ok-schema.ensures, given f (codes "dir") _ c.in_ok-dir.ensures, given f (codes "role") _ c.in_ok-role.ensures, ← c.in_ok-text.ensures, c.is_set.ensures) refl

@@ -24,4 +24,6 @@ returns c =
     let explain = with_command _ _ _ _ _ c.in_ok-subcommand-2.ensures c.in_ok-explain_command.ensures query in
     let verify = with_command _ _ _ _ _ c.in_ok-subcommand-3.ensures c.in_ok-verify_command.ensures explain in
     let session = with_command _ _ _ _ _ c.in_ok-subcommand-4.ensures c.in_ok-session_command.ensures verify in
-    IfOk-weaker c.subcommand-5.result _ _ (λ new h. with_command _ _ new _ _ h c.codes_command.ensures session) c.subcommand-5.ensures
+    let matrix = with_command _ _ _ _ _ c.in_ok-subcommand-5.ensures c.in_ok-matrix_command.ensures session in
+    let changes = with_command _ _ _ _ _ c.in_ok-subcommand-6.ensures c.in_ok-changes_command.ensures matrix in
+    IfOk-weaker c.subcommand-7.result _ _ (λ new h. with_command _ _ new _ _ h c.codes_command.ensures changes) c.subcommand-7.ensures

@@ -1,0 +1,277 @@
+//! What roles gain and lose by changes of the schema of sales.
+
+use crate::texts::{is_text, made};
+use access_matrix::{Changes, Pair, changes};
+use fixtures::{FixtureError, apply, sales};
+use memory::Failure;
+use std::alloc::{AllocError, AllocGlobal, Global};
+use std::process::Abort;
+use std::test::Fail;
+use store::Store;
+
+const HEADINGS: &str = "role,table,rows_gained,rows_lost,columns_gained,columns_lost\n";
+
+// A name, the statements after the schema of sales in the old store and in the new one, and the lines.
+type Row = (&'static str, &'static str, &'static str, &'static str);
+
+static ROWS: [Row; 33] = [
+    ("nothing", "", "", ""),
+    (
+        "a role",
+        "",
+        "CREATE ROLE carl;",
+        "carl,region,3,0,\"id, name\",\\N\n",
+    ),
+    (
+        "no such role",
+        "CREATE ROLE carl;",
+        "",
+        "carl,region,0,3,\\N,\"id, name\"\n",
+    ),
+    (
+        "a superuser",
+        "",
+        "CREATE ROLE dora SUPERUSER;",
+        "dora,deal,5,0,\"id, owner, region, amount, parts\",\\N\ndora,region,3,0,\"id, name\",\\N\n",
+    ),
+    (
+        "a superuser no more",
+        "CREATE ROLE dora SUPERUSER;",
+        "CREATE ROLE dora;",
+        "dora,deal,0,5,\\N,\"id, owner, region, amount, parts\"\n",
+    ),
+    (
+        "BYPASSRLS with a grant",
+        "CREATE ROLE eve; GRANT SELECT (id) ON deal TO eve;",
+        "CREATE ROLE eve BYPASSRLS; GRANT SELECT (id) ON deal TO eve;",
+        "eve,deal,5,0,\\N,\\N\n",
+    ),
+    (
+        "BYPASSRLS without a grant",
+        "CREATE ROLE eve;",
+        "CREATE ROLE eve BYPASSRLS;",
+        "",
+    ),
+    (
+        "a member of sales",
+        "",
+        "GRANT sales TO lone;",
+        "lone,deal,0,0,\"id, owner, region, amount, parts\",\\N\n",
+    ),
+    ("a member of another's group", "", "GRANT alice TO bob;", ""),
+    (
+        "a member of the owner",
+        "",
+        "GRANT boss TO alice;",
+        "alice,deal,2,0,\\N,\\N\n",
+    ),
+    (
+        "an owner's member no more",
+        "GRANT boss TO alice;",
+        "",
+        "alice,deal,0,2,\\N,\\N\n",
+    ),
+    (
+        "no member of sales",
+        "",
+        "REVOKE sales FROM bob;",
+        "bob,deal,0,2,\\N,\"id, owner, region, amount, parts\"\n",
+    ),
+    (
+        "a table",
+        "",
+        "CREATE TABLE note (id bigint); GRANT SELECT ON note TO guest;",
+        "root,note,0,0,id,\\N\nguest,note,0,0,id,\\N\n",
+    ),
+    (
+        "no such table",
+        "CREATE TABLE note (id bigint); GRANT SELECT ON note TO guest;",
+        "",
+        "root,note,0,0,\\N,id\nguest,note,0,0,\\N,id\n",
+    ),
+    (
+        "another owner",
+        "",
+        "ALTER TABLE deal OWNER TO bob;",
+        "boss,deal,0,5,\\N,\"id, owner, region, amount, parts\"\nbob,deal,3,0,\\N,\\N\n",
+    ),
+    (
+        "row security off",
+        "",
+        "ALTER TABLE deal DISABLE ROW LEVEL SECURITY;",
+        "sales,deal,5,0,\\N,\\N\nalice,deal,2,0,\\N,\\N\nbob,deal,3,0,\\N,\\N\nguest,deal,5,0,\\N,\\N\n",
+    ),
+    (
+        "row security on",
+        "",
+        "ALTER TABLE region ENABLE ROW LEVEL SECURITY;",
+        "boss,region,0,3,\\N,\\N\nsales,region,0,3,\\N,\\N\nalice,region,0,3,\\N,\\N\nbob,region,0,3,\\N,\\N\nguest,region,0,3,\\N,\\N\nlone,region,0,3,\\N,\\N\n",
+    ),
+    (
+        "row security forced",
+        "",
+        "ALTER TABLE deal FORCE ROW LEVEL SECURITY;",
+        "boss,deal,0,5,\\N,\\N\n",
+    ),
+    (
+        "row security forced no more",
+        "ALTER TABLE deal FORCE ROW LEVEL SECURITY;",
+        "ALTER TABLE deal NO FORCE ROW LEVEL SECURITY;",
+        "boss,deal,5,0,\\N,\\N\n",
+    ),
+    ("an index", "", "CREATE INDEX by_owner ON deal (owner);", ""),
+    (
+        "a grant on a column",
+        "",
+        "GRANT SELECT (amount) ON deal TO guest;",
+        "guest,deal,0,0,amount,\\N\n",
+    ),
+    (
+        "a grant on a table",
+        "",
+        "GRANT SELECT ON deal TO lone;",
+        "lone,deal,0,0,\"id, owner, region, amount, parts\",\\N\n",
+    ),
+    (
+        "a grant to all",
+        "",
+        "GRANT SELECT ON deal TO PUBLIC;",
+        "guest,deal,0,0,\"owner, region, amount, parts\",\\N\nlone,deal,0,0,\"id, owner, region, amount, parts\",\\N\n",
+    ),
+    (
+        "no grant on a table",
+        "",
+        "REVOKE SELECT ON deal FROM sales;",
+        "sales,deal,0,0,\\N,\"id, owner, region, amount, parts\"\nalice,deal,0,3,\\N,\"id, owner, region, amount, parts\"\nbob,deal,0,2,\\N,\"id, owner, region, amount, parts\"\n",
+    ),
+    (
+        "no grant on a column",
+        "",
+        "REVOKE SELECT (id) ON deal FROM guest;",
+        "guest,deal,0,0,\\N,id\n",
+    ),
+    (
+        "columns of others",
+        "GRANT SELECT (amount) ON deal TO lone;",
+        "GRANT SELECT (id, owner) ON deal TO lone;",
+        "lone,deal,0,0,\"id, owner\",amount\n",
+    ),
+    (
+        "a permissive policy",
+        "",
+        "CREATE POLICY late ON deal TO guest USING (id > 3);",
+        "guest,deal,2,0,\\N,\\N\n",
+    ),
+    (
+        "a permissive policy for who has no grant",
+        "",
+        "CREATE POLICY late ON deal TO lone USING (id > 3);",
+        "",
+    ),
+    (
+        "a restrictive policy",
+        "",
+        "CREATE POLICY cheap ON deal AS RESTRICTIVE USING (amount < 90);",
+        "alice,deal,0,2,\\N,\\N\nbob,deal,0,1,\\N,\\N\n",
+    ),
+    (
+        "a restrictive policy no more",
+        "CREATE POLICY cheap ON deal AS RESTRICTIVE USING (amount < 90);",
+        "",
+        "alice,deal,2,0,\\N,\\N\nbob,deal,1,0,\\N,\\N\n",
+    ),
+    (
+        "no policy",
+        "",
+        "DROP POLICY own ON deal;",
+        "alice,deal,0,3,\\N,\\N\nbob,deal,0,2,\\N,\\N\n",
+    ),
+    (
+        "another policy",
+        "",
+        "DROP POLICY own ON deal; CREATE POLICY own ON deal TO sales USING (region = 1);",
+        "sales,deal,2,0,\\N,\\N\nalice,deal,1,2,\\N,\\N\nbob,deal,1,1,\\N,\\N\n",
+    ),
+    (
+        "two changes that cancel",
+        "CREATE POLICY late ON deal TO guest USING (id > 3);",
+        "GRANT sales TO guest; CREATE POLICY late ON deal TO guest USING (id >= 4); REVOKE sales FROM guest;",
+        "",
+    ),
+];
+
+fn with(alloc: Global, extra: &str) -> Result<Box<Store<Global>>, Failure<FixtureError>> {
+    let mut store = sales(alloc)?;
+    apply(alloc, &mut store, "root", extra)?;
+    Ok(store)
+}
+
+fn changed(
+    rt: &(impl Abort + AllocGlobal),
+    old: &str,
+    new: &str,
+    allowed: &[Pair<'_>],
+) -> Result<Changes<Global>, AllocError> {
+    let alloc = rt.alloc();
+    let old = made(rt, with(alloc, old));
+    let new = made(rt, with(alloc, new));
+    changes(alloc, &old, &new, allowed)
+}
+
+fn is_changed(rt: &(impl Abort + AllocGlobal), row: &Row) -> Result<(), AllocError> {
+    let (name, old, new, want) = *row;
+    let changes = changed(rt, old, new, &[])?;
+    is_text(rt, rt.alloc(), &changes.reply, HEADINGS, want, name)
+}
+
+#[test]
+fn rows_and_columns_gained_and_lost(rt: HostRuntime) -> Result<(), Fail> {
+    for row in &ROWS {
+        is_changed(&rt, row)?;
+    }
+    Ok(())
+}
+
+fn pair(role: &'static str, table: &'static str) -> Pair<'static> {
+    Pair { role, table }
+}
+
+fn opens(
+    rt: &(impl Abort + AllocGlobal),
+    new: &str,
+    allowed: &[Pair<'_>],
+    want: bool,
+) -> Result<(), AllocError> {
+    let changes = changed(rt, "", new, allowed)?;
+    assert_eq!(rt; changes.opens, want, "{new}");
+    Ok(())
+}
+
+#[test]
+fn changes_that_open_something(rt: HostRuntime) -> Result<(), Fail> {
+    let off = "ALTER TABLE deal DISABLE ROW LEVEL SECURITY;";
+    let three = [
+        pair("sales", "deal"),
+        pair("alice", "deal"),
+        pair("bob", "deal"),
+    ];
+    opens(&rt, "", &[], false)?;
+    opens(&rt, "GRANT boss TO alice;", &[], true)?;
+    opens(&rt, "GRANT boss TO alice;", &[pair("alice", "deal")], false)?;
+    opens(
+        &rt,
+        "GRANT boss TO alice;",
+        &[pair("alice", "region"), pair("bob", "deal")],
+        true,
+    )?;
+    opens(&rt, "GRANT SELECT (amount) ON deal TO guest;", &[], true)?;
+    opens(&rt, "REVOKE sales FROM bob;", &[], false)?;
+    opens(&rt, off, &three, true)?;
+    opens(
+        &rt,
+        off,
+        &[three[2], pair("guest", "deal"), three[0], three[1]],
+        false,
+    )?;
+    Ok(())
+}
