@@ -1,0 +1,2 @@
+pub mod TypeRules
+pub mod Walks
