@@ -14,7 +14,7 @@ describe 0 SELECT 1 AS n, 'a' AS t, TRUE AS b, NULL AS x FROM flag => column,typ
 describe 0 SELECT CURRENT_USER AS me, - id AS less, id * 2 AS more FROM flag => column,type / me,text / less,bigint / more,bigint
 describe 0 SELECT id = 1 AS a, id BETWEEN 1 AND 2 AS b, id IN (1, 2) AS c, name IS NULL AS d FROM flag => column,type / a,boolean / b,boolean / c,boolean / d,boolean
 describe 0 SELECT NOT open AS a, open AND id = 1 AS b, open OR id = 1 AS c FROM flag => column,type / a,boolean / b,boolean / c,boolean
-describe 0 SELECT CAST(id AS text) AS a, CAST(name AS bigint) AS b, CAST(NULL AS boolean) AS c FROM flag => column,type / a,text / b,bigint / c,boolean
+describe 0 SELECT CAST(id AS text) AS a, CAST(name AS bigint) AS b, CAST(NULL AS text) AS c FROM flag => column,type / a,text / b,bigint / c,text
 describe 0 SELECT count(*), count(open), sum(id), min(name), max(id) FROM flag => column,type / count,bigint / count,bigint / sum,bigint / min,text / max,bigint
 describe 0 SELECT sum(NULL) AS a, max(NULL) AS b FROM flag => column,type / a,bigint / b,\\N
 describe 0 SELECT open, max(name) AS last FROM flag GROUP BY open HAVING count(*) > 1 ORDER BY open LIMIT 0 => column,type / open,boolean / last,text
@@ -38,6 +38,7 @@ login root => session 1
 describe 0 SELECT id, owner FROM deal => column,type / id,bigint / owner,text
 ask 0 SELECT amount / parts AS q FROM deal => fault 22012 at 14
 describe 0 SELECT amount / parts AS q FROM deal => column,type / q,bigint
+describe 0 SELECT owner, sum(amount) AS total, NULL AS note FROM deal GROUP BY owner => column,type / owner,text / total,bigint / note,\\N
 describe 1 SELECT * FROM deal => column,type / id,bigint / owner,text / region,bigint / amount,bigint / parts,bigint
 setrole 1 guest => ok
 describe 1 SELECT id FROM deal => column,type / id,bigint

@@ -65,10 +65,7 @@ fn first_type(first: TypeOf, second: TypeOf) -> TypeOf
 
 /// The type of an expression of which each operation is well typed.
 #[cycle(bound_type)]
-pub(crate) fn bound_type<A: Heap>(
-    entries: &[Entry<'_, A>],
-    expression: &BoundExpr<A>,
-) -> TypeOf
+pub(crate) fn bound_type<A: Heap>(entries: &[Entry<'_, A>], expression: &BoundExpr<A>) -> TypeOf
     ensures { result ≡ spec.bound_type (entries_of entries.now) (bound_expr_of expression.now) }
 {
     match expression {
