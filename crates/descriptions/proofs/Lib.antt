@@ -1,2 +1,3 @@
+pub mod Described
 pub mod TypeRules
 pub mod Walks
