@@ -31,5 +31,5 @@ described_query (Ok b) = Rows description_headings (map (description_row b.entri
 described_query (Err reply) = reply
 
 -- the name and the type of each output column of a role's text, or its refusal or denial
-abbrev pub described : Catalog → Name → (text : List ℕ) → Reply
-described cat role text = described_query (admitted cat role text)
+abbrev pub described : Catalog → Name → List ℕ → Reply
+described cat role asked = described_query (admitted cat role asked)
