@@ -32,6 +32,15 @@ const ROLES: &str = "\
 5 | ask 3 SELECT id FROM deal => id / 1 / 2 / 5
 ";
 
+// A text that is described has no plan.
+const DESCRIBED: &str = "\
+0 | login alice => session 0
+0 | describe 0 SELECT id FROM deal => column,type / id,bigint
+0 | ask 0 SELECT id FROM deal => id / 1 / 2 / 5
+0 | describe 0 SELECT id FROM deal => column,type / id,bigint
+1 | ask 0 SELECT id FROM deal => id / 1 / 2 / 5
+";
+
 // A refused statement leaves the plans, a load of a row takes them.
 const KEPT: &str = "\
 0 | login alice => session 0
@@ -230,6 +239,7 @@ fn roles_and_texts_have_plans_of_their_own(rt: HostRuntime) -> Result<(), Fail> 
     run(&rt, ROLES)?;
     run(&rt, EXECUTED)?;
     run(&rt, SPELLINGS)?;
+    run(&rt, DESCRIBED)?;
     Ok(run(&rt, REFUSED)?)
 }
 

@@ -5,6 +5,8 @@
 #[cfg(test)]
 mod changes;
 #[cfg(test)]
+mod describes;
+#[cfg(test)]
 mod kept_plans;
 #[cfg(test)]
 mod limits;

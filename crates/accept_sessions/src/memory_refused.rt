@@ -27,6 +27,7 @@ load deal nothing => data deal header
 declare 0 d SELECT 1 / (id - 4) AS q FROM deal => fault 22012 at 9
 declare 0 d SELECT count(*) FROM deal => ok
 fetch 0 d 1 => count / 4
+describe 0 SELECT id, max(owner) AS last FROM deal GROUP BY id => column,type / id,bigint / last,text
 setrole 0 boss => ok
 execute 0 p => id,owner / 2,alice / 3,bob / 4,alice
 ";

@@ -1,6 +1,7 @@
 //! Lists of events, drawn from a number, against a machine that plans each text anew and keeps the keys alone.
 
 use crate::scripts::{event_of, sales_core, shown};
+use descriptions::describe;
 use engine::{Store, ask, refusal};
 use fixtures::{FixtureError, sales};
 use memory::{Failure, Text};
@@ -75,6 +76,18 @@ fn answer_asked(
     }
 }
 
+// The description of what a session asks.
+fn describe_asked(
+    alloc: Global,
+    sessions: &Sessions<Global>,
+    asked: Result<(&str, &str), Refusal>,
+) -> Result<Result<replies::Reply<Global>, Refusal>, AllocError> {
+    match asked {
+        Ok((role, text)) => Ok(Ok(describe(alloc, sessions.store().catalog(), role, text)?)),
+        Err(code) => Ok(Err(code)),
+    }
+}
+
 fn reply_of(answer: Result<replies::Reply<Global>, Refusal>) -> Reply<Global> {
     match answer {
         Ok(reply) => Reply::Engine { reply },
@@ -114,6 +127,10 @@ fn step(
             let asked = sessions.ask_text(session, text.as_str());
             Ok(reply_of(answer_asked(alloc, sessions, keys, asked)?))
         }
+        Event::Describe { session, text } => {
+            let asked = sessions.ask_text(session, text.as_str());
+            Ok(reply_of(describe_asked(alloc, sessions, asked)?))
+        }
         Event::Prepare {
             session,
             name,
@@ -151,7 +168,7 @@ fn lines() -> [&'static str; 32] {
         "setrole 0 root",
         "resetrole 2",
         "ask 0 SELECT id FROM deal",
-        "ask 0 SELECT id FROM deal",
+        "describe 0 SELECT id FROM deal",
         "ask 1 SELECT id FROM deal",
         "ask 2 SELECT id FROM deal",
         "ask 0 SELECT d.id, r.name FROM deal d, region r WHERE d.region = r.id",

@@ -12,6 +12,7 @@ setrole 0 zed => refused 08003
 resetrole 0 => refused 08003
 ask 0 SELECT id FROM deal => refused 08003
 ask 0 SELECT => refused 08003
+describe 0 SELECT => refused 08003
 prepare 0 p SELECT id FROM deal => refused 08003
 prepare 0 p SELECT => refused 08003
 execute 0 p => refused 08003

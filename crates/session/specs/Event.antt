@@ -9,6 +9,7 @@ pub data Event : Type 0 where
   SetRole : (session : ℕ) → (role : Name) → Event
   ResetRole : (session : ℕ) → Event
   Ask : (session : ℕ) → (text : List ℕ) → Event
+  Describe : (session : ℕ) → (text : List ℕ) → Event
   Prepare : (session : ℕ) → (name : Name) → (text : List ℕ) → Event
   Execute : (session : ℕ) → (name : Name) → Event
   Declare : (session : ℕ) → (name : Name) → (text : List ℕ) → Event

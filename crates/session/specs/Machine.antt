@@ -6,13 +6,14 @@ use Rattle.replies.specs.Reply as engine
 use Rattle.engine.specs.Analysis.{admitted}
 use Rattle.engine.specs.Database.{Database, rows_of}
 use Rattle.engine.specs.Answer.{reply_to}
+use Rattle.descriptions.specs.Descriptions.{described}
 use Rattle.shared_plans.specs.Recent.{Key, Recent, looked_up}
 use Rattle.sessions.specs.AtOnce.{asked_at_once, change_at_once, fetch_at_once, load_at_once, login_at_once, prepare_at_once}
 use Rattle.sessions.specs.State.{State, at_start}
 use Rattle.sessions.specs.Reply.{Reply, Engine, no_memory}
 use Rattle.sessions.specs.Events.{Step, settled, login, logout, set_role, reset_role, ask_text, prepare, execute_text, declare_text, keep, fetch, close, change, load}
 use Rattle.sessions.specs.Taking.{IsTaken}
-use Rattle.session.specs.Event.{Event, Login, Logout, SetRole, ResetRole, Ask, Prepare, Execute, Declare, Fetch, Close, Change, Load}
+use Rattle.session.specs.Event.{Event, Login, Logout, SetRole, ResetRole, Ask, Describe, Prepare, Execute, Declare, Fetch, Close, Change, Load}
 
 -- ---- asking
 
@@ -27,6 +28,14 @@ answered s (Ok asked) = Ok (Engine (reply_in s asked), s)
 -- a text, by the current role of a session
 abbrev pub ask : State → ℕ → List ℕ → Result Step Reply
 ask s n text = answered s (ask_text s n text)
+
+abbrev pub described_in : State → Result (Name × List ℕ) Reply → Result Step Reply
+described_in s (Err refusal) = Err refusal
+described_in s (Ok asked) = Ok (Engine (described s.database.catalog asked.0 asked.1), s)
+
+-- the name and the type of each column of a text's answer, by the current role of a session
+abbrev pub describe : State → ℕ → List ℕ → Result Step Reply
+describe s n text = described_in s (ask_text s n text)
 
 -- a prepared text, by the current role
 abbrev pub execute : State → ℕ → Name → Result Step Reply
@@ -48,6 +57,7 @@ outcome s (Logout n) = logout s n
 outcome s (SetRole n role) = set_role s n role
 outcome s (ResetRole n) = reset_role s n
 outcome s (Ask n text) = ask s n text
+outcome s (Describe n text) = describe s n text
 outcome s (Prepare n name text) = prepare s n name text
 outcome s (Execute n name) = execute s n name
 outcome s (Declare n name text) = declare s n name text
@@ -79,6 +89,7 @@ asked s (Login role) = None
 asked s (Logout n) = None
 asked s (SetRole n role) = None
 asked s (ResetRole n) = None
+asked s (Describe n text) = None
 asked s (Prepare n name text) = None
 asked s (Fetch n name count) = None
 asked s (Close n name) = None
@@ -143,6 +154,7 @@ takes_no_memory s (Logout n) = true
 takes_no_memory s (SetRole n role) = true
 takes_no_memory s (ResetRole n) = true
 takes_no_memory s (Ask n text) = asked_at_once s (ask_text s n text)
+takes_no_memory s (Describe n text) = asked_at_once s (ask_text s n text)
 takes_no_memory s (Prepare n name text) = prepare_at_once s n name text
 takes_no_memory s (Execute n name) = asked_at_once s (execute_text s n name)
 takes_no_memory s (Declare n name text) = asked_at_once s (declare_text s n name text)

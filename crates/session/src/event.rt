@@ -36,6 +36,13 @@ pub enum Event<A: Heap> {
         /// The query.
         text: Text<A>,
     },
+    /// A session asks for the name and the type of each column of a text's answer, by its current role; no row is read.
+    Describe {
+        /// The session.
+        session: u64,
+        /// The query.
+        text: Text<A>,
+    },
     /// A session prepares a text, whose names are resolved where it is executed. It is refused where the name is in use (42P05),
     /// where the text is no query, or where 64 texts are prepared (54000).
     Prepare {

@@ -13,6 +13,7 @@ ghost use Rattle.session.specs.View.{event_of};
 use crate::asking::{Shared, answer_asked};
 use crate::event::Event;
 use crate::forgetting::{counts, forget_if_later};
+use descriptions::describe;
 use engine::{Seen, Store};
 use memory::{Heap, Text};
 use sessions::{Reply, Sessions, refused_by};
@@ -89,6 +90,23 @@ impl<A: Heap> Core<A> {
         }
     }
 
+    // The name and the type of each column of a text that a session asks.
+    fn describe(&self, session: u64, text: &str) -> Result<Reply<A>, AllocError>
+        ensures takes { TakesEvent self.now self.now (event.Describe session text.now) result }
+        ensures at_once { takes_no_memory self.now.state (event.Describe session text.now) ≡ true → IsOk result }
+    {
+        match self.sessions.ask_text(session, text) {
+            Ok((role, text)) => {
+                let catalog = self.sessions.store().catalog();
+                match describe(self.alloc, catalog, role, text) {
+                    Ok(reply) => Ok(Reply::Engine { reply }),
+                    Err(error) => Err(error),
+                }
+            }
+            Err(code) => Ok(refused_by(code)),
+        }
+    }
+
     // The reply to a prepared text of a session.
     fn execute(&mut self, session: u64, name: &str) -> Result<Reply<A>, AllocError>
         ensures takes { TakesEvent self.old self.new (event.Execute session name.now) result }
@@ -162,6 +180,7 @@ impl<A: Heap> Core<A> {
             Event::SetRole { session, role } => Ok(self.sessions.set_role(session, role)),
             Event::ResetRole { session } => Ok(self.sessions.reset_role(session)),
             Event::Ask { session, text } => self.ask(session, text.as_str()),
+            Event::Describe { session, text } => self.describe(session, text.as_str()),
             Event::Prepare {
                 session,
                 name,

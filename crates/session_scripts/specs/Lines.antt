@@ -55,6 +55,10 @@ reset_role_at bs = option_map session.ResetRole (number_at bs)
 abbrev pub ask_at : List ℕ → Option session.Event
 ask_at bs = option_map (λ p. session.Ask p.0 p.1) (session_text bs)
 
+-- describe S TEXT
+abbrev pub describe_at : List ℕ → Option session.Event
+describe_at bs = option_map (λ p. session.Describe p.0 p.1) (session_text bs)
+
 -- prepare S NAME TEXT
 abbrev pub prepare_at : List ℕ → Option session.Event
 prepare_at bs = option_map (λ p. session.Prepare p.0 p.1.0 p.1.1) (session_word_text bs)
@@ -93,6 +97,7 @@ event_at word bs =
     else if is_word (codes "setrole") word then set_role_at bs
     else if is_word (codes "resetrole") word then reset_role_at bs
     else if is_word (codes "ask") word then ask_at bs
+    else if is_word (codes "describe") word then describe_at bs
     else if is_word (codes "prepare") word then prepare_at bs
     else if is_word (codes "execute") word then execute_at bs
     else if is_word (codes "declare") word then declare_at bs

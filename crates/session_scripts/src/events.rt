@@ -2,7 +2,7 @@
 
 ghost use Rattle.std.specs.Prelude.{◌≡◌, IfOk, option_map};
 ghost use Rattle.session.specs.View.{event_of};
-ghost use Rattle.session_scripts.specs.Lines.{ask_at, change_at, close_at, declare_at, event_at, execute_at, fetch_at, login_at, logout_at, prepare_at, reset_role_at, set_role_at};
+ghost use Rattle.session_scripts.specs.Lines.{ask_at, change_at, close_at, declare_at, describe_at, event_at, execute_at, fetch_at, login_at, logout_at, prepare_at, reset_role_at, set_role_at};
 
 use crate::words::{session_text, session_word, session_word_text, word};
 use memory::{Heap, Text};
@@ -59,6 +59,17 @@ fn ask<A: Heap>(alloc: A, rest: &str) -> Result<Option<Event<A>>, AllocError>
     };
     let text = Text::new(alloc, text)?;
     Ok(Some(Event::Ask { session, text }))
+}
+
+// describe S TEXT
+fn describe<A: Heap>(alloc: A, rest: &str) -> Result<Option<Event<A>>, AllocError>
+    ensures { IfOk result (λ e. option_map event_of e ≡ describe_at rest.now) }
+{
+    let Some((session, text)) = session_text(rest) else {
+        return Ok(None);
+    };
+    let text = Text::new(alloc, text)?;
+    Ok(Some(Event::Describe { session, text }))
 }
 
 // prepare S NAME TEXT
@@ -158,6 +169,8 @@ pub fn read_event<A: Heap>(alloc: A, name: &str, rest: &str) -> Result<Option<Ev
         Ok(reset_role(rest))
     } else if name == "ask" {
         ask(alloc, rest)
+    } else if name == "describe" {
+        describe(alloc, rest)
     } else if name == "prepare" {
         prepare(alloc, rest)
     } else if name == "execute" {
