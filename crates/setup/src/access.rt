@@ -1,6 +1,6 @@
 //! The replies of `rowplan matrix` and `rowplan changes`.
 
-ghost use Rattle.std.specs.Prelude.{◌≡◌, ◌⊎◌, ◌==◌, ◌&&◌, if◌then◌else◌, map};
+ghost use Rattle.std.specs.Prelude.{◌≡◌, ◌⊎◌, map};
 ghost use Rattle.output.specs.Sent.{IsSent};
 ghost use Rattle.replies.specs.Reply.{no_memory, reply_status};
 ghost use Rattle.replies.specs.ReplyText.{reply_text};
@@ -9,8 +9,8 @@ ghost use Rattle.tabular.specs.ReplyTables.{reply_table};
 ghost use Rattle.engine.specs.Serving.{IsReply};
 ghost use Rattle.access_matrix.specs.Changes.{opens};
 ghost use Rattle.access_matrix.specs.Matrix as spec;
-ghost use Rattle.access_matrix.specs.View.{pair_of};
-ghost use Rattle.setup.specs.Access.{changes_reply, changes_status};
+ghost use Rattle.access_matrix.specs.Sights.{pair_of};
+ghost use Rattle.setup.specs.Access.{changes_reply, changes_status, status_after};
 
 use access_matrix::{Changes, Pair};
 use engine::{Store, write_answer};
@@ -66,7 +66,7 @@ pub fn write_matrix_table<A: Heap, W: Out>(
 
 // What roles gain and lose by a change of the schema, and whether it opens something that is not allowed.
 fn changes<A: Heap>(alloc: A, old: &Store<A>, new: &Store<A>, allowed: &[Pair<'_>]) -> Changes<A>
-    ensures { ((reply_of result.reply ≡ changes_reply old.now new.now) × (result.opens ≡ opens old.now new.now (map pair_of allowed.now))) ⊎ (reply_of result.reply ≡ no_memory) }
+    ensures { ((reply_of result.reply ≡ changes_reply old.now new.now) × (result.opens ≡ opens old.now new.now (map (λ p. pair_of p) allowed.now))) ⊎ (reply_of result.reply ≡ no_memory) }
 {
     match access_matrix::changes(alloc, old, new, allowed) {
         Ok(changes) => changes,
@@ -77,11 +77,11 @@ fn changes<A: Heap>(alloc: A, old: &Store<A>, new: &Store<A>, allowed: &[Pair<'_
     }
 }
 
-// The status of a change, by that of the writing of its rows.
-fn status_of_changes(opens: bool, status: u8) -> u8
-    ensures { result ≡ (if opens && (status == 0) then 9 else status) }
+// The status of a change, after that with which its rows were written.
+fn status_after(opens: bool, status: u8) -> u8
+    ensures { result ≡ status_after opens status }
 {
-    if opens && status == 0 { 9 } else { status }
+    if status == 0 && opens { 9 } else { status }
 }
 
 /// Writes what roles gain and lose of tables by a change of the schema, with the rights of `root`, as comma-separated text, and returns
@@ -94,11 +94,11 @@ pub fn write_changes<A: Heap, W: Out>(
     out: &mut W,
 ) -> u8
     ensures sent { let due = changes_reply old.now new.now in
-        IsSent (W.taken out.old) (W.taken out.new) (W.failures out.old) (W.failures out.new) result (changes_status (opens old.now new.now (map pair_of allowed.now))) (reply_text due) (reply_text no_memory) }
+        IsSent (W.taken out.old) (W.taken out.new) (W.failures out.old) (W.failures out.new) result (changes_status (opens old.now new.now (map (λ p. pair_of p) allowed.now))) (reply_text due) (reply_text no_memory) }
 {
     let changes = changes(alloc, old, new, allowed);
     let status = write_answer(alloc, &changes.reply, out);
-    status_of_changes(changes.opens, status)
+    status_after(changes.opens, status)
 }
 
 /// The same as a table in aligned columns.
@@ -110,9 +110,9 @@ pub fn write_changes_table<A: Heap, W: Out>(
     out: &mut W,
 ) -> u8
     ensures sent { let due = changes_reply old.now new.now in
-        IsSent (W.taken out.old) (W.taken out.new) (W.failures out.old) (W.failures out.new) result (changes_status (opens old.now new.now (map pair_of allowed.now))) (reply_table due) (reply_text no_memory) }
+        IsSent (W.taken out.old) (W.taken out.new) (W.failures out.old) (W.failures out.new) result (changes_status (opens old.now new.now (map (λ p. pair_of p) allowed.now))) (reply_table due) (reply_text no_memory) }
 {
     let changes = changes(alloc, old, new, allowed);
     let status = write_table(alloc, &changes.reply, out);
-    status_of_changes(changes.opens, status)
+    status_after(changes.opens, status)
 }
