@@ -1,0 +1,4 @@
+pub mod Joined
+pub mod Opened
+pub mod Loops
+pub mod Reads
