@@ -50,3 +50,20 @@ module _ {X Y Z : Type 0} (f : X → Z) (p : Z → Bool) (v : Y → Z) (w : List
 -- the item of a list of which there is a view
 pub viewed : {A B : Type 0} (v : A → B) (o : Option A) (a : A) (found : Option B) → o ≡ Some a → option_map v o ≡ found → found ≡ Some (v a)
 viewed v o a found is h = sym h ∙ ap (λ o. option_map v o) is
+
+-- ---- names one after another
+
+from_named : {Y Z : Type 0} (v : Y → Z) (ys : List Y) (k : ℕ) (z : Z) → option_map v (slice_get ys k) ≡ Some z → map v (drop k ys) ≡ z ∷ map v (drop (k + 1) ys)
+from_named v ys k z h = go (slice_get ys k) refl h
+  where
+    go : (o : Option Y) → slice_get ys k ≡ o → option_map v o ≡ Some z → map v (drop k ys) ≡ z ∷ map v (drop (k + 1) ys)
+    go None e h = absurd (cc)
+    go (Some y) e h = let same : v y ≡ z = cc in ap (λ l. map v l) (from_index ys k y e) ∙ ap (λ z. z ∷ map v (drop (k + 1) ys)) same
+
+pub named_next : {X Y Z : Type 0} (f : X → Z) (v : Y → Z) (ys : List Y) (k : ℕ) (known new : List X) (whole : List Z) → map f known ++ map v (drop k ys) ≡ whole
+    → (x : X) (o : Option Z) → o ≡ Some (f x) → o ≡ option_map v (slice_get ys k) → new ≡ known ++ x ∷ [] → map f new ++ map v (drop (k + 1) ys) ≡ whole
+named_next f v ys k known new whole so_far x o is found made =
+    ap (λ l. l ++ map v (drop (k + 1) ys)) (pushed f known new x (f x) made refl)
+    ∙ append_assoc (map f known) (f x ∷ []) (map v (drop (k + 1) ys))
+    ∙ ap (λ l. map f known ++ l) (sym (from_named v ys k (f x) (sym found ∙ is)))
+    ∙ so_far

@@ -19,13 +19,15 @@ fn push_further<A: Heap>(words: &mut String<A>, names: &[&str]) -> Result<(), Al
 }
 
 /// Names with a comma and a space between them.
+#[tactic(auto, using(crate::proofs::Joined::joined_first))]
 pub(crate) fn joined<A: Heap>(alloc: A, names: &[&str]) -> Result<String<A>, AllocError>
     ensures { IfOk result (λ s. string_bytes s ≡ spec.joined (map (λ n. n.now) names.now)) }
 {
     let mut words = String::new(alloc);
-    if let Some((first, others)) = names.split_first() {
-        words.push_str(first)?;
-        push_further(&mut words, others)?;
-    }
+    let Some((first, others)) = names.split_first() else {
+        return Ok(words);
+    };
+    words.push_str(first)?;
+    push_further(&mut words, others)?;
     Ok(words)
 }
