@@ -1,5 +1,5 @@
 -- Names joined, and the words of policies one after another.
-use Rattle.std.proofs.Common.{◌≡◌, ℕ, ◌+◌, ◌<◌, ◌≤◌, Bool, true, false, cond, List, [], ◌∷◌, ◌++◌, append_assoc, append-nil, length, map, filter, get_or, drop, nat_eq, refl, sym, ap, ◌∙◌, true≢false}
+use Rattle.std.proofs.Common.{◌≡◌, ℕ, ◌+◌, ◌<◌, ◌≤◌, Bool, true, false, cond, List, [], ◌∷◌, ◌++◌, append_assoc, append-nil, length, map, filter, get_or, drop, ◌==◌, refl, sym, ap, ◌∙◌, true≢false}
 use Rattle.std.specs.Prelude.{codes, if◌then◌else◌}
 use Rattle.std.proofs.lemmas.List.{drop_all}
 use Rattle.std.specs.List.{flat_map}
@@ -20,7 +20,7 @@ abbrev pub after : List ℕ → List Policy → List ℕ
 after [] ps = policies_words ps
 after (b ∷ bs) ps = (b ∷ bs) ++ flat_map (λ p. codes ", " ++ policy_words p) ps
 
-next_words : (words : List ℕ) (p : Policy) (ps : List Policy) → after words (p ∷ ps) ≡ after (words ++ ((if nat_eq (length words) 0 then codes "by " else codes ", ") ++ policy_words p)) ps
+next_words : (words : List ℕ) (p : Policy) (ps : List Policy) → after words (p ∷ ps) ≡ after (words ++ ((if length words == 0 then codes "by " else codes ", ") ++ policy_words p)) ps
 next_words [] p ps = ap (λ l. codes "by " ++ l) (joined_first policy_words p ps) ∙ sym (append_assoc (codes "by ") (policy_words p) (flat_map (λ p. codes ", " ++ policy_words p) ps))
 next_words (b ∷ bs) p ps = sym (append_assoc (b ∷ bs) (codes ", " ++ policy_words p) (flat_map (λ p. codes ", " ++ policy_words p) ps))
 
@@ -32,7 +32,7 @@ module _ {X : Type 0} (f : Policy → Bool) (view : X → Policy) (xs : List X) 
     chosen : (b : Bool) → b ≡ f (view x) → filter f (map view (drop k xs)) ≡ cond b (view x ∷ filter f (map view (drop (k + 1) xs))) (filter f (map view (drop (k + 1) xs)))
     chosen b t = rest ∙ ap (λ b. cond b (view x ∷ filter f (map view (drop (k + 1) xs))) (filter f (map view (drop (k + 1) xs)))) (sym t)
 
-    pub policy_next : true ≡ f (view x) → (new : List ℕ) → new ≡ words ++ ((if nat_eq (length words) 0 then codes "by " else codes ", ") ++ policy_words (view x))
+    pub policy_next : true ≡ f (view x) → (new : List ℕ) → new ≡ words ++ ((if length words == 0 then codes "by " else codes ", ") ++ policy_words (view x))
         → after new (filter f (map view (drop (k + 1) xs))) ≡ whole
     policy_next t new made =
         ap (λ w. after w (filter f (map view (drop (k + 1) xs)))) made
@@ -47,10 +47,10 @@ module _ {X : Type 0} (f : Policy → Bool) (view : X → Policy) (xs : List X) 
   policies_over none = ap (λ l. after words (filter f (map view l))) (sym (drop_all k xs none)) ∙ so_far
 
 -- at the end, where some are written, and where none is
-pub some_written : (words : List ℕ) → (nat_eq (length words) 0) ≡ false → words ≡ after words []
+pub some_written : (words : List ℕ) → (length words == 0) ≡ false → words ≡ after words []
 some_written [] h = absurd (true≢false h)
 some_written (b ∷ bs) h = sym (append-nil (b ∷ bs))
 
-pub none_written : (words : List ℕ) → (nat_eq (length words) 0) ≡ true → words ++ codes "no policy" ≡ after words []
+pub none_written : (words : List ℕ) → (length words == 0) ≡ true → codes "no policy" ≡ after words []
 none_written [] h = refl
 none_written (b ∷ bs) h = absurd (true≢false (sym h))

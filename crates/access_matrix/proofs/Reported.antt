@@ -11,11 +11,13 @@ use Rattle.value.specs.Names.{Name}
 use Rattle.answer_rows.specs.Growing.{Growing, finished, only, with_value}
 use Rattle.row_objects.specs.Objects.{Table}
 use Rattle.store.specs.Database.{Database, rows_of}
-use Rattle.access_matrix.specs.Changes.{change_row, columns_gained, is_changed, names_value, rows_gained}
+use Rattle.access_matrix.specs.Changes.{change_row, columns_gained, gains, is_changed, names_value, rows_gained}
 use Rattle.access_matrix.specs.Matrix.{columns_words, count, matrix_row}
 use Rattle.access_matrix.specs.Reading.{read_columns, reads}
 use Rattle.access_matrix.specs.Reasons.{reason_words}
-use Rattle.access_matrix.specs.Sights.{IsReported, is_opened}
+use Rattle.access_matrix.specs.Sights.{IsGain, IsReported, is_any, is_opened}
+use Rattle.access_matrix.specs.declared.gains.Gain.{Gain}
+use Rattle.access_matrix.proofs.Gained.{any_gain}
 use Rattle.access_matrix.specs.declared.report.Report.{Report}
 
 -- ---- one row
@@ -58,6 +60,11 @@ change_row_is old new pair more less opened closed e1 e2 e3 e4 =
     ∙ ap (λ n. text pair.0 ∷ text pair.1 ∷ count (rows_gained old new pair.0 pair.1) ∷ count (rows_gained new old pair.0 pair.1) ∷ names_value (columns_gained old new pair.0 pair.1) ∷ names_value n ∷ []) e4
 
 -- ---- the row of a change
+
+pub changed_by : {A : Type 0} (old new : Database) (pair : Name × Name) (more less : Gain A) → IsGain old new pair.0 pair.1 more → IsGain new old pair.0 pair.1 less → (is_any more || is_any less) ≡ is_changed old new pair
+changed_by old new pair more less m l =
+    ap (λ b. b || is_any less) (any_gain old new pair.0 pair.1 more m)
+    ∙ ap (λ b. gains old new pair.0 pair.1 || b) (any_gain new old pair.0 pair.1 less l)
 
 module _ (old new : Database) (pair : Name × Name) (before after : Growing) where
   pub one_row : is_changed old new pair ≡ true → after ≡ only (before.rows ++ change_row old new pair ∷ [])

@@ -59,9 +59,10 @@ pub(crate) fn rows_read<A: Heap>(
         table,
         column: None,
     };
-    if !is_granted_by(store.catalog(), marks, role, privilege) {
+    let catalog = store.catalog();
+    if !is_granted_by(catalog, marks, role, privilege) {
         return Ok(Mask::new(alloc));
     }
-    let guard = guard_with(alloc, store.catalog(), marks, role, table)?;
+    let guard = guard_with(alloc, catalog, marks, role, table)?;
     seen_rows(alloc, store.contents_of(table.name()), &guard, role)
 }

@@ -1,6 +1,6 @@
 //! Why a role reads of a table what it reads.
 
-ghost use Rattle.std.specs.Prelude.{◌≡◌, ◌++◌, [], codes, if◌then◌else◌, IfOk, OnOk, filter, length, nat_eq, string_bytes};
+ghost use Rattle.std.specs.Prelude.{◌≡◌, ◌++◌, ◌==◌, [], codes, if◌then◌else◌, IfOk, OnOk, filter, length, string_bytes};
 ghost use Rattle.row_objects.specs.View.{policies_of, policy_of, table_of};
 ghost use Rattle.catalog.specs.Reached.{AreMarksOf};
 ghost use Rattle.access.specs.Access as access;
@@ -69,15 +69,19 @@ fn push_policy<A: Heap>(words: &mut String<A>, policy: &Policy<A>) -> Result<(),
     Ok(())
 }
 
+// The words before a policy that comes after these words.
+fn before(words: &str) -> &'static str
+    ensures { result.now ≡ (if length words.now == 0 then codes "by " else codes ", ") }
+{
+    if words.is_empty() { "by " } else { ", " }
+}
+
 // Adds a policy after others, or the first one.
 fn push_next<A: Heap>(words: &mut String<A>, policy: &Policy<A>) -> Result<(), AllocError>
-    ensures { OnOk result (string_bytes words.new ≡ string_bytes words.old ++ ((if nat_eq (length (string_bytes words.old)) 0 then codes "by " else codes ", ") ++ spec.policy_words (policy_of policy.now))) }
+    ensures { OnOk result (string_bytes words.new ≡ string_bytes words.old ++ ((if length (string_bytes words.old) == 0 then codes "by " else codes ", ") ++ spec.policy_words (policy_of policy.now))) }
 {
-    if words.is_empty() {
-        words.push_str("by ")?;
-    } else {
-        words.push_str(", ")?;
-    }
+    let first = before(words.as_str());
+    words.push_str(first)?;
     push_policy(words, policy)
 }
 
@@ -98,8 +102,8 @@ fn policies_words<A: Heap>(
             push_next(&mut words, policy)?;
         }
     }
-    if words.is_empty() {
-        words.push_str("no policy")?;
+    if words.as_str().is_empty() {
+        return String::from_str(alloc, "no policy");
     }
     Ok(words)
 }
