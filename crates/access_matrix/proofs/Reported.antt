@@ -11,7 +11,7 @@ use Rattle.value.specs.Names.{Name}
 use Rattle.answer_rows.specs.Growing.{Growing, finished, only, with_value}
 use Rattle.row_objects.specs.Objects.{Table}
 use Rattle.store.specs.Database.{Database, rows_of}
-use Rattle.access_matrix.specs.Changes.{change_row, columns_gained, gains, is_changed, names_value, rows_gained}
+use Rattle.access_matrix.specs.Changes.{change_row, change_rows, columns_gained, either, gains, is_changed, names_value, opens, pairs, roles_of, rows_gained, tables_of}
 use Rattle.access_matrix.specs.Matrix.{columns_words, count, matrix_row}
 use Rattle.access_matrix.specs.Reading.{read_columns, reads}
 use Rattle.access_matrix.specs.Reasons.{reason_words}
@@ -147,3 +147,22 @@ lent_pairs (r ∷ rs) tables =
     lent_tables : (role : Name) (tables : List (Bor Name)) → map (λ table. (role, table.now)) tables ≡ map (λ table. (role, table)) (map (λ t. t.now) tables)
     lent_tables role [] = refl
     lent_tables role (t ∷ ts) = ap (λ l. (role, t.now) ∷ l) (lent_tables role ts)
+
+-- all pairs of two databases, from the names that are found of either
+pub all_pairs : (old new : Database) (roles tables : List (Bor Name)) → map (λ n. n.now) roles ≡ either (roles_of old) (roles_of new) → map (λ n. n.now) tables ≡ either (tables_of old) (tables_of new)
+    → flat_map (λ role. map (λ table. (role.now, table.now)) tables) roles ≡ pairs old new
+all_pairs old new roles tables r t =
+    lent_pairs roles tables
+    ∙ ap (λ names. flat_map (λ role. map (λ table. (role, table)) names) (map (λ n. n.now) roles)) t
+    ∙ ap (λ names. flat_map (λ role. map (λ table. (role, table)) (either (tables_of old) (tables_of new))) names) r
+
+-- the report of all pairs, after one of none
+module _ {A : Type 0} (old new : Database) (allowed : List (Name × Name)) (found : List (Name × Name)) (all : found ≡ pairs old new) (before after : Report A) (h : IsReported old new allowed found before after) where
+  pub reported_rows : before.rows ≡ only [] → after.rows.rows ≡ change_rows old new
+  reported_rows none =
+      ap (λ g. g.rows) h.rows
+      ∙ ap (λ (g : Growing). g.rows ++ map (λ pair. change_row old new pair) (filter (λ pair. is_changed old new pair) found)) none
+      ∙ ap (λ pairs. map (λ pair. change_row old new pair) (filter (λ pair. is_changed old new pair) pairs)) all
+
+  pub reported_opens : before.opens ≡ false → after.opens ≡ opens old new allowed
+  reported_opens shut = h.opens ∙ ap (λ b. b || list_any (λ pair. is_opened old new allowed pair) found) shut ∙ ap (λ pairs. list_any (λ pair. is_opened old new allowed pair) pairs) all

@@ -5,7 +5,7 @@ use Rattle.std.proofs.lemmas.Bool.{and_right}
 use Rattle.std.proofs.lemmas.List.{length-map}
 use Rattle.value.specs.Datum.{Row}
 use Rattle.value.specs.Names.{Name}
-use Rattle.row_objects.proofs.Paths.{text_same}
+use Rattle.row_objects.proofs.Paths.{same_text, text_same}
 use Rattle.row_objects.specs.Objects.{Table}
 use Rattle.catalog.specs.Catalog.{Catalog, is_role, is_table, table_named}
 use Rattle.access.specs.Access.{granted, sees}
@@ -77,6 +77,16 @@ find_passes p (y ∷ ys) x h = go (p y) refl h (find_passes p ys x)
     go : (b : Bool) → p y ≡ b → Some x ≡ cond b (Some y) (find p ys) → (Some x ≡ find p ys → p x ≡ true) → p x ≡ true
     go true e h more = let same : x ≡ y = cc in ap p same ∙ e
     go false e h more = more h
+
+-- a table of the catalogue is found by its name
+pub there_at : (ts : List Table) (i : ℕ) (t : Table) → slice_get ts i ≡ Some t → is_some (find (λ u. bytes_eq t.name u.name) ts) ≡ true
+there_at [] i t h = absurd (cc)
+there_at (u ∷ us) zero t h = let same : t ≡ u = cc in ap (λ b. is_some (cond b (Some u) (find (λ u. bytes_eq t.name u.name) us))) (same_text t.name u.name (ap (λ (t : Table). t.name) same))
+there_at (u ∷ us) (suc i) t h = go (bytes_eq t.name u.name) (there_at us i t h)
+  where
+    go : (b : Bool) → is_some (find (λ u. bytes_eq t.name u.name) us) ≡ true → is_some (cond b (Some u) (find (λ u. bytes_eq t.name u.name) us)) ≡ true
+    go true e = refl
+    go false e = e
 
 module _ (cat : Catalog) (name : Name) (t : Table) (found : Some t ≡ table_named name cat) where
   pub its_name : name ≡ t.name
