@@ -32,10 +32,10 @@ module _ {A : Type 0} (before after : Database) (role table : Name) (old new : S
   pub rows_are : length (filter (λ k. get_or new.rows k false && not (get_or old.rows k false)) (range_with_len 0 (length new.rows))) ≡ length (rows_gained before after role table)
   rows_are = ap length (
       longer (λ k. get_or new.rows k false && not (get_or old.rows k false)) 0 (length new.rows) (length (rows_of after table)) n.within
-        (λ k l. and_left (get_or new.rows k false) (not (get_or old.rows k false)) (get_or_past new.rows k false (omega arith)))
+      (λ k l. and_left (get_or new.rows k false) (not (get_or old.rows k false)) (get_or_past new.rows k false (omega arith)))
       ∙ filter_agree (λ k. get_or new.rows k false && not (get_or old.rows k false)) (λ k. reads_row after role table k && not (reads_row before role table k))
-        (λ k. ap (λ b. b && not (get_or old.rows k false)) (n.rows k) ∙ ap (λ b. reads_row after role table k && not b) (o.rows k))
-        (range_with_len 0 (length (rows_of after table))))
+      (λ k. ap (λ b. b && not (get_or old.rows k false)) (n.rows k) ∙ ap (λ b. reads_row after role table k && not b) (o.rows k))
+      (range_with_len 0 (length (rows_of after table))))
 
   pub columns_are : filter (λ name. not (is_among name (map (λ c. c.now) old.columns))) (map (λ c. c.now) new.columns) ≡ columns_gained before after role table
   columns_are =
@@ -44,13 +44,16 @@ module _ {A : Type 0} (before after : Database) (role table : Name) (old new : S
 
 -- ---- whether that is anything
 
+suc_not : (n : ℕ) → (suc n == 0) ≡ false
+suc_not n = grind arith
+
 any_counted : {X : Type 0} (xs : List X) (n : ℕ) → n ≡ length xs → not (n == 0) ≡ are_any xs
 any_counted [] n h = ap (λ n. not (n == 0)) h
-any_counted (x ∷ xs) n h = ap (λ n. not (n == 0)) h
+any_counted (x ∷ xs) n h = ap (λ n. not (n == 0)) h ∙ ap not (suc_not (length xs))
 
 module _ {A : Type 0} (before after : Database) (role table : Name) (g : Gain A) (is : IsGain before after role table g) where
   pub any_gain : is_any g ≡ gains before after role table
   any_gain =
       ap (λ b. b || not (length g.columns == 0)) (any_counted (rows_gained before after role table) g.rows is.rows)
       ∙ ap (λ b. are_any (rows_gained before after role table) || b)
-        (any_counted (columns_gained before after role table) (length g.columns) (sym (length-map (λ c. c.now) g.columns) ∙ ap length is.columns))
+      (any_counted (columns_gained before after role table) (length g.columns) (sym (length-map g.columns (λ c. c.now)) ∙ ap length is.columns))

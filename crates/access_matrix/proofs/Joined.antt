@@ -1,5 +1,5 @@
 -- Names joined, and the words of policies one after another.
-use Rattle.std.proofs.Common.{◌≡◌, ℕ, ◌+◌, ◌<◌, ◌≤◌, Bool, true, false, cond, List, [], ◌∷◌, ◌++◌, append_assoc, append-nil, length, map, filter, get_or, drop, ◌==◌, refl, sym, ap, ◌∙◌, true≢false}
+use Rattle.std.proofs.Common.{◌≡◌, ℕ, suc, ◌+◌, ◌<◌, ◌≤◌, Bool, true, false, cond, List, [], ◌∷◌, ◌++◌, append_assoc, append-nil, length, map, filter, get_or, drop, ◌==◌, refl, sym, ap, ◌∙◌, true≢false, arith, Result, Ok, Err, IfOk}
 use Rattle.std.specs.Prelude.{codes, if◌then◌else◌}
 use Rattle.std.proofs.lemmas.List.{drop_all}
 use Rattle.std.specs.List.{flat_map}
@@ -15,14 +15,28 @@ joined_first f x (y ∷ ys) =
     ap (λ zs. f x ++ (codes ", " ++ zs)) (joined_first f y ys)
     ∙ ap (λ zs. f x ++ zs) (sym (append_assoc (codes ", ") (f y) (flat_map (λ z. codes ", " ++ f z) ys)))
 
+pub joined_done : {X : Type 0} (f : X → Name) (names : List X) (x : X) (others : List X) → names ≡ x ∷ others → (w0 w1 w2 : List ℕ) → w0 ≡ [] → w1 ≡ w0 ++ f x → w2 ≡ w1 ++ flat_map (λ y. codes ", " ++ f y) others
+    → w2 ≡ joined (map f names)
+joined_done f names x others e w0 w1 w2 h0 h1 h2 =
+    h2 ∙ ap (λ w. w ++ flat_map (λ y. codes ", " ++ f y) others) (h1 ∙ ap (λ w. w ++ f x) h0) ∙ sym (joined_first f x others) ∙ ap (λ l. joined (map f l)) (sym e)
+
+pub same_ok : {T E : Type 0} (f : T → List ℕ) (res : Result T E) (a b : List ℕ) → a ≡ b → IfOk res (λ t. f t ≡ a) → IfOk res (λ t. f t ≡ b)
+same_ok f (Ok t) a b e h = h ∙ e
+same_ok f (Err error) a b e h = tt
+
 -- the words of policies, of which some are written
 abbrev pub after : List ℕ → List Policy → List ℕ
 after [] ps = policies_words ps
 after (b ∷ bs) ps = (b ∷ bs) ++ flat_map (λ p. codes ", " ++ policy_words p) ps
 
+suc_not : (n : ℕ) → (suc n == 0) ≡ false
+suc_not n = grind arith
+
 next_words : (words : List ℕ) (p : Policy) (ps : List Policy) → after words (p ∷ ps) ≡ after (words ++ ((if length words == 0 then codes "by " else codes ", ") ++ policy_words p)) ps
 next_words [] p ps = ap (λ l. codes "by " ++ l) (joined_first policy_words p ps) ∙ sym (append_assoc (codes "by ") (policy_words p) (flat_map (λ p. codes ", " ++ policy_words p) ps))
-next_words (b ∷ bs) p ps = sym (append_assoc (b ∷ bs) (codes ", " ++ policy_words p) (flat_map (λ p. codes ", " ++ policy_words p) ps))
+next_words (b ∷ bs) p ps =
+    sym (append_assoc (b ∷ bs) (codes ", " ++ policy_words p) (flat_map (λ p. codes ", " ++ policy_words p) ps))
+    ∙ ap (λ t. after ((b ∷ bs) ++ ((if t then codes "by " else codes ", ") ++ policy_words p)) ps) (sym (suc_not (length bs)))
 
 module _ {X : Type 0} (f : Policy → Bool) (view : X → Policy) (xs : List X) (k : ℕ) (words whole : List ℕ) (so_far : after words (filter f (map view (drop k xs))) ≡ whole) where
   module _ (x : X) (more : k < length xs) (is : x ≡ get_or xs k x) where
@@ -53,4 +67,4 @@ some_written (b ∷ bs) h = sym (append-nil (b ∷ bs))
 
 pub none_written : (words : List ℕ) → (length words == 0) ≡ true → codes "no policy" ≡ after words []
 none_written [] h = refl
-none_written (b ∷ bs) h = absurd (true≢false (sym h))
+none_written (b ∷ bs) h = absurd (true≢false (sym h ∙ suc_not (length bs)))

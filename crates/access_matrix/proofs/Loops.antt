@@ -54,7 +54,7 @@ viewed v o a found is h = sym h ∙ ap (λ o. option_map v o) is
 -- ---- names one after another
 
 from_named : {Y Z : Type 0} (v : Y → Z) (ys : List Y) (k : ℕ) (z : Z) → option_map v (slice_get ys k) ≡ Some z → map v (drop k ys) ≡ z ∷ map v (drop (k + 1) ys)
-from_named v ys k z h = go (slice_get ys k) refl h
+from_named {Y = Y} v ys k z h = go (slice_get ys k) refl h
   where
     go : (o : Option Y) → slice_get ys k ≡ o → option_map v o ≡ Some z → map v (drop k ys) ≡ z ∷ map v (drop (k + 1) ys)
     go None e h = absurd (cc)

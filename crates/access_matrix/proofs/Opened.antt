@@ -55,7 +55,7 @@ module _ (f : Name × Name → Bool) (role table : Name) where
   each_pair [] tables among there none = absurd (true≢false (sym among))
   each_pair (r ∷ rs) tables among there none =
       let parts = or_parts (list_any f (map (λ t. (r, t)) tables)) (list_any f (flat_map (λ r. map (λ t. (r, t)) tables) rs))
-            (sym (list_any-append f (map (λ t. (r, t)) tables) (flat_map (λ r. map (λ t. (r, t)) tables) rs)) ∙ none) in
+      (sym (list_any-append f (map (λ t. (r, t)) tables) (flat_map (λ r. map (λ t. (r, t)) tables) rs)) ∙ none) in
       go (bytes_eq role r) refl among parts (λ among none. each_pair rs tables among there none)
     where
       go : (b : Bool) → bytes_eq role r ≡ b → (b || is_among role rs) ≡ true
@@ -129,17 +129,17 @@ pub nothing_opens : (old new : Database) (allowed : List (Name × Name)) (role t
 nothing_opens old new allowed role table column number closed free h =
     let both : (reads_row new role table number ≡ true) × (is_among column (columns_read new role table) ≡ true) = and_parts (reads_row new role table number) (is_among column (columns_read new role table)) h in
     let row : (is_role new.catalog role ≡ true) × (reads_of new.catalog role (table_named table new.catalog) (slice_get (rows_of new table) number) ≡ true)
-          = and_parts (is_role new.catalog role) (reads_of new.catalog role (table_named table new.catalog) (slice_get (rows_of new table) number)) both.0 in
+    = and_parts (is_role new.catalog role) (reads_of new.catalog role (table_named table new.catalog) (slice_get (rows_of new table) number)) both.0 in
     let there : is_some (table_named table new.catalog) ≡ true = table_there new.catalog role (table_named table new.catalog) (slice_get (rows_of new table) number) row.1 in
     let one : (r : Row) × (slice_get (rows_of new table) number ≡ Some r) = row_there new.catalog role (table_named table new.catalog) (slice_get (rows_of new table) number) row.1 in
     let role_among : is_among role (either (roles_of old) (roles_of new)) ≡ true
-          = among_either role (roles_of old) (roles_of new) (sym (found_among (λ r. r.name) role new.catalog.roles) ∙ row.0) in
+    = among_either role (roles_of old) (roles_of new) (sym (found_among (λ r. r.name) role new.catalog.roles) ∙ row.0) in
     let table_among : is_among table (either (tables_of old) (tables_of new)) ≡ true
-          = among_either table (tables_of old) (tables_of new) (sym (found_among (λ t. t.name) table new.catalog.tables) ∙ there) in
+    = among_either table (tables_of old) (tables_of new) (sym (found_among (λ t. t.name) table new.catalog.tables) ∙ there) in
     let shut : (gains old new role table && not (list_any (λ other. is_pair (role, table) other) allowed)) ≡ false
-          = each_pair (λ pair. gains old new pair.0 pair.1 && not (list_any (λ other. is_pair pair other) allowed)) role table (either (roles_of old) (roles_of new)) (either (tables_of old) (tables_of new)) role_among table_among closed in
+    = each_pair (λ pair. gains old new pair.0 pair.1 && not (list_any (λ other. is_pair pair other) allowed)) role table (either (roles_of old) (roles_of new)) (either (tables_of old) (tables_of new)) role_among table_among closed in
     let none : (are_any (rows_gained old new role table) ≡ false) × (are_any (columns_gained old new role table) ≡ false)
-          = or_parts (are_any (rows_gained old new role table)) (are_any (columns_gained old new role table)) (only_allowed (gains old new role table) (list_any (λ other. is_pair (role, table) other) allowed) shut free) in
+    = or_parts (are_any (rows_gained old new role table)) (are_any (columns_gained old new role table)) (only_allowed (gains old new role table) (list_any (λ other. is_pair (role, table) other) allowed) shut free) in
     and_from (reads_row old role table number) (is_among column (columns_read old role table))
-      (row_before (reads_row new role table) (reads_row old role table) number (length (rows_of new table)) (slice_get_within (rows_of new table) number one.0 one.1) both.0 none.0)
-      (column_before column (columns_read new role table) (columns_read old role table) both.1 none.1)
+    (row_before (reads_row new role table) (reads_row old role table) number (length (rows_of new table)) (slice_get_within (rows_of new table) number one.0 one.1) both.0 none.0)
+    (column_before column (columns_read new role table) (columns_read old role table) both.1 none.1)

@@ -101,18 +101,18 @@ module _ {A : Type 0} (old new : Database) (allowed : List (Name × Name)) where
   pub reported_both : (ps qs : List (Name × Name)) (a b c : Report A) → IsReported old new allowed ps a b → IsReported old new allowed qs b c → IsReported old new allowed (ps ++ qs) a c
   reported_both ps qs a b c p q = record {
     rows =
-      q.rows
-      ∙ ap (λ (g : Growing). only (g.rows ++ map (λ pair. change_row old new pair) (filter (λ pair. is_changed old new pair) qs))) p.rows
-      ∙ ap (λ rows. only rows) (
+        q.rows
+        ∙ ap (λ (g : Growing). only (g.rows ++ map (λ pair. change_row old new pair) (filter (λ pair. is_changed old new pair) qs))) p.rows
+        ∙ ap (λ rows. only rows) (
         append_assoc a.rows.rows (map (λ pair. change_row old new pair) (filter (λ pair. is_changed old new pair) ps)) (map (λ pair. change_row old new pair) (filter (λ pair. is_changed old new pair) qs))
         ∙ ap (λ rows. a.rows.rows ++ rows) (
-          sym (map-append (λ pair. change_row old new pair) (filter (λ pair. is_changed old new pair) ps) (filter (λ pair. is_changed old new pair) qs))
-          ∙ ap (λ pairs. map (λ pair. change_row old new pair) pairs) (sym (filter-append (λ pair. is_changed old new pair) ps qs))));
+        sym (map-append (λ pair. change_row old new pair) (filter (λ pair. is_changed old new pair) ps) (filter (λ pair. is_changed old new pair) qs))
+        ∙ ap (λ pairs. map (λ pair. change_row old new pair) pairs) (sym (filter-append (λ pair. is_changed old new pair) ps qs))));
     opens =
-      q.opens
-      ∙ ap (λ o. o || list_any (λ pair. is_opened old new allowed pair) qs) p.opens
-      ∙ or_assoc a.opens (list_any (λ pair. is_opened old new allowed pair) ps) (list_any (λ pair. is_opened old new allowed pair) qs)
-      ∙ ap (λ o. a.opens || o) (sym (list_any-append (λ pair. is_opened old new allowed pair) ps qs));
+        q.opens
+        ∙ ap (λ o. o || list_any (λ pair. is_opened old new allowed pair) qs) p.opens
+        ∙ or_assoc a.opens (list_any (λ pair. is_opened old new allowed pair) ps) (list_any (λ pair. is_opened old new allowed pair) qs)
+        ∙ ap (λ o. a.opens || o) (sym (list_any-append (λ pair. is_opened old new allowed pair) ps qs));
   }
 
   -- after one more item of a loop, whose pairs are those that f makes of it
@@ -141,7 +141,7 @@ pub lent_pairs : (roles tables : List (Bor Name))
     → flat_map (λ role. map (λ table. (role.now, table.now)) tables) roles ≡ flat_map (λ role. map (λ table. (role, table)) (map (λ t. t.now) tables)) (map (λ r. r.now) roles)
 lent_pairs [] tables = refl
 lent_pairs (r ∷ rs) tables =
-    ap (λ l. l ++ flat_map (λ role. map (λ table. (role.now, table.now)) tables) rs) (lent_tables r.now tables)
+    ap (λ l. l ++ flat_map {A = Name × Name} (λ role. map (λ table. (role.now, table.now)) tables) rs) (lent_tables r.now tables)
     ∙ ap (λ l. map (λ table. (r.now, table)) (map (λ t. t.now) tables) ++ l) (lent_pairs rs tables)
   where
     lent_tables : (role : Name) (tables : List (Bor Name)) → map (λ table. (role, table.now)) tables ≡ map (λ table. (role, table)) (map (λ t. t.now) tables)

@@ -54,7 +54,7 @@ module _ (cat : Catalog) (role : Name) (t : Table) where
     module _ {E : Type 0} (rows held : List Row) (is : rows ≡ held) where
       pub seen_within : (res : Result (List Bool) E) → IfOk res (λ m. AreSeen role guard held m) → IfOk res (λ m. length m ≤ length rows)
       seen_within (Err e) h = tt
-      seen_within (Ok m) h = let n = ap length h ∙ length-map (shows role guard) held in let l = ap length is in omega arith
+      seen_within (Ok m) h = let n = ap length h ∙ length-map held (shows role guard) in let l = ap length is in omega arith
 
       pub seen_counted : (res : Result (List Bool) E) → IfOk res (λ m. AreSeen role guard held m) → IfOk res (λ m. length (filter (λ b. b) m) ≡ length (filter (reads cat role t) rows))
       seen_counted (Err e) h = tt

@@ -30,11 +30,7 @@ struct Stores<'s, A: Heap> {
 }
 
 // Adds names as a value, null where there is none.
-fn push_names<A: Heap>(
-    alloc: A,
-    rows: &mut AnswerRows<A>,
-    names: &[&str],
-) -> Result<(), AllocError>
+fn push_names<A: Heap>(alloc: A, rows: &mut AnswerRows<A>, names: &[&str]) -> Result<(), AllocError>
     ensures { OnOk result (rows.new ≡ with_value rows.old (spec.names_value (map (λ n. n.now) names.now))) }
 {
     if names.is_empty() {
@@ -181,10 +177,24 @@ pub fn changes<A: Heap>(
         opens: false,
     };
     let stores = Stores { old, new };
-    add_roles(alloc, &mut report, stores, roles.as_slice(), tables.as_slice(), allowed)?;
+    add_roles(
+        alloc,
+        &mut report,
+        stores,
+        roles.as_slice(),
+        tables.as_slice(),
+        allowed,
+    )?;
     let headings = headings(
         alloc,
-        &["role", "table", "rows_gained", "rows_lost", "columns_gained", "columns_lost"],
+        &[
+            "role",
+            "table",
+            "rows_gained",
+            "rows_lost",
+            "columns_gained",
+            "columns_lost",
+        ],
     )?;
     let Report { rows, opens } = report;
     Ok(Changes {

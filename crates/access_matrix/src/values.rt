@@ -28,10 +28,7 @@ pub(crate) fn push_count<A: Heap>(rows: &mut AnswerRows<A>, count: u64) -> Resul
 }
 
 /// Copies of texts.
-pub(crate) fn headings<A: Heap>(
-    alloc: A,
-    texts: &[&str],
-) -> Result<Items<Text<A>, A>, AllocError>
+pub(crate) fn headings<A: Heap>(alloc: A, texts: &[&str]) -> Result<Items<Text<A>, A>, AllocError>
     ensures { IfOk result (λ headings. headings ≡ map (λ t. t.now) texts.now) }
 {
     let mut headings = Items::new(alloc);

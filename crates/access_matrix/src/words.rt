@@ -19,7 +19,6 @@ fn push_further<A: Heap>(words: &mut String<A>, names: &[&str]) -> Result<(), Al
 }
 
 /// Names with a comma and a space between them.
-#[tactic(auto, using(crate::proofs::Joined::joined_first))]
 pub(crate) fn joined<A: Heap>(alloc: A, names: &[&str]) -> Result<String<A>, AllocError>
     ensures { IfOk result (λ s. string_bytes s ≡ spec.joined (map (λ n. n.now) names.now)) }
 {

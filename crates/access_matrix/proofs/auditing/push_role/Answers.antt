@@ -11,7 +11,7 @@ use Rattle.access_matrix.proofs.auditing.push_role.Goals as goal
 pub push_row-requires-clause-there : goal.push_row-requires-clause-there
 push_row-requires-clause-there g c =
     there_at c.args.store.now.catalog.tables c.loop-index.index (table_of c.unwrap-table.result)
-      (sym (rw c.catalog-catalog.ensures.catalog at c.table_at.ensures) ∙ ap (λ o. option_map (λ t. table_of t) o) c.unwrap-table.ensures)
+    (sym (rw c.catalog-catalog.ensures.catalog at c.table_at.ensures) ∙ ap (λ o. option_map (λ t. table_of t) o) c.unwrap-table.ensures)
 
 pub loop-index-preserved : goal.loop-index-preserved
 loop-index-preserved g c = record {
@@ -19,7 +19,7 @@ loop-index-preserved g c = record {
   rest = next (λ t. matrix_row c.args.store.now c.args.role.now t ∷ []) (λ ts. map (λ t. matrix_row c.args.store.now c.args.role.now t) ts) (λ t ts. refl)
       c.args.store.now.catalog.tables c.loop-index.index c.loop-index.rows.rows _ c.loop-index.invariant.rest (table_of c.unwrap-table.result)
       (from_index c.args.store.now.catalog.tables c.loop-index.index (table_of c.unwrap-table.result)
-        (sym (rw c.catalog-catalog.ensures.catalog at c.table_at.ensures) ∙ ap (λ o. option_map (λ t. table_of t) o) c.unwrap-table.ensures))
+      (sym (rw c.catalog-catalog.ensures.catalog at c.table_at.ensures) ∙ ap (λ o. option_map (λ t. table_of t) o) c.unwrap-table.ensures))
       _ (ap (λ g. g.rows) c.in_ok-push_row.ensures);
 }
 
@@ -28,4 +28,4 @@ returns g c =
     let all = rw c.catalog-catalog.ensures.catalog at c.tables-index-end.ensures in
     only_of c.loop-index.rows c.loop-index.invariant.unfinished
     ∙ ap (λ rows. only rows) (over (λ t. matrix_row c.args.store.now c.args.role.now t ∷ []) (λ ts. map (λ t. matrix_row c.args.store.now c.args.role.now t) ts) (λ t ts. refl)
-      c.args.store.now.catalog.tables c.loop-index.index c.loop-index.rows.rows _ c.loop-index.invariant.rest refl (omega (arith, all, c.loop-index-test.false)))
+    c.args.store.now.catalog.tables c.loop-index.index c.loop-index.rows.rows _ c.loop-index.invariant.rest refl (omega (arith, all, c.loop-index-test.false)))
