@@ -136,25 +136,25 @@ module _ {A : Type 0} (old new : Database) (allowed : List (Name × Name)) where
     pub pairs_over : length ys ≤ k → IsReported old new allowed (map f ys) a b
     pairs_over none = subst (λ (items : List Y). IsReported old new allowed (map f items) a b) (take_all k ys none) so_far
 
+lent_tables : (role : Name) (tables : List (Bor Name)) → map {B = Name × Name} (λ table. (role, table.now)) tables ≡ map {B = Name × Name} (λ table. (role, table)) (map (λ t. t.now) tables)
+lent_tables role [] = refl
+lent_tables role (t ∷ ts) = ap (λ l. (role, t.now) ∷ l) (lent_tables role ts)
+
 -- pairs of names that are lent
 pub lent_pairs : (roles tables : List (Bor Name))
-    → flat_map (λ role. map (λ table. (role.now, table.now)) tables) roles ≡ flat_map (λ role. map (λ table. (role, table)) (map (λ t. t.now) tables)) (map (λ r. r.now) roles)
+    → flat_map {A = Name × Name} (λ role. map (λ table. (role.now, table.now)) tables) roles ≡ flat_map {A = Name × Name} (λ role. map (λ table. (role, table)) (map (λ t. t.now) tables)) (map (λ r. r.now) roles)
 lent_pairs [] tables = refl
 lent_pairs (r ∷ rs) tables =
-    ap (λ l. l ++ flat_map {A = Name × Name} (λ role. map (λ table. (role.now, table.now)) tables) rs) (lent_tables r.now tables)
-    ∙ ap (λ l. map (λ table. (r.now, table)) (map (λ t. t.now) tables) ++ l) (lent_pairs rs tables)
-  where
-    lent_tables : (role : Name) (tables : List (Bor Name)) → map (λ table. (role, table.now)) tables ≡ map (λ table. (role, table)) (map (λ t. t.now) tables)
-    lent_tables role [] = refl
-    lent_tables role (t ∷ ts) = ap (λ l. (role, t.now) ∷ l) (lent_tables role ts)
+    ap (λ (l : List (Name × Name)). l ++ flat_map {A = Name × Name} (λ role. map (λ table. (role.now, table.now)) tables) rs) (lent_tables r.now tables)
+    ∙ ap (λ (l : List (Name × Name)). map {B = Name × Name} (λ table. (r.now, table)) (map (λ t. t.now) tables) ++ l) (lent_pairs rs tables)
 
 -- all pairs of two databases, from the names that are found of either
 pub all_pairs : (old new : Database) (roles tables : List (Bor Name)) → map (λ n. n.now) roles ≡ either (roles_of old) (roles_of new) → map (λ n. n.now) tables ≡ either (tables_of old) (tables_of new)
-    → flat_map (λ role. map (λ table. (role.now, table.now)) tables) roles ≡ pairs old new
+    → flat_map {A = Name × Name} (λ role. map (λ table. (role.now, table.now)) tables) roles ≡ pairs old new
 all_pairs old new roles tables r t =
     lent_pairs roles tables
-    ∙ ap (λ names. flat_map (λ role. map (λ table. (role, table)) names) (map (λ n. n.now) roles)) t
-    ∙ ap (λ names. flat_map (λ role. map (λ table. (role, table)) (either (tables_of old) (tables_of new))) names) r
+    ∙ ap (λ names. flat_map {A = Name × Name} (λ role. map (λ table. (role, table)) names) (map (λ n. n.now) roles)) t
+    ∙ ap (λ names. flat_map {A = Name × Name} (λ role. map (λ table. (role, table)) (either (tables_of old) (tables_of new))) names) r
 
 -- the report of all pairs, after one of none
 module _ {A : Type 0} (old new : Database) (allowed : List (Name × Name)) (found : List (Name × Name)) (all : found ≡ pairs old new) (before after : Report A) (h : IsReported old new allowed found before after) where

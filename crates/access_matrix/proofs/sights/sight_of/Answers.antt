@@ -16,18 +16,18 @@ returns-then-not-is_role g c =
 
 pub returns-in-None : goal.returns-in-None
 returns-in-None g c =
-    let none = ap length c.nothing.ensures.rows in
+    let none = ap length c.nothing-in-None.ensures.rows in
     record {
       within = omega (arith, none);
-      rows = λ number. ap (λ m. get_or m number false) c.nothing.ensures.rows ∙ no_rows_of c.args.store.now c.args.role.now c.args.table.now (rw c.catalog-catalog.ensures.catalog at c.in-None.ensures) number;
-      columns = ap (λ l. map (λ n. n.now) l) c.nothing.ensures.columns ∙ no_columns_of c.args.store.now c.args.role.now c.args.table.now (rw c.catalog-catalog.ensures.catalog at c.in-None.ensures);
+      rows = λ number. ap (λ m. get_or m number false) c.nothing-in-None.ensures.rows ∙ no_rows_of c.args.store.now c.args.role.now c.args.table.now (rw c.catalog-catalog.ensures.catalog at c.in-None.ensures) number;
+      columns = ap (λ l. map (λ n. n.now) l) c.nothing-in-None.ensures.columns ∙ no_columns_of c.args.store.now c.args.role.now c.args.table.now (rw c.catalog-catalog.ensures.catalog at c.in-None.ensures);
     }
 
 pub rows_read-requires-clause-there : goal.rows_read-requires-clause-there
 rows_read-requires-clause-there g c = it_is_there c.args.store.now.catalog c.args.table.now (table_of c.in-Some.found) (rw c.catalog-catalog.ensures.catalog at c.in-Some.ensures)
 
-pub returns-in-Some : goal.returns-in-Some
-returns-in-Some g c =
+pub returns-in_ok-read_columns-in-Some : goal.returns-in_ok-read_columns-in-Some
+returns-in_ok-read_columns-in-Some g c =
     let a_role : is_role c.args.store.now.catalog c.args.role.now ≡ true = sym (rw c.catalog-catalog.ensures.catalog at c.if-not-is_role.ensures) in
     let found : Some (table_of c.in-Some.found) ≡ table_named c.args.table.now c.args.store.now.catalog = rw c.catalog-catalog.ensures.catalog at c.in-Some.ensures in
     record {
