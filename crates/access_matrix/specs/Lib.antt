@@ -3,3 +3,4 @@ pub mod Reasons
 pub mod Matrix
 pub mod Changes
 pub mod Closed
+pub mod Sights
