@@ -1,3 +1,4 @@
 pub mod Fold
 pub mod Opens
+pub mod PlanTree
 pub mod Tables
