@@ -23,10 +23,10 @@ module _ (q : Source) (depth : ℕ) (d : PlanStep) where
 
   pub steps_more : (ss : List PlanStep) (next : ℕ) → 2 ≤ length ss → next ≡ suc depth
       → steps_text q depth ss
-      ≡ node_text q (record { is_scan = false; step = get_or ss 0 d; before = rest_of ss; depth = depth }) ++ (steps_text q next (rest_of ss) ++ node_text q (record { is_scan = true; step = get_or ss 0 d; before = rest_of ss; depth = next }))
+      ≡ node_text q (record { is_scan = false; step = get_or ss 0 d; before = rest_of ss; depth = depth }) ++ steps_text q next (rest_of ss) ++ node_text q (record { is_scan = true; step = get_or ss 0 d; before = rest_of ss; depth = next })
   steps_more [] next h n = absurd (omega arith)
   steps_more (s ∷ []) next h n = absurd (omega arith)
   steps_more (s ∷ (b ∷ ss)) next h n =
       let text = λ (rest : List PlanStep) (below : ℕ).
-      node_text q (record { is_scan = false; step = s; before = rest; depth = depth }) ++ (steps_text q below rest ++ node_text q (record { is_scan = true; step = s; before = rest; depth = below })) in
+      node_text q (record { is_scan = false; step = s; before = rest; depth = depth }) ++ steps_text q below rest ++ node_text q (record { is_scan = true; step = s; before = rest; depth = below }) in
       ap₂ text (sym (rest_is s (b ∷ ss))) (sym n)

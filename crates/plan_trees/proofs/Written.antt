@@ -25,11 +25,14 @@ details_next entries n o o1 all number e es a h =
 pub two : (o o1 o2 a b : List ℕ) → o1 ≡ o ++ a → o2 ≡ o1 ++ b → o2 ≡ o ++ (a ++ b)
 two o o1 o2 a b p q = q ∙ ap (λ t. t ++ b) p ∙ append_assoc o a b
 
-pub three : (o o1 o2 o3 a b d : List ℕ) → o1 ≡ o ++ a → o2 ≡ o1 ++ b → o3 ≡ o2 ++ d → o3 ≡ o ++ (a ++ (b ++ d))
-three o o1 o2 o3 a b d p q r = two o o1 o3 a (b ++ d) p (two o1 o2 o3 b d q r)
+pub three : (o o1 o2 o3 a b d : List ℕ) → o1 ≡ o ++ a → o2 ≡ o1 ++ b → o3 ≡ o2 ++ d → o3 ≡ o ++ ((a ++ b) ++ d)
+three o o1 o2 o3 a b d p q r = two o o2 o3 (a ++ b) d (two o o1 o2 a b p q) r
 
-pub four : (o o1 o2 o3 o4 a b d e : List ℕ) → o1 ≡ o ++ a → o2 ≡ o1 ++ b → o3 ≡ o2 ++ d → o4 ≡ o3 ++ e → o4 ≡ o ++ (a ++ (b ++ (d ++ e)))
-four o o1 o2 o3 o4 a b d e p q r s = two o o1 o4 a (b ++ (d ++ e)) p (three o1 o2 o3 o4 b d e q r s)
+pub four : (o o1 o2 o3 o4 a b d e : List ℕ) → o1 ≡ o ++ a → o2 ≡ o1 ++ b → o3 ≡ o2 ++ d → o4 ≡ o3 ++ e → o4 ≡ o ++ (((a ++ b) ++ d) ++ e)
+four o o1 o2 o3 o4 a b d e p q r s = two o o3 o4 ((a ++ b) ++ d) e (three o o1 o2 o3 a b d p q r) s
+
+pub five : (o o1 o2 o3 o4 o5 a b d e f : List ℕ) → o1 ≡ o ++ a → o2 ≡ o1 ++ b → o3 ≡ o2 ++ d → o4 ≡ o3 ++ e → o5 ≡ o4 ++ f → o5 ≡ o ++ ((((a ++ b) ++ d) ++ e) ++ f)
+five o o1 o2 o3 o4 o5 a b d e f p q r s t = two o o4 o5 (((a ++ b) ++ d) ++ e) f (four o o1 o2 o3 o4 a b d e p q r s) t
 
 -- ---- the ON of an entry
 
@@ -46,8 +49,3 @@ module _ {Y : Type 0} (view : Y → OnCondition) (ys : List Y) (k : ℕ) (y : Y)
   on_over differ =
       let rest = on_text (map view (drop (k + 1) ys)) entry in
       ap (λ b. if b then expr_text (view y).condition else rest) (sym (ne_eqb (view y).entry entry differ)) ∙ ap (λ os. on_text os entry) (sym split) ∙ so_far
-
--- ---- nodes and trees
-
-pub five : (o o1 o2 o3 o4 o5 a b d e f : List ℕ) → o1 ≡ o ++ a → o2 ≡ o1 ++ b → o3 ≡ o2 ++ d → o4 ≡ o3 ++ e → o5 ≡ o4 ++ f → o5 ≡ o ++ (a ++ (b ++ (d ++ (e ++ f))))
-five o o1 o2 o3 o4 o5 a b d e f p q r s t = two o o1 o5 a (b ++ (d ++ (e ++ f))) p (four o1 o2 o3 o4 o5 b d e f q r s t)

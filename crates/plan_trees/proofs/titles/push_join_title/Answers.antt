@@ -15,5 +15,5 @@ returns-in_ok-push_str-2 g c =
     let on_ = on_text p.ons s.step.entry in
     on_ok_weaker c.push_on.result
     (λ h. three o c.push_str.new.out.items o2 _ title (codes "  ") on_ (c.in_ok-push_str.ensures ∙ ap (λ t. o ++ t) c.left_title.ensures) c.in_ok-push_str-2.ensures (h ∙ ap (λ os. o2 ++ on_text (map on_of os) s.step.entry) c.as_slice.ensures)
-    ∙ ap (λ b. o ++ (if b then title ++ (codes "  " ++ on_) else inner_title p.filters s.step.method)) (sym c.if-step.true))
+    ∙ ap (λ b. o ++ (if b then title ++ codes "  " ++ on_ else inner_title p.filters s.step.method)) (sym c.if-step.true))
     c.push_on.ensures

@@ -3,6 +3,7 @@ use Rattle.std.specs.Prelude.{map}
 use Rattle.std.proofs.Math.ListN.{drop_of_length-le}
 use Rattle.std.proofs.lemmas.List.{append-nil}
 use Rattle.std.proofs.lemmas.Result.{on_ok_weaker}
+use Rattle.expr_texts.specs.ExprTexts.{expr_text}
 use Rattle.plan_texts.specs.View.{on_of}
 use Rattle.plan_trees.specs.PlanTrees.{on_text}
 use Rattle.plan_trees.proofs.Written.{on_found, on_over}
@@ -17,7 +18,7 @@ loop-on-preserved g c = record {
 pub returns-then-on-entry : goal.returns-then-on-entry
 returns-then-on-entry g c =
     on_ok_weaker c.push_expr.result
-    (λ h. h ∙ ap (λ o. o ++ _) c.loop-on.invariant.out ∙ ap (λ t. c.args.out.now.items ++ t) (on_found on_of c.args.ons.now c.loop-on.on-index c.on-item.result c.args.entry _ c.loop-on-test.true c.on-item.is c.loop-on.invariant.text c.if-on-entry.true))
+    (λ h. h ∙ ap (λ o. o ++ expr_text (on_of c.on-item.result).condition) c.loop-on.invariant.out ∙ ap (λ t. c.args.out.now.items ++ t) (on_found on_of c.args.ons.now c.loop-on.on-index c.on-item.result c.args.entry _ c.loop-on-test.true c.on-item.is c.loop-on.invariant.text c.if-on-entry.true))
     c.push_expr.ensures
 
 pub returns : goal.returns

@@ -15,7 +15,8 @@ returns-in-empty g t c =
 pub returns-in-len1 : goal.returns-in-len1
 returns-in-len1 g t c =
     let q = source_of c.args.source.now in
-    on_ok_weaker c.push_node.result (λ h. h ∙ ap (λ text. c.args.out.now.items ++ text) (sym (steps_one q c.args.depth _ c.args.steps.now c.in-len1.len))) c.push_node.ensures
+    let one : length c.args.steps.now ≡ 1 = omega arith in
+    on_ok_weaker c.push_node.result (λ h. h ∙ ap (λ text. c.args.out.now.items ++ text) (sym (steps_one q c.args.depth _ c.args.steps.now one))) c.push_node.ensures
 
 pub returns-in_ok-push_steps-in-len1-up : goal.returns-in_ok-push_steps-in-len1-up
 returns-in_ok-push_steps-in-len1-up g t c =

@@ -7,8 +7,8 @@ use Rattle.plan_trees.specs.View.{node_of, source_of}
 use Rattle.plan_trees.proofs.Written.{four}
 use Rattle.plan_trees.proofs.writing.push_node.Goals as goal
 
-pub returns-in_ok-push_end : goal.returns-in_ok-push_end
-returns-in_ok-push_end g c =
+pub returns : goal.returns
+returns g c =
     let q = source_of c.args.source.now in
     let n = node_of c.args.node.now in
     on_ok_weaker c.push_details.result
