@@ -1,4 +1,5 @@
 pub mod Fold
 pub mod Opens
+pub mod PlanTree
 pub mod Tables
 pub mod SentChanges

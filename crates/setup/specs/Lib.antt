@@ -3,4 +3,5 @@ pub mod Explanation
 pub mod Lines
 pub mod Loads
 pub mod Opening
+pub mod PlanTree
 pub mod Schema

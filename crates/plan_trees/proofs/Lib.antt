@@ -1,0 +1,4 @@
+mod Items
+mod ColumnWalks
+mod Written
+mod Trees

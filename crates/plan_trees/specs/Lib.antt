@@ -1,0 +1,2 @@
+pub mod PlanTrees
+pub mod View
