@@ -133,6 +133,11 @@ module _ {A : Type 0} (old new : Database) (allowed : List (Name × Name)) where
         let pairs : map f (take (k + 1) ys) ≡ map f (take k ys) ++ f y ∷ [] = ap (λ l. map f l) items ∙ map-append f (take k ys) (y ∷ []) in
         subst (λ (pairs : List (Name × Name)). IsReported old new allowed pairs a c) (sym pairs) (reported_both (map f (take k ys)) (f y ∷ []) a b c so_far h)
 
+    pub pair_at : (d : Y) → k < length ys → (c : Report A) → IsReported old new allowed (f (get_or ys k d) ∷ []) b c → IsReported old new allowed (map f (take (k + 1) ys)) a c
+    pair_at d more c h =
+        let pairs : map f (take (k + 1) ys) ≡ map f (take k ys) ++ f (get_or ys k d) ∷ [] = ap (λ l. map f l) (take_more ys k d more) ∙ map-append f (take k ys) (get_or ys k d ∷ []) in
+        subst (λ (pairs : List (Name × Name)). IsReported old new allowed pairs a c) (sym pairs) (reported_both (map f (take k ys)) (f (get_or ys k d) ∷ []) a b c so_far h)
+
     pub pairs_over : length ys ≤ k → IsReported old new allowed (map f ys) a b
     pairs_over none = subst (λ (items : List Y). IsReported old new allowed (map f items) a b) (take_all k ys none) so_far
 

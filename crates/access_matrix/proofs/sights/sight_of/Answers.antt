@@ -31,7 +31,7 @@ returns-in_ok-read_columns-in-Some g c =
     let a_role : is_role c.args.store.now.catalog c.args.role.now ≡ true = sym (rw c.catalog-catalog.ensures.catalog at c.if-not-is_role.ensures) in
     let found : Some (table_of c.in-Some.found) ≡ table_named c.args.table.now c.args.store.now.catalog = rw c.catalog-catalog.ensures.catalog at c.in-Some.ensures in
     record {
-      within = rw (its_name c.args.store.now.catalog c.args.table.now (table_of c.in-Some.found) found) c.in_ok-rows_read.ensures.within;
-      rows = λ number. c.in_ok-rows_read.ensures.each number ∙ its_rows c.args.store.now c.args.role.now c.args.table.now a_role (table_of c.in-Some.found) found number;
-      columns = (rw c.catalog-catalog.ensures.catalog at c.in_ok-read_columns.ensures) ∙ its_columns c.args.store.now c.args.role.now c.args.table.now a_role (table_of c.in-Some.found) found;
+      within = rw (its_name c.args.store.now.catalog c.args.table.now (table_of c.in-Some.found) found) c.in_ok-rows_read-in-Some.ensures.within;
+      rows = λ number. c.in_ok-rows_read-in-Some.ensures.each number ∙ its_rows c.args.store.now c.args.role.now c.args.table.now a_role (table_of c.in-Some.found) found number;
+      columns = (rw c.catalog-catalog.ensures.catalog at c.in_ok-read_columns-in-Some.ensures) ∙ its_columns c.args.store.now c.args.role.now c.args.table.now a_role (table_of c.in-Some.found) found;
     }
