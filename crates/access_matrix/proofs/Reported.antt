@@ -127,12 +127,6 @@ module _ {A : Type 0} (old new : Database) (allowed : List (Name × Name)) where
     reported_over none = subst (λ (items : List Y). IsReported old new allowed (flat_map f items) a b) (take_all k ys none) so_far
 
   module _ {Y : Type 0} (f : Y → Name × Name) (ys : List Y) (k : ℕ) (a b : Report A) (so_far : IsReported old new allowed (map f (take k ys)) a b) where
-    pub pair_next : (y : Y) → k < length ys → y ≡ get_or ys k y → (c : Report A) → IsReported old new allowed (f y ∷ []) b c → IsReported old new allowed (map f (take (k + 1) ys)) a c
-    pair_next y more is c h =
-        let items : take (k + 1) ys ≡ take k ys ++ y ∷ [] = take_more ys k y more ∙ ap (λ y. take k ys ++ y ∷ []) (sym is) in
-        let pairs : map f (take (k + 1) ys) ≡ map f (take k ys) ++ f y ∷ [] = ap (λ l. map f l) items ∙ map-append f (take k ys) (y ∷ []) in
-        subst (λ (pairs : List (Name × Name)). IsReported old new allowed pairs a c) (sym pairs) (reported_both (map f (take k ys)) (f y ∷ []) a b c so_far h)
-
     pub pair_at : (d : Y) → k < length ys → (c : Report A) → IsReported old new allowed (f (get_or ys k d) ∷ []) b c → IsReported old new allowed (map f (take (k + 1) ys)) a c
     pair_at d more c h =
         let pairs : map f (take (k + 1) ys) ≡ map f (take k ys) ++ f (get_or ys k d) ∷ [] = ap (λ l. map f l) (take_more ys k d more) ∙ map-append f (take k ys) (get_or ys k d ∷ []) in
