@@ -6,7 +6,6 @@ use Rattle.value.specs.Names.{Name}
 use Rattle.row_ast.specs.Ast.{ColumnRef, Expr}
 use Rattle.expr.specs.declared.code.Access.{Access}
 use Rattle.expr.specs.declared.code.Access.TheVariants.{Full, Index, Range}
-use Rattle.expr.specs.declared.code.CodeStep.{CodeStep}
 use Rattle.expr.specs.declared.code.Method.{Method}
 use Rattle.expr.specs.declared.code.Method.TheVariants.{Nested, Hash, Merge}
 use Rattle.expr_texts.specs.ExprTexts.{expr_text}

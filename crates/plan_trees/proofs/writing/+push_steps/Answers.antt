@@ -1,9 +1,9 @@
-use Rattle.std.proofs.Common.{◌≡◌, ◌++◌, ◌∙◌, ◌+◌, ◌≤◌, [], suc, length, get_or, sym, ap, arith}
+use Rattle.std.proofs.Common.{◌≡◌, ◌++◌, ◌∙◌, ◌+◌, ◌≤◌, suc, length, sym, ap, arith}
 use Rattle.std.proofs.lemmas.List.{append-nil}
 use Rattle.std.proofs.lemmas.Result.{on_ok_weaker}
-use Rattle.plan_trees.specs.PlanTrees.{node_text, steps_text}
+use Rattle.plan_trees.specs.PlanTrees.{steps_text}
 use Rattle.plan_trees.specs.View.{source_of}
-use Rattle.plan_trees.proofs.Trees.{none_there, rest_of, steps_more, steps_one}
+use Rattle.plan_trees.proofs.Trees.{none_there, steps_more, steps_one}
 use Rattle.plan_trees.proofs.Written.{three}
 use Rattle.plan_trees.proofs.writing.+push_steps.Goals as goal
 

@@ -1,7 +1,6 @@
 use Rattle.std.proofs.Common.{◌++◌, map, ap, ◌∙◌}
 use Rattle.std.proofs.lemmas.Result.{on_ok_weaker}
 use Rattle.row_ast.specs.View.{expr_of}
-use Rattle.plan_texts.specs.View.{plan_entry_of}
 use Rattle.plan_trees.specs.PlanTrees.{details, node_end, node_start, title}
 use Rattle.plan_trees.specs.View.{node_of, source_of}
 use Rattle.plan_trees.proofs.Written.{four}

@@ -7,4 +7,4 @@ use Rattle.setup.proofs.plan_tree.table_names.Goals as goal
 pub loop-entry-preserved : goal.loop-entry-preserved
 loop-entry-preserved g c =
     map_next (λ e. e.table.name) (λ e. entry_of e) c.args.entries.now c.loop-entry.entry-index _ _ c.loop-entry.invariant c.entry-item.result c.loop-entry-test.true c.entry-item.is _
-    (pushed (λ (t : Bor (List ℕ)). t.now) c.loop-entry.names.items c.push.new.self.items _ _ c.in_ok-push.ensures.ok c.name.ensures)
+    (pushed (λ (t : Bor (List ℕ)). t.now) c.loop-entry.names.items c.push.new.self.items _ _ c.in_ok-push.ensures.items c.name.ensures)

@@ -13,8 +13,8 @@ returns-in-Ok g c =
     let read = (rw c.catalog.ensures.catalog at c.in_ok-query.ensures.read) in
     subst (λ r. IfOk c.tree_of_query-tree.result (λ bytes. bytes.items ≡ tree_or_same (and_then r (admitted_query cat role)) c.args.explained.items)) (sym (sym read ∙ ap read_of c.in-Ok.is)) c.tree_of_query-tree.ensures
 
-pub returns-in-Err : goal.returns-in-Err
-returns-in-Err g c =
+pub returns : goal.returns
+returns g c =
     let cat = c.args.store.now.catalog in
     let role = c.args.role.now in
     let read = (rw c.catalog.ensures.catalog at c.in_ok-query.ensures.read) in
