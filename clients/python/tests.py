@@ -72,9 +72,9 @@ class Queries(unittest.TestCase):
         self.assertEqual(self.cursor.fetchall(), [])
 
     def test_types(self):
-        self.cursor.execute("SELECT id = 1 AS one, NULL AS nothing, CASE WHEN id > 1 THEN NULL ELSE 'x' END AS word FROM deal ORDER BY id LIMIT 2")
-        self.assertEqual([c[1] for c in self.cursor.description], ["boolean", None, "text"])
-        self.assertEqual(list(self.cursor), [(True, None, "x"), (False, None, None)])
+        self.cursor.execute("SELECT id, id = 1 AS one, NULL AS nothing, CASE WHEN id > 1 THEN NULL ELSE 'x' END AS word FROM deal ORDER BY id LIMIT 2")
+        self.assertEqual([c[1] for c in self.cursor.description], ["bigint", "boolean", None, "text"])
+        self.assertEqual(list(self.cursor), [(1, True, None, "x"), (2, False, None, None)])
 
     def test_no_rows(self):
         self.cursor.execute("SELECT * FROM deal WHERE id = ?", (99,))
