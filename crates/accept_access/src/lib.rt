@@ -1,4 +1,4 @@
-//! Worked rows of the access matrix and of changes of a schema. docs/ACCEPTANCE.md lists them.
+//! Worked rows of the access matrix, of changes of a schema, and of plans as trees. docs/ACCEPTANCE.md lists them.
 #![tactic(auto)]
 
 #[cfg(test)]
@@ -9,5 +9,7 @@ mod clinic;
 mod compared;
 #[cfg(test)]
 mod matrix;
+#[cfg(test)]
+mod plan_trees;
 #[cfg(test)]
 mod texts;

@@ -17,8 +17,6 @@ mod explains;
 #[cfg(test)]
 mod plan_reading;
 #[cfg(test)]
-mod plan_trees;
-#[cfg(test)]
 mod planned;
 #[cfg(test)]
 mod planned_texts;

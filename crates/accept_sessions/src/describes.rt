@@ -73,17 +73,9 @@ describe 0 SELECT id FROM deal => refused 08003
 ";
 
 #[test]
-fn columns_are_described_by_their_types(rt: HostRuntime) -> Result<(), Fail> {
+fn columns_are_described(rt: HostRuntime) -> Result<(), Fail> {
     run(&rt, TYPES)?;
-    Ok(run(&rt, CASES)?)
-}
-
-#[test]
-fn texts_are_described_for_the_current_role(rt: HostRuntime) -> Result<(), Fail> {
-    Ok(run(&rt, CURRENT_ROLE)?)
-}
-
-#[test]
-fn texts_that_are_refused_are_not_described(rt: HostRuntime) -> Result<(), Fail> {
+    run(&rt, CASES)?;
+    run(&rt, CURRENT_ROLE)?;
     Ok(run(&rt, REFUSED)?)
 }

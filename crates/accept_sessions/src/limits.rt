@@ -1,6 +1,8 @@
 //! As many sessions, prepared texts and cursors as may be, and one more; texts of the greatest length.
 
 use crate::scripts::{sales_core, take, take_all};
+use fixtures::FixtureError;
+use memory::Failure;
 use session::Core;
 use std::alloc::{AllocError, Global};
 use std::process::Abort;
@@ -122,20 +124,23 @@ fn sessions_are_limited(rt: HostRuntime) -> Result<(), Fail> {
     Ok(take_all(&rt, &mut core, SESSIONS)?)
 }
 
-#[test]
-fn prepared_texts_are_limited(rt: HostRuntime) -> Result<(), Fail> {
+// So many events are taken in a session of alice, and then these rows.
+fn are_limited(
+    rt: &(impl Abort + AllocGlobal),
+    row: &str,
+    count: u64,
+    rows: &str,
+) -> Result<(), Failure<FixtureError>> {
     let mut core = sales_core(rt.alloc())?;
-    take(&rt, &mut core, "login alice => session 0")?;
-    take_numbered(&rt, &mut core, PREPARED, 64)?;
-    Ok(take_all(&rt, &mut core, PREPARED_TEXTS)?)
+    take(rt, &mut core, "login alice => session 0")?;
+    take_numbered(rt, &mut core, row, count)?;
+    Ok(take_all(rt, &mut core, rows)?)
 }
 
 #[test]
-fn cursors_are_limited(rt: HostRuntime) -> Result<(), Fail> {
-    let mut core = sales_core(rt.alloc())?;
-    take(&rt, &mut core, "login alice => session 0")?;
-    take_numbered(&rt, &mut core, DECLARED, 16)?;
-    Ok(take_all(&rt, &mut core, CURSORS)?)
+fn prepared_texts_and_cursors_are_limited(rt: HostRuntime) -> Result<(), Fail> {
+    are_limited(&rt, PREPARED, 64, PREPARED_TEXTS)?;
+    Ok(are_limited(&rt, DECLARED, 16, CURSORS)?)
 }
 
 #[test]
