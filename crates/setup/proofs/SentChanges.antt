@@ -6,10 +6,7 @@ use Rattle.replies.specs.Reply.{Reply, no_memory, reply_status}
 use Rattle.setup.specs.Access.{changes_status, status_after}
 
 module _ {old new : Option (List ℕ)} {failures after : ℕ} {line : List ℕ} where
-  abbrev Sent : (status due_status : ℕ) → List ℕ → Type 0
-  Sent status due_status due = IsSent old new failures after status due_status due line
-
-  opened : (opens : Bool) (due : List ℕ) → Sent 0 0 due → Sent (changes_status opens) (changes_status opens) due
+  opened : (opens : Bool) (due : List ℕ) → IsSent old new failures after 0 0 due line → IsSent old new failures after (changes_status opens) (changes_status opens) due line
   opened false due s = s
   opened true due s = record {
     answered = λ enough good. (refl, (s.answered (λ e. absurd (omega (arith, e))) (λ e. absurd (omega (arith, e)))).1);
@@ -19,7 +16,7 @@ module _ {old new : Option (List ℕ)} {failures after : ℕ} {line : List ℕ} 
     beginning = λ bad. absurd (omega (arith, bad));
   }
 
-  failing : (status due_status : ℕ) (due : List ℕ) → Sent (suc status) 0 due → Sent (suc status) due_status due
+  failing : (status due_status : ℕ) (due : List ℕ) → IsSent old new failures after (suc status) 0 due line → IsSent old new failures after (suc status) due_status due line
   failing status due_status due s = record {
     answered = λ enough good. let same = (s.answered enough good).0 in absurd (omega (arith, same));
     memory = s.memory;
@@ -28,8 +25,8 @@ module _ {old new : Option (List ℕ)} {failures after : ℕ} {line : List ℕ} 
     beginning = s.beginning;
   }
 
-  pub sent_changes : (status : ℕ) (given opens : Bool) (due : List ℕ) → (status ≡ 0 → given ≡ opens) → Sent status 0 due → Sent (status_after given status) (changes_status opens) due
-  sent_changes zero given opens due same s = subst (λ b. Sent (changes_status given) (changes_status b) due) (same refl) (opened given due s)
+  pub sent_changes : (status : ℕ) (given opens : Bool) (due : List ℕ) → (status ≡ 0 → given ≡ opens) → IsSent old new failures after status 0 due line → IsSent old new failures after (status_after given status) (changes_status opens) due line
+  sent_changes zero given opens due same s = subst (λ b. IsSent old new failures after (changes_status given) (changes_status b) due line) (same refl) (opened given due s)
   sent_changes (suc status) given opens due same s = failing status (changes_status opens) due s
 
   -- where rows were written memory did not run out
@@ -41,6 +38,6 @@ module _ {old new : Option (List ℕ)} {failures after : ℕ} {line : List ℕ} 
       let seven : reply_status reply ≡ 7 = rw e refl in
       absurd (omega (arith, is, same, seven))
 
-  pub is_reply : (reply due : Reply) (given opens : Bool) → ((reply ≡ due) × (given ≡ opens)) ⊎ (reply ≡ no_memory) → (reply ≡ due) ⊎ (reply ≡ no_memory)
-  is_reply reply due given opens (inl h) = inl h.0
-  is_reply reply due given opens (inr e) = inr e
+pub is_reply : (reply due : Reply) (given opens : Bool) → ((reply ≡ due) × (given ≡ opens)) ⊎ (reply ≡ no_memory) → (reply ≡ due) ⊎ (reply ≡ no_memory)
+is_reply reply due given opens (inl h) = inl h.0
+is_reply reply due given opens (inr e) = inr e

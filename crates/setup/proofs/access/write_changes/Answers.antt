@@ -5,7 +5,7 @@ use Rattle.setup.proofs.access.write_changes.Goals as goal
 
 pub returns : goal.returns
 returns g c =
-    let h = c.changes-2.ensures in
+    let h = c.changes-changes.ensures in
     let s = c.write_answer-status.ensures.sent in
     let due = due_sent reply_text _ _ (is_reply _ _ _ _ h) s in
     rw c.status_after.ensures (record { sent = sent_changes _ _ _ _ (agrees reply_text _ _ _ _ _ h s) due })
