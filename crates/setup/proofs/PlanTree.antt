@@ -1,5 +1,5 @@
 -- The tree of what explains a text.
-use Rattle.std.proofs.Common.{◌≡◌, ℕ, List, Result, Ok, Err, refl, ap}
+use Rattle.std.proofs.Common.{◌≡◌, ◌∙◌, ℕ, List, Result, Ok, Err, refl, ap}
 use Rattle.value.specs.Names.{Name}
 use Rattle.resolve.specs.Resolved.{Bound}
 use Rattle.replies.specs.Reply.{Reply}
