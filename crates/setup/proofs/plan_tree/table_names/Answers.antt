@@ -1,4 +1,4 @@
-use Rattle.std.proofs.Common.{◌∙◌, List, ℕ}
+use Rattle.std.proofs.Common.{List, ℕ}
 use denote.Ref.{Bor}
 use Rattle.memory.proofs.Lists.{map_next, pushed}
 use Rattle.scope.specs.View.{entry_of}
