@@ -5,6 +5,7 @@ use Rattle.value.specs.Names.{Name}
 use Rattle.value.specs.declared.refusal.Refusal.{Refusal}
 use Rattle.replies.specs.View as engine
 use Rattle.replies.specs.declared.reply.Reply as replies
+use Rattle.descriptions.specs.Descriptions.{described}
 use Rattle.engine.specs.Resolved.{Bound}
 use Rattle.engine.specs.Answer.{reply_to}
 use Rattle.engine.specs.Database.{Database, rows_of}
@@ -39,7 +40,14 @@ IsAnswer s (Ok asked) (Err code) = ⊥
 IsAnswer s (Err refusal) (Ok reply) = ⊥
 IsAnswer s (Err refusal) (Err code) = refusal ≡ refused_by code
 
--- the same, and the key was looked up; where memory runs out, it may have been
+-- the names and types of the columns of the text that a session asks about, or why it asks nothing
+abbrev pub IsDescription : {A : Type 0} → State → Result (Name × List ℕ) Reply → Result (replies.Reply A) Refusal → Type 0
+IsDescription s (Ok asked) (Ok reply) = engine.reply_of reply ≡ described s.database.catalog asked.0 asked.1
+IsDescription s (Ok asked) (Err code) = ⊥
+IsDescription s (Err refusal) (Ok reply) = ⊥
+IsDescription s (Err refusal) (Err code) = refusal ≡ refused_by code
+
+-- an answer, and the key was looked up; where memory runs out, it may have been
 abbrev pub Answers : {A E : Type 0} → State → Result (Name × List ℕ) Reply → Recent → Recent → Result (Result (replies.Reply A) Refusal) E → Type 0
 Answers s asked old new (Ok answer) = IsAnswer s asked answer × (new ≡ recent_after_asked s old (result_ok asked))
 Answers s asked old new (Err e) = MayBe old (recent_after_asked s old (result_ok asked)) new

@@ -11,8 +11,9 @@ ghost use Rattle.sessions.specs.AtOnce.{asked_at_once};
 ghost use Rattle.sessions.specs.Taking.{asked_of};
 ghost use Rattle.session.specs.Kept.{AreKept};
 ghost use Rattle.session.specs.Machine.{present_key};
-ghost use Rattle.session.specs.Taking.{Answers, Readied, Replies};
+ghost use Rattle.session.specs.Taking.{Answers, IsDescription, Readied, Replies};
 
+use descriptions::describe;
 use engine::{Bound, Plan, Query, Seen, admit, plan_with, read_query, run_plan};
 use memory::Heap;
 use replies::Reply;
@@ -160,6 +161,24 @@ pub(crate) fn answer_asked<A: Heap>(
 {
     match asked {
         Ok((role, text)) => match answer(alloc, sessions, shared, role, text) {
+            Ok(reply) => Ok(Ok(reply)),
+            Err(error) => Err(error),
+        },
+        Err(code) => Ok(Err(code)),
+    }
+}
+
+/// The name and the type of each column of the text that a session asks about, or why it asks nothing. It fails where memory runs out.
+pub(crate) fn describe_asked<A: Heap>(
+    alloc: A,
+    sessions: &Sessions<A>,
+    asked: Result<(&str, &str), Refusal>,
+) -> Result<Result<Reply<A>, Refusal>, AllocError>
+    ensures described { IfOk result (λ r. IsDescription sessions.now (asked_of (λ t. t.now) asked.entry) r) }
+    ensures at_once { asked_at_once sessions.now (asked_of (λ t. t.now) asked.entry) ≡ true → IsOk result }
+{
+    match asked {
+        Ok((role, text)) => match describe(alloc, sessions.store().catalog(), role, text) {
             Ok(reply) => Ok(Ok(reply)),
             Err(error) => Err(error),
         },

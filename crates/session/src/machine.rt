@@ -10,10 +10,9 @@ ghost use Rattle.session.specs.Machine.{IsMachineStep, IsRun, IsStep, RunsAreThe
 ghost use Rattle.session.specs.Taking.{Answers, TakesEvent};
 ghost use Rattle.session.specs.View.{event_of};
 
-use crate::asking::{Shared, answer_asked};
+use crate::asking::{Shared, answer_asked, describe_asked};
 use crate::event::Event;
 use crate::forgetting::{counts, forget_if_later};
-use descriptions::describe;
 use engine::{Seen, Store};
 use memory::{Heap, Text};
 use sessions::{Reply, Sessions, refused_by};
@@ -95,15 +94,11 @@ impl<A: Heap> Core<A> {
         ensures takes { TakesEvent self.now self.now (event.Describe session text.now) result }
         ensures at_once { takes_no_memory self.now.state (event.Describe session text.now) ≡ true → IsOk result }
     {
-        match self.sessions.ask_text(session, text) {
-            Ok((role, text)) => {
-                let catalog = self.sessions.store().catalog();
-                match describe(self.alloc, catalog, role, text) {
-                    Ok(reply) => Ok(Reply::Engine { reply }),
-                    Err(error) => Err(error),
-                }
-            }
-            Err(code) => Ok(refused_by(code)),
+        let asked = self.sessions.ask_text(session, text);
+        match describe_asked(self.alloc, &self.sessions, asked) {
+            Ok(Ok(reply)) => Ok(Reply::Engine { reply }),
+            Ok(Err(code)) => Ok(refused_by(code)),
+            Err(error) => Err(error),
         }
     }
 
