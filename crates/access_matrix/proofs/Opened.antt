@@ -1,5 +1,5 @@
 -- A change that opens nothing: what is read after it was read before it.
-use Rattle.std.proofs.Common.{◌≡◌, ℕ, zero, suc, ◌+◌, ◌<◌, ◌≤◌, Bool, true, false, not, ◌&&◌, ◌||◌, cond, List, [], ◌∷◌, ◌++◌, length, map, filter, find, Option, Some, None, bytes_eq, refl, sym, ap, ◌∙◌, true≢false, arith, ◌⊎◌, inl, inr, ⊎_elim}
+use Rattle.std.proofs.Common.{◌≡◌, ℕ, zero, suc, ◌+◌, ◌<◌, ◌≤◌, Bool, true, false, not, ◌&&◌, ◌||◌, cond, List, [], ◌∷◌, length, map, filter, find, Option, Some, None, bytes_eq, refl, sym, ap, ◌∙◌, true≢false, arith, ◌⊎◌, inl, inr, ⊎_elim}
 use Rattle.std.specs.Prelude.{is_some, slice_get}
 use Rattle.std.specs.List.{flat_map, list_any, range_with_len}
 use Rattle.std.proofs.lemmas.Bool.{and_from, and_parts, or_parts, or_left, or_right, both_ways, cases_lt, not-false, not_from_false}
@@ -12,8 +12,8 @@ use Rattle.row_objects.proofs.Paths.{text_same}
 use Rattle.row_objects.specs.Objects.{Table}
 use Rattle.catalog.specs.Catalog.{Catalog, is_role, table_named}
 use Rattle.store.specs.Database.{Database, rows_of}
-use Rattle.access_matrix.specs.Changes.{are_any, columns_gained, either, gains, is_among, is_pair, opens, pairs, roles_of, rows_gained, tables_of}
-use Rattle.access_matrix.specs.Reading.{columns_of_table, columns_read, reads_cell, reads_of, reads_row}
+use Rattle.access_matrix.specs.Changes.{are_any, columns_gained, either, gains, is_among, is_pair, opens, roles_of, rows_gained, tables_of}
+use Rattle.access_matrix.specs.Reading.{columns_read, reads_cell, reads_of, reads_row}
 
 -- ---- names of either list
 

@@ -1,5 +1,5 @@
 -- A change that opens nothing.
-use Rattle.std.specs.Prelude.{◌≡◌, ℕ, Bool, true, false, List}
+use Rattle.std.specs.Prelude.{◌≡◌, ℕ, true, false, List}
 use Rattle.std.specs.List.{list_any}
 use Rattle.value.specs.Names.{Name}
 use Rattle.store.specs.Database.{Database}

@@ -2,7 +2,6 @@
 use Rattle.std.specs.Prelude.{ℕ, Bool, false, ◌&&◌, if◌then◌else◌, List, [], Option, Some, None, map, filter, slice_get}
 use Rattle.std.specs.Str.{bytes_eq}
 use Rattle.std.specs.List.{list_any}
-use Rattle.value.specs.Columns.{Column}
 use Rattle.value.specs.Datum.{Row}
 use Rattle.value.specs.Names.{Name}
 use Rattle.row_objects.specs.Objects.{Table}

@@ -1,5 +1,5 @@
 -- Why a role reads of a table what it reads.
-use Rattle.std.specs.Prelude.{ℕ, Bool, not, ◌&&◌, if◌then◌else◌, codes, List, [], ◌∷◌, ◌++◌, map, filter}
+use Rattle.std.specs.Prelude.{ℕ, not, ◌&&◌, if◌then◌else◌, codes, List, [], ◌∷◌, ◌++◌, map, filter}
 use Rattle.value.specs.Names.{Name}
 use Rattle.row_objects.specs.Objects.{Policy, Table}
 use Rattle.catalog.specs.Catalog.{Catalog, belongs, bypasses_rls, is_superuser}

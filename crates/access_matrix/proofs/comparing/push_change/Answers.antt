@@ -1,6 +1,5 @@
-use Rattle.std.proofs.Common.{◌≡◌, ◌∙◌, ◌||◌, Bool, ap, refl, sym}
+use Rattle.std.proofs.Common.{◌∙◌, refl, sym}
 use Rattle.std.proofs.lemmas.Bool.{or_parts}
-use Rattle.access_matrix.specs.Changes.{gains, is_changed}
 use Rattle.access_matrix.specs.Sights.{is_any, pair_of}
 use Rattle.access_matrix.proofs.Gained.{any_gain}
 use Rattle.access_matrix.proofs.Reported.{no_row, one_row, changed_by}

@@ -1,8 +1,4 @@
-use Rattle.std.proofs.Common.{◌∙◌, ◌∷◌, [], ap, length, map}
-use Rattle.std.specs.Prelude.{pos}
-use Rattle.value.specs.Datum.{int, text}
-use Rattle.answer_rows.specs.Growing.{with_value}
-use Rattle.access_matrix.specs.Changes.{change_row, names_value}
+use Rattle.std.proofs.Common.{map}
 use Rattle.access_matrix.specs.Sights.{pair_of}
 use Rattle.access_matrix.proofs.Reported.{change_row_is, row_done, row_is}
 use Rattle.access_matrix.proofs.comparing.push_row.Goals as goal

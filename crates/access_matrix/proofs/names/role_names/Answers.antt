@@ -1,4 +1,4 @@
-use Rattle.std.proofs.Common.{ap, map, refl}
+use Rattle.std.proofs.Common.{ap}
 use Rattle.std.specs.Prelude.{option_map}
 use Rattle.access_matrix.proofs.Loops.{named_next}
 use Rattle.access_matrix.proofs.names.role_names.Goals as goal

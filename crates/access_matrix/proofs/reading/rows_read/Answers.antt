@@ -1,9 +1,6 @@
-use Rattle.std.proofs.Common.{◌≡◌, ◌∙◌, List, ap, sym}
+use Rattle.std.proofs.Common.{◌∙◌, ap, sym}
 use Rattle.std.specs.Prelude.{slice_get}
-use Rattle.value.specs.Datum.{Row}
 use Rattle.row_objects.specs.View.{table_of}
-use Rattle.access.specs.Access.{sees}
-use Rattle.tuples.specs.Guards.{shows}
 use Rattle.tuples.specs.View.{guard_of}
 use Rattle.store.specs.Database.{rows_of}
 use Rattle.access_matrix.proofs.RowsRead.{none_counted, none_each, rows_there, seen_counted, seen_each, seen_within}

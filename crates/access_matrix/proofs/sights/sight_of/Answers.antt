@@ -1,4 +1,4 @@
-use Rattle.std.proofs.Common.{◌≡◌, ◌∙◌, Some, Bool, true, false, ap, length, map, get_or, sym, arith}
+use Rattle.std.proofs.Common.{◌≡◌, ◌∙◌, Some, true, false, ap, length, map, get_or, sym, arith}
 use Rattle.row_objects.specs.View.{table_of}
 use Rattle.catalog.specs.Catalog.{is_role, table_named}
 use Rattle.access_matrix.proofs.RowsRead.{it_is_there, its_columns, its_name, its_rows, no_columns, no_columns_of, no_rows, no_rows_of}
