@@ -1,13 +1,12 @@
 //! The program `rowplan`: answers queries over a schema text and comma-separated tables.
 #![tactic(auto)]
 
-mod access;
 mod failure;
 mod files;
 mod frames;
+mod rights;
 mod script;
 
-use access::{changes, matrix};
 use command_line::{
     Format, PlanFormat, QueryArguments, QueryText, Request, SessionArguments, VerifyArguments,
     read_words, unread_words,
@@ -18,6 +17,7 @@ use files::{read_bytes, read_text, store_of};
 use frames::answer_frames;
 use memory::Failure;
 use output::{Output, write_whole};
+use rights::{changes, matrix};
 use script::{answer_input, answer_text};
 use session_scripts::Core;
 use setup::{

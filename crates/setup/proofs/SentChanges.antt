@@ -3,7 +3,7 @@ use Rattle.std.proofs.Common.{◌≡◌, zero, suc, Bool, true, false, ℕ, List
 use Rattle.std.specs.Prelude.{◌⊎◌}
 use Rattle.output.specs.Sent.{IsSent}
 use Rattle.replies.specs.Reply.{Reply, no_memory, reply_status}
-use Rattle.setup.specs.Access.{changes_status, status_after}
+use Rattle.setup.specs.Rights.{changes_status, status_after}
 
 module _ {old new : Option (List ℕ)} {failures after : ℕ} {line : List ℕ} where
   opened : (opens : Bool) (due : List ℕ) → IsSent old new failures after 0 0 due line → IsSent old new failures after (changes_status opens) (changes_status opens) due line

@@ -1,4 +1,4 @@
-pub mod Access
+pub mod Rights
 pub mod Explanation
 pub mod Lines
 pub mod Loads

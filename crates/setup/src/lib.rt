@@ -2,7 +2,6 @@
 //! either stops.
 #![tactic(auto)]
 
-mod access;
 mod arguments;
 mod error;
 mod explanation;
@@ -11,10 +10,10 @@ mod load;
 mod open;
 mod plan_tree;
 mod reply_tables;
+mod rights;
 mod schema;
 mod schema_explanation;
 
-pub use access::{write_changes, write_changes_table, write_matrix, write_matrix_table};
 pub use access_matrix::Pair;
 pub use arguments::{Arguments, reply};
 pub use engine::{Store, explain, verify};
@@ -25,5 +24,6 @@ pub use load::{Folder, load_table, load_tables};
 pub use open::{open_store, store_of_schema};
 pub use plan_tree::explain_tree;
 pub use reply_tables::reply_table;
+pub use rights::{write_changes, write_changes_table, write_matrix, write_matrix_table};
 pub use schema::apply_schema;
 pub use schema_explanation::explain_schema;

@@ -10,7 +10,7 @@ ghost use Rattle.engine.specs.Serving.{IsReply};
 ghost use Rattle.access_matrix.specs.Changes.{opens};
 ghost use Rattle.access_matrix.specs.Matrix as spec;
 ghost use Rattle.access_matrix.specs.Sights.{pair_of};
-ghost use Rattle.setup.specs.Access.{changes_reply, changes_status, status_after};
+ghost use Rattle.setup.specs.Rights.{changes_reply, changes_status, status_after};
 
 use access_matrix::{Changes, Pair};
 use engine::{Store, write_answer};

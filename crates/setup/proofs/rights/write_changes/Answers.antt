@@ -1,7 +1,7 @@
 use Rattle.replies.specs.ReplyText.{reply_text}
 use Rattle.engine.proofs.Due.{due_sent}
 use Rattle.setup.proofs.SentChanges.{agrees, is_reply, sent_changes}
-use Rattle.setup.proofs.access.write_changes.Goals as goal
+use Rattle.setup.proofs.rights.write_changes.Goals as goal
 
 pub returns : goal.returns
 returns g c =

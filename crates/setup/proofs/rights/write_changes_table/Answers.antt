@@ -1,7 +1,7 @@
 use Rattle.tabular.specs.ReplyTables.{reply_table}
 use Rattle.engine.proofs.Due.{due_sent}
 use Rattle.setup.proofs.SentChanges.{agrees, is_reply, sent_changes}
-use Rattle.setup.proofs.access.write_changes_table.Goals as goal
+use Rattle.setup.proofs.rights.write_changes_table.Goals as goal
 
 pub returns : goal.returns
 returns g c =
