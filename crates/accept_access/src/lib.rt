@@ -10,6 +10,6 @@ mod compared;
 #[cfg(test)]
 mod matrix;
 #[cfg(test)]
-mod plan_trees;
-#[cfg(test)]
 mod texts;
+#[cfg(test)]
+mod trees;
