@@ -1,6 +1,6 @@
 //! The run of a script in a test, by itself and over an index.
 
-use fixtures::run_script;
+use fixture_scripts::run_script;
 use std::alloc::Global;
 use std::test::Fail;
 

@@ -1,8 +1,8 @@
 //! A program that runs the files of worked rows that its command line names. It prints a line for each: that it passed, or how it
-//! failed. Its status is 0 where there is a file and all passed. crates/fixtures/src/scripts.rt describes the files.
+//! failed. Its status is 0 where there is a file and all passed. crates/fixture_scripts/src/scripts.rt describes the files.
 #![tactic(auto)]
 
-use fixtures::run_script;
+use fixture_scripts::run_script;
 use std::alloc::AllocError;
 use std::process::ExitCode;
 use std::{env, fs};

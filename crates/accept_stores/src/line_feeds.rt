@@ -1,6 +1,7 @@
 //! Line feeds in the text of a query, which no file of worked rows has.
 
-use fixtures::{answered, sales};
+use fixture_scripts::answered;
+use fixtures::sales;
 use std::test::Fail;
 
 #[test]
