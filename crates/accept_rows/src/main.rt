@@ -3,6 +3,7 @@
 #![tactic(auto)]
 
 use fixture_scripts::run_script;
+use memory::Failure;
 use std::alloc::AllocError;
 use std::process::ExitCode;
 use std::{env, fs};
@@ -22,8 +23,12 @@ fn script_passes(rt: &HostRuntime, path: &str, script: &str) -> bool {
             let printed = println!(rt; "{path}: passed");
             printed.is_ok()
         }
-        Err(failure) => {
-            let _ = println!(rt; "{path}: FAILED: {failure:?}");
+        Err(Failure::Error(mismatch)) => {
+            let _ = println!(rt; "{path}: FAILED: {mismatch:?}");
+            false
+        }
+        Err(Failure::OutOfMemory) => {
+            let _ = println!(rt; "{path}: FAILED: out of memory");
             false
         }
     }
@@ -62,8 +67,12 @@ fn all_pass(rt: &HostRuntime, words: &[String]) -> bool {
 }
 
 fn main(rt: HostRuntime) -> ExitCode {
-    match command_words(&rt) {
-        Ok(words) if all_pass(&rt, words.as_slice()) => ExitCode::SUCCESS,
-        _ => ExitCode::FAILURE,
+    let Ok(words) = command_words(&rt) else {
+        return ExitCode::FAILURE;
+    };
+    if all_pass(&rt, words.as_slice()) {
+        ExitCode::SUCCESS
+    } else {
+        ExitCode::FAILURE
     }
 }
