@@ -1,6 +1,7 @@
-//! Tests of stores that go through the whole program: opened from a schema text and files, loaded, asked with memory that is
-//! refused, and what is said of refused texts; plans over what is known of the rows that roles see; calls that take no memory,
-//! and queries over products that take little; rows in aligned columns; and long replies. docs/ACCEPTANCE.md lists them.
+//! Tests of stores that go through the whole program: opened from a schema text and files, loaded, filled to their limits, asked
+//! with memory that is refused, and what is said of refused texts; plans over what is known of the rows that roles see; calls
+//! that take no memory, and queries over products that take little; rows in aligned columns; long replies, and line feeds.
+//! docs/ACCEPTANCE.md lists them.
 #![tactic(auto)]
 
 #[cfg(test)]
@@ -9,6 +10,10 @@ mod aligned_columns;
 mod explanations;
 #[cfg(test)]
 mod known_rows;
+#[cfg(test)]
+mod limits;
+#[cfg(test)]
+mod line_feeds;
 #[cfg(test)]
 mod loads;
 #[cfg(test)]

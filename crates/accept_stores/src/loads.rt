@@ -3,7 +3,8 @@
 use crate::stores::made;
 use csv_records::Records;
 use engine::StoreError::Data;
-use fixtures::{DEALS, FLAGS, FixtureError, SCHEMA, answered, deals, in_pieces, load, store_of};
+use fixture_scripts::answered;
+use fixtures::{DEALS, FLAGS, FixtureError, SCHEMA, deals, in_pieces, load, store_of};
 use memory::Failure;
 use std::alloc::Global;
 use std::process::Abort;

@@ -1,5 +1,5 @@
-//! Tests of texts: tokens, the grammar and its limits, names, types, and the values of expressions, in rows with expected values from
-//! outside the program. docs/ACCEPTANCE.md lists them.
+//! Tests of texts: tokens, the grammar and its limits, names and types, in rows with expected values from outside the program.
+//! docs/ACCEPTANCE.md lists them.
 #![tactic(auto)]
 
 #[cfg(test)]
@@ -8,8 +8,6 @@ mod binding;
 mod clauses;
 #[cfg(test)]
 mod compared;
-#[cfg(test)]
-mod expressions;
 #[cfg(test)]
 mod grammar;
 #[cfg(test)]
