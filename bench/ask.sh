@@ -30,8 +30,8 @@ ask() {
     all=$(middle "$times" ask "$1" "$2" "$3" "$4")
     printf '%-10s %s tables of %8d rows: %10s ms each, beside %s s for the tables\n' "$1" "$2" "$3" "$(each "$all" "$none" "$4")" "$none"
 }
-ask plan 1 "$rows" 20000
-ask rows 1 "$rows" 20000
+ask plan 1 "$rows" 200000
+ask rows 1 "$rows" 200000
 ask plan 1 1000 20000
 ask rows 1 1000 20000
 ask plan 3 1000 5000
@@ -46,8 +46,8 @@ known() {
     all=$(middle "$times" known "$1" "$2" "$3")
     printf '%-10s under a policy on %8d rows: %10s ms the first text, %10s ms each later one\n' "$1" "$2" "$(each "$one" "$none" 1)" "$(each "$all" "$one" $(($3 - 1)))"
 }
-known plan "$rows" 20001
-known rows "$rows" 20001
+known plan "$rows" 200001
+known rows "$rows" 200001
 if command -v sqlite3 > /dev/null; then
     awk -v n="$rows" 'BEGIN { print "id,val"; for (i = 1; i <= n; i++) printf "%d,%d\n", (i * 7919) % n + 1, i }' > "$work/t1.csv"
     cat > "$work/none.sql" <<SQL
@@ -55,8 +55,8 @@ CREATE TABLE t1 (id INTEGER, val INTEGER);
 CREATE INDEX t1_id ON t1 (id);
 .import --csv --skip 1 $work/t1.csv t1
 SQL
-    { cat "$work/none.sql" && for _ in $(seq 20000); do echo 'SELECT val FROM t1 WHERE id = 77;'; done; } > "$work/all.sql"
+    { cat "$work/none.sql" && for _ in $(seq 200000); do echo 'SELECT val FROM t1 WHERE id = 77;'; done; } > "$work/all.sql"
     none=$(middle sqlite3 -init "$work/none.sql" :memory: .quit)
     all=$(middle sqlite3 -init "$work/all.sql" :memory: .quit)
-    printf '%-10s 1 tables of %8d rows: %10s ms each, beside %s s for the tables\n' sqlite3 "$rows" "$(each "$all" "$none" 20000)" "$none"
+    printf '%-10s 1 tables of %8d rows: %10s ms each, beside %s s for the tables\n' sqlite3 "$rows" "$(each "$all" "$none" 200000)" "$none"
 fi
