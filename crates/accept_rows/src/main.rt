@@ -1,5 +1,6 @@
 //! A program that runs the files of worked rows that its command line names. It prints a line for each: that it passed, or how it
-//! failed. Its status is 0 where there is a file and all passed. crates/fixture_scripts/src/scripts.rt describes the files.
+//! failed. Its status is 0 where there is a file and all passed. crates/fixture_scripts/src/scripts.rt describes the files. A file of
+//! the folder `wrong` has a row that is wrong: it passes where the run finds it, and its line says what was found.
 #![tactic(auto)]
 
 use fixture_scripts::run_script;
@@ -34,9 +35,24 @@ fn script_passes(rt: &HostRuntime, path: &str, script: &str) -> bool {
     }
 }
 
+// The same of a script with a wrong row, which has to be found.
+fn wrong_row_is_found(rt: &HostRuntime, path: &str, script: &str) -> bool {
+    match run_script(rt.alloc(), script) {
+        Ok(()) => {
+            let _ = println!(rt; "{path}: FAILED: its wrong row is not found");
+            false
+        }
+        Err(failure) => {
+            let printed = println!(rt; "{path}: found {failure:?}");
+            printed.is_ok()
+        }
+    }
+}
+
 // The same of a path.
 fn file_passes(rt: &HostRuntime, path: &str) -> bool {
     match fs::read_to_string(rt, path) {
+        Ok(script) if path.starts_with("wrong/") => wrong_row_is_found(rt, path, script.as_str()),
         Ok(script) => script_passes(rt, path, script.as_str()),
         Err(_) => {
             let _ = println!(rt; "{path}: FAILED: the file cannot be read");
